@@ -1,0 +1,28 @@
+use lib.ListN.{List·getD-eq-default}
+use mathlib.Core.Path.{sym}
+use native.Mathlib.Omega.{arith}
+use lib.Dec.{lit<}
+use borrow.Author.Needs.{needs}
+use Rattle.common.proofs.access.word.Statement.{statement}
+use Rattle.common.proofs.access.word.Tie as tie
+use Rattle.common.proofs.access.word.Reads as reads
+use Rattle.common.proofs.access.word.Lts as lts
+
+-- src/access.rt:10:26
+mul-result : tie.Need-mul-result
+mul-result c = search needs
+
+-- src/access.rt:10:26
+shared-slice-read-result : tie.Need-shared-slice-read-result
+shared-slice-read-result c = search needs
+
+-- src/access.rt:7:1
+returns : tie.Need-returns
+returns c = (search needs, omega (arith, c .shared-slice-known .given (c .before .before .args .i)))
+
+-- src/access.rt:7:1
+returns-2 : tie.Need-returns-2
+returns-2 c = (sym (List·getD-eq-default (c .before .args .words .now) 0 (c .if1 .left)), lit< tt)
+
+pub word-spec : {M : Type 1} → statement M
+word-spec = tie.close (tie.spec mul-result shared-slice-read-result returns returns-2)

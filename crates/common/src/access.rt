@@ -1,0 +1,20 @@
+// Reads and writes that are safe at any index: past the end a read finds 0, and a write does nothing.
+ghost use mathlib.Core.Path.{_≡_};
+ghost use Prim.Native.Nat.{_<_, _^_};
+ghost use lib.ListN.{getD, set};
+
+// The word at index i.
+pub fn word(words: &[u32], i: usize) -> u32
+    ensures { λ r. ⌜ (r ≡ getD (now (words .entry)) i 0) × (r < 2 ^ 32) ⌝ }
+{
+    if i < words.len() { words[i] } else { 0 }
+}
+
+// Writes x at index i.
+pub fn put(words: &mut [u32], i: usize, x: u32)
+    ensures { λ _. ⌜ now (words .exit) ≡ set (now (words .entry)) i x ⌝ }
+{
+    if i < words.len() {
+        words[i] = x;
+    }
+}

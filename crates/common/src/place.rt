@@ -1,0 +1,5 @@
+// Where a check fires, if it does.
+pub enum Place {
+    Nowhere,
+    At(usize),
+}

@@ -1,0 +1,63 @@
+-- What an action does to a state, and what a plan is. Assumes nothing.
+use Prim.Native.Nat.{ℕ, _+_}
+use mathlib.Core.Path.{_≡_}
+use mathlib.Core.Bool.{Bool, true, false, _&&_}
+use mathlib.Core.Option.{Option, none, some}
+use mathlib.Core.List.{List, [], _∷_, List·Memᴰ}
+use lib.ListN.{length, getD, set, take}
+use lib.Dec.{ltb, eqb}
+use Rattle.sas.specs.Task.{Fact, Assignment, State, Action, Task}
+
+-- a fact holds in a state: the state has its variable, at its value
+unfoldable pub holds : State → Fact → Bool
+holds s f = ltb (f .variable) (length s) && eqb (getD s (f .variable) 0) (f .value)
+
+-- the first fact of an assignment that does not hold in a state
+unfoldable pub first-failing : State → Assignment → Option Fact
+first-failing s [] = none
+first-failing s (f ∷ q) = elim (holds s f) [ true ↦ first-failing s q | false ↦ some f ]
+
+-- an assignment holds in a state: none of its facts fails
+unfoldable pub satisfies : State → Assignment → Bool
+satisfies s q = elim (first-failing s q) [ none ↦ true | some f ↦ false ]
+
+-- an action is applicable in a state: its precondition holds there
+unfoldable pub applicable : State → Action → Bool
+applicable s a = satisfies s (a .precondition)
+
+-- the state in which each variable of an assignment has the value that it names, and every other one its old value
+unfoldable pub assign : State → Assignment → State
+assign s [] = s
+assign s (f ∷ e) = assign (set s (f .variable) (f .value)) e
+
+-- γ(s, a), the result of an action: undefined where the action is not applicable
+unfoldable pub result : State → Action → Option State
+result s a = elim (applicable s a) [ true ↦ some (assign s (a .effect)) | false ↦ none ]
+
+-- γ(s, ⟨a₁, …, aₙ⟩), the result of a sequence of actions
+unfoldable pub run : State → List Action → Option State
+run s [] = some s
+run s (a ∷ p) = elim (result s a) [ none ↦ none | some t ↦ run t p ]
+
+-- a plan: a sequence of the task's actions, applicable in turn from the initial state, after which the goal holds
+pub record Plan (T : Task) (p : List Action) : Type 0 where
+  pub known : (a : Action) → List·Memᴰ a p → List·Memᴰ a (T .actions)
+  pub end : State
+  pub reached : run (T .initial) p ≡ some end
+  pub goal : satisfies end (T .goal) ≡ true
+
+-- the action at position i of p, counted from 1, can't be applied after those before it, which can
+pub record Stuck (s : State) (p : List Action) (i : ℕ) : Type 0 where
+  pub earlier : List Action
+  pub here : Action
+  pub later : List Action
+  pub before : State
+  pub parts : p ≡ mathlib.Core.List._++_ earlier (here ∷ later)
+  pub position : i ≡ length earlier + 1
+  pub reached : run s earlier ≡ some before
+  pub not-applicable : applicable before here ≡ false
+
+-- the cost of a sequence of actions: the sum of their costs
+unfoldable pub cost : List Action → ℕ
+cost [] = 0
+cost (a ∷ p) = a .cost + cost p

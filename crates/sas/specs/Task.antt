@@ -1,0 +1,29 @@
+-- A planning task in SAS+. Nothing here knows how a task is written down. Assumes nothing.
+use Prim.Native.Nat.{ℕ}
+use mathlib.Core.List.{List}
+
+-- an assignment of one variable, or fact: the variable, and the value it has
+pub record Fact : Type 0 where
+  pub variable : ℕ
+  pub value : ℕ
+
+-- a partial variable assignment: the list of its facts
+abbrev pub Assignment : Type 0
+Assignment = List Fact
+
+-- a state, or complete variable assignment: the value of variable v stands at index v
+abbrev pub State : Type 0
+State = List ℕ
+
+-- an action: its precondition, its effect and its cost
+pub record Action : Type 0 where
+  pub precondition : Assignment
+  pub effect : Assignment
+  pub cost : ℕ
+
+-- a planning task (V, A, I, G): variable v has the values below its domain size, at index v
+pub record Task : Type 0 where
+  pub domains : List ℕ
+  pub actions : List Action
+  pub initial : State
+  pub goal : Assignment

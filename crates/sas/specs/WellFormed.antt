@@ -1,0 +1,31 @@
+-- A well-formed task: its facts are of known variables and values, and each assignment names a variable once. Assumes nothing.
+use Prim.Native.Nat.{ℕ, suc, _≤_, _<_}
+use mathlib.Core.Path.{_≡_}
+use mathlib.Core.List.{List, [], _∷_, List·Memᴰ}
+use lib.ListN.{length, getD}
+use Rattle.sas.specs.Task.{Fact, Assignment, State, Action, Task}
+
+-- a fact of a variable that has a domain, at a value in it
+pub record Known (domains : List ℕ) (f : Fact) : Type 0 where
+  pub variable : f .variable < length domains
+  pub value : f .value < getD domains (f .variable) 0
+
+-- an assignment of known facts whose variables rise strictly, the first being `from` or above
+pub data Rising (domains : List ℕ) : ℕ → Assignment → Type 0 where
+  none : {from : ℕ} → Rising domains from []
+  one : {from : ℕ} {f : Fact} {q : Assignment} → Known domains f → from ≤ f .variable → Rising domains (suc (f .variable)) q → Rising domains from (f ∷ q)
+
+-- a state within the domains: it has just the task's variables, each at a value of its domain
+pub record Within (domains : List ℕ) (s : State) : Type 0 where
+  pub complete : length s ≡ length domains
+  pub below : (v : ℕ) → v < length domains → getD s v 0 < getD domains v 0
+
+-- an action whose precondition and effect are assignments over the domains
+pub record Action-formed (domains : List ℕ) (a : Action) : Type 0 where
+  pub precondition : Rising domains 0 (a .precondition)
+  pub effect : Rising domains 0 (a .effect)
+
+pub record Well-formed (T : Task) : Type 0 where
+  pub initial : Within (T .domains) (T .initial)
+  pub goal : Rising (T .domains) 0 (T .goal)
+  pub actions : (a : Action) → List·Memᴰ a (T .actions) → Action-formed (T .domains) a

@@ -1,0 +1,86 @@
+// Where the parts of a task stand among its words. Each function is safe for any words: what a word lacks reads as 0.
+use common::access::word;
+ghost use mathlib.Core.Path.{_≡_};
+ghost use Prim.Native.Nat.{_<_, _≤_, _+_, _*_, _^_};
+ghost use Rattle.task.specs.Layout.{word as word-at, variables as variables-of, actions as actions-of, offset as offset-of, size as size-of, cost-word, precondition-start, effect-start, effect-end};
+
+// The words of the header, and the pair where the actions begin.
+pub(crate) const EDITION_AT: usize = 0;
+pub(crate) const VARIABLES_AT: usize = 1;
+pub(crate) const ACTIONS_AT: usize = 2;
+pub(crate) const LENGTH_AT: usize = 3;
+pub(crate) const PAIRS_AT: usize = 4;
+pub(crate) const PAIR: usize = 2;
+pub(crate) const DOMAINS: usize = 0;
+pub(crate) const INITIAL: usize = 1;
+pub(crate) const GOAL: usize = 2;
+pub(crate) const FIRST_ACTION: usize = 3;
+// An action's part begins with its cost and its number of precondition facts.
+pub(crate) const ACTION_HEADER: usize = 2;
+
+// A word as a number.
+pub(crate) fn number(w: &[u32], i: usize) -> usize
+    ensures { λ r. ⌜ (r ≡ word-at (now (w .entry)) i) × (r < 2 ^ 32) ⌝ }
+{
+    word(w, i) as usize
+}
+
+// The number of variables, 01's V.
+pub fn variables(w: &[u32]) -> usize
+    ensures { λ r. ⌜ (r ≡ variables-of (now (w .entry))) × (r < 2 ^ 32) ⌝ }
+{
+    number(w, VARIABLES_AT)
+}
+
+// The number of actions, 01's A.
+pub fn actions(w: &[u32]) -> usize
+    ensures { λ r. ⌜ (r ≡ actions-of (now (w .entry))) × (r < 2 ^ 32) ⌝ }
+{
+    number(w, ACTIONS_AT)
+}
+
+// The offset in pair k.
+pub(crate) fn offset(w: &[u32], k: usize) -> usize
+    requires { ⌜ k ≤ 2 ^ 33 ⌝ }
+    ensures { λ r. ⌜ (r ≡ offset-of (now (w .entry)) k) × (r < 2 ^ 32) ⌝ }
+{
+    number(w, PAIRS_AT + PAIR * k)
+}
+
+// The length in pair k.
+pub(crate) fn size(w: &[u32], k: usize) -> usize
+    requires { ⌜ k ≤ 2 ^ 33 ⌝ }
+    ensures { λ r. ⌜ (r ≡ size-of (now (w .entry)) k) × (r < 2 ^ 32) ⌝ }
+{
+    number(w, PAIRS_AT + PAIR * k + 1)
+}
+
+// The cost of action a.
+pub fn cost(w: &[u32], a: u32) -> u32
+    ensures { λ r. ⌜ (r ≡ cost-word (now (w .entry)) a) × (r < 2 ^ 32) ⌝ }
+{
+    word(w, offset(w, FIRST_ACTION + a as usize))
+}
+
+// Where the precondition of action a begins.
+pub fn precondition_at(w: &[u32], a: u32) -> usize
+    ensures { λ r. ⌜ (r ≡ precondition-start (now (w .entry)) a) × (r < 2 ^ 33) ⌝ }
+{
+    offset(w, FIRST_ACTION + a as usize) + ACTION_HEADER
+}
+
+// Where the precondition of action a ends and its effect begins.
+pub fn effect_at(w: &[u32], a: u32) -> usize
+    ensures { λ r. ⌜ (r ≡ effect-start (now (w .entry)) a) × (r < 2 ^ 34) ⌝ }
+{
+    let part = offset(w, FIRST_ACTION + a as usize);
+    part + ACTION_HEADER + number(w, part + 1)
+}
+
+// Where the part of action a ends.
+pub fn action_end(w: &[u32], a: u32) -> usize
+    ensures { λ r. ⌜ (r ≡ effect-end (now (w .entry)) a) × (r < 2 ^ 33) ⌝ }
+{
+    let k = FIRST_ACTION + a as usize;
+    offset(w, k) + size(w, k)
+}
