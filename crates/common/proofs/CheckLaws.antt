@@ -15,3 +15,7 @@ answer-fires c cs k e = rw e
 pub answer-passes : (c : Check) (cs : List Check) → c .fires ≡ Nowhere → answer (c ∷ cs) ≡ answer cs
 unfolding answer
 answer-passes c cs e = rw e
+
+pub answer-none : answer [] ≡ none
+unfolding answer
+answer-none = refl

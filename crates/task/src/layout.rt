@@ -6,14 +6,23 @@ ghost use Rattle.task.specs.Layout.{word as word-at, variables as variab
 
 // The words of the header, and the pair where the actions begin.
 pub(crate) const EDITION_AT: usize = 0;
+
 pub(crate) const VARIABLES_AT: usize = 1;
+
 pub(crate) const ACTIONS_AT: usize = 2;
+
 pub(crate) const LENGTH_AT: usize = 3;
+
 pub(crate) const PAIRS_AT: usize = 4;
+
 pub(crate) const PAIR: usize = 2;
+
 pub(crate) const DOMAINS: usize = 0;
+
 pub(crate) const INITIAL: usize = 1;
+
 pub(crate) const GOAL: usize = 2;
+
 pub(crate) const FIRST_ACTION: usize = 3;
 // An action's part begins with its cost and its number of precondition facts.
 pub(crate) const ACTION_HEADER: usize = 2;

@@ -8,9 +8,13 @@ pub struct Task {}
 
 impl Task {
     pub const WORDS: usize = 8192;
+
     pub const VARIABLES: usize = 64;
+
     pub const ACTIONS: usize = 1024;
+
     pub const VALUES: usize = 256;
+
     pub const COST: u32 = 1_000_000;
 }
 

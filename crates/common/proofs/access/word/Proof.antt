@@ -1,3 +1,4 @@
+-- `word` meets its contract: past the end the library's default is read, and an element of the slice is below 2^32. Assumes nothing.
 use lib.ListN.{List·getD-eq-default}
 use mathlib.Core.Path.{sym}
 use native.Mathlib.Omega.{arith}
@@ -5,22 +6,16 @@ use lib.Dec.{lit<}
 use borrow.Author.Needs.{needs}
 use Rattle.common.proofs.access.word.Statement.{statement}
 use Rattle.common.proofs.access.word.Tie as tie
-use Rattle.common.proofs.access.word.Reads as reads
-use Rattle.common.proofs.access.word.Lts as lts
 
--- src/access.rt:10:26
 mul-result : tie.Need-mul-result
 mul-result c = search needs
 
--- src/access.rt:10:26
 shared-slice-read-result : tie.Need-shared-slice-read-result
 shared-slice-read-result c = search needs
 
--- src/access.rt:7:1
 returns : tie.Need-returns
 returns c = (search needs, omega (arith, c .shared-slice-known .given (c .before .before .args .i)))
 
--- src/access.rt:7:1
 returns-2 : tie.Need-returns-2
 returns-2 c = (sym (List·getD-eq-default (c .before .args .words .now) 0 (c .if1 .left)), lit< tt)
 
