@@ -1,0 +1,8 @@
+-- CauseLaws: what the checks of an accepted task say, one by one.
+pub mod CauseLaws
+-- Parts: in an accepted task every part lies inside the words.
+pub mod Parts
+-- TableLaws: the length, the elements and the members of a table.
+pub mod TableLaws
+-- Accepted: an accepted task means a well-formed SAS+ task.
+pub mod Accepted
