@@ -1,7 +1,8 @@
 -- All that a theorem about plans may use of an action, so that another kind of action needs these laws proved again and no more: the facts that it
 -- may write and those that it needs, and what holds between a state and its result. That the facts of a satisfied goal hold is `satisfied-holds`.
 -- By the laws of `assign`. Assumes nothing.
-use Prim.Native.Nat.{ℕ, _<_}
+use Prim.Native.Nat.{ℕ}
+use native.Mathlib.Omega.{arith}
 use mathlib.Core.Path.{_≡_, refl, sym, _∙_, ap}
 use mathlib.Core.Logic.{_⊎_, ⊎-elim, _≢_}
 use mathlib.Core.Bool.{Bool, true, false, true≢false}
@@ -12,6 +13,7 @@ use Rattle.sas.specs.Task.{Fact, State, Action}
 use Rattle.sas.specs.Plan.{holds, applicable, assign, result}
 use Rattle.sas.specs.WellFormed.{Action-formed}
 use Rattle.sas.proofs.FactLaws.{satisfied-holds}
+use Rattle.sas.proofs.WellFormedLaws.{rising-known}
 use Rattle.sas.proofs.AssignLaws.{assign-length, assigned-or-held, assign-other, assigned-holds}
 
 -- a fact that an action may make true: one of its effect
@@ -66,6 +68,6 @@ module _ {t : State} (s : State) (a : Action) (applied : result s a ≡ some t) 
   pub variable-kept : (v : ℕ) → ((f : Fact) → may-write a f → f .variable ≢ v) → getD t v 0 ≡ getD s v 0
   variable-kept v unwritten = ap (λ x. getD x v 0) (result-assigned s a applied) ∙ assign-other s (a .effect) v unwritten
 
-  -- each fact of an action's effect holds in the result
-  pub written-holds : {domains : List ℕ} {f : Fact} → Action-formed domains a → may-write a f → f .variable < length s → holds t f ≡ true
-  written-holds formed m below = rw (result-assigned s a applied) (assigned-holds s (formed .effect) m below)
+  -- each fact that an action over the domains writes holds in the result
+  pub written-holds : {domains : List ℕ} {f : Fact} → Action-formed domains a → length s ≡ length domains → may-write a f → holds t f ≡ true
+  written-holds formed complete m = rw (result-assigned s a applied) (assigned-holds s (formed .effect) m (omega (arith, rising-known (formed .effect) m .variable)))

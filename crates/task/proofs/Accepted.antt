@@ -1,5 +1,5 @@
--- The words of an accepted task mean a well-formed SAS+ task, within the limits, that no sequence of its actions leaves: each member of a table is made
--- of words that a check has passed, and a group of facts rises because each fact was compared with the one before it. Assumes nothing.
+-- The words of an accepted task mean a well-formed SAS+ task within the limits, whose actions never lead out of its domains: each member of a table is
+-- made of words that a check has passed, and a group of facts rises because each fact was compared with the one before it. Assumes nothing.
 use Prim.Native.Nat.{ℕ, zero, suc, _+_, _-_, _≤_, _<_}
 use native.Mathlib.Omega.{arith}
 use mathlib.Core.Path.{_≡_, refl, sym, _∙_}

@@ -14,7 +14,7 @@ use Rattle.common.specs.Place.{when, first}
 use Rattle.task.specs.Limits.{limits}
 use Rattle.task.specs.Layout.{word, variables, actions, stated-length, pairs, pairs-end, offset, size, part-end, effect-start, effect-end}
 use Rattle.task.specs.Causes.{bad-length, bad-counts, due, wrong-size, bad-pair, pair-place, Accepted}
-use Rattle.task.proofs.CauseLaws.{Clear, accepted-clear, or-else-nowhere, when-nowhere, first-nowhere, neither, none-of-three, not-both}
+use Rattle.task.proofs.CauseLaws.{Clear, accepted-clear, or-else-nowhere, first-nowhere, neither, none-of-three, not-both}
 
 -- the words are as many as stated, and they and the counts are within the limits
 pub record Measured (w : List ℕ) : Type 0 where
@@ -82,17 +82,12 @@ module _ (w : List ℕ) (accepted : Accepted w) where
   measured : Measured w
   measured = accepted-measured w accepted
 
-  pairs-clear : (when (ltb (stated-length w) (pairs-end w)) 0 ≡ Nowhere) × (first (bad-pair w) 0 (pairs w) ≡ Nowhere)
-  unfolding pair-place
-  pairs-clear = or-else-nowhere (when (ltb (stated-length w) (pairs-end w)) 0) (first (bad-pair w) 0 (pairs w)) (accepted-clear w accepted .pairs)
-
-  pub pairs-inside : pairs-end w ≤ length w
-  pairs-inside =
-      let fit : ltb (stated-length w) (pairs-end w) ≡ false = when-nowhere _ 0 (pairs-clear .0) in
-      omega (arith, ltb-false, measured .stated)
-
   pair : (k : ℕ) → k < pairs w → Good-pair w k
-  pair k h = good-pair w k (first-nowhere (bad-pair w) 0 (pairs w) (pairs-clear .1) k (omega arith) h)
+  unfolding pair-place
+  pair k h = good-pair w k (first-nowhere (bad-pair w) 0 (pairs w) clear k (omega arith) h)
+    where
+      clear : first (bad-pair w) 0 (pairs w) ≡ Nowhere
+      clear = or-else-nowhere (when (ltb (stated-length w) (pairs-end w)) 0) (first (bad-pair w) 0 (pairs w)) (accepted-clear w accepted .pairs) .1
 
   -- a part ends where the next begins
   pub next-part : (k : ℕ) → k + 1 < pairs w → part-end w k ≡ offset w (k + 1)
@@ -109,7 +104,11 @@ module _ (w : List ℕ) (accepted : Accepted w) where
   pub part-inside : (k : ℕ) → k < pairs w → part-end w k ≤ length w
   part-inside k h = omega (arith, pair k h .inside, measured .stated)
 
-  -- the last ends where the words end
+  -- and so do the pairs
+  pub pairs-inside : pairs-end w ≤ length w
+  pairs-inside = omega (arith, part-after-pairs 0 (omega arith), part-inside 0 (omega arith))
+
+  -- the last part ends where the words end
   pub last-part : part-end w (2 + actions w) ≡ length w
   last-part =
       let here : 2 + actions w < pairs w = omega arith in
