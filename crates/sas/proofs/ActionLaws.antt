@@ -1,6 +1,6 @@
--- All that a theorem about plans may use of an action, so that another kind of action needs these laws proved again and no more: the facts that it
--- may write and those that it needs, and what holds between a state and its result. That the facts of a satisfied goal hold is `satisfied-holds`.
--- By the laws of `assign`. Assumes nothing.
+-- What theorems about plans use of an action, and all that they use: the facts that it may write and those that it needs, and what holds between a
+-- state and its result. For another kind of action these laws are proved again, with those of domains and of padding, which look into its effect too.
+-- That the facts of a satisfied goal hold is `satisfied-holds`. By the laws of `assign`. Assumes nothing.
 use Prim.Native.Nat.{ℕ}
 use native.Mathlib.Omega.{arith}
 use mathlib.Core.Path.{_≡_, refl, sym, _∙_, ap}
@@ -40,7 +40,15 @@ result-applicable {t} s a h = by-case (applicable s a) refl
     by-case true e = e
     by-case false e = absurd (Option·some-ne-none t (sym h ∙ result-stuck s a e))
 
--- and its result is what its effect makes of the state
+-- an action that has none is not
+pub no-result-inapplicable : (s : State) (a : Action) → result s a ≡ none → applicable s a ≡ false
+no-result-inapplicable s a h = by-case (applicable s a) refl
+  where
+    by-case : (b : Bool) → applicable s a ≡ b → applicable s a ≡ false
+    by-case true e = absurd (Option·some-ne-none _ (sym (result-applied s a e) ∙ h))
+    by-case false e = e
+
+-- the result is what the action's effect makes of the state
 pub result-assigned : {t : State} (s : State) (a : Action) → result s a ≡ some t → t ≡ assign s (a .effect)
 result-assigned s a h = cc (result-applied s a (result-applicable s a h))
 

@@ -3,14 +3,14 @@
 use Prim.Native.Nat.{ℕ, suc, _+_, _≤_}
 use native.Mathlib.Omega.{arith}
 use mathlib.Core.Path.{_≡_, refl, sym, _∙_, ap}
-use mathlib.Core.Bool.{Bool, true, false}
-use mathlib.Core.Option.{none, some, Option·some-ne-none}
+use mathlib.Core.Bool.{false}
+use mathlib.Core.Option.{Option, none, some, Option·some-ne-none}
 use mathlib.Core.List.{List, [], _∷_, _++_}
 use lib.ListN.{length, length-append}
 use Rattle.sas.specs.Task.{State, Action}
-use Rattle.sas.specs.Plan.{applicable, assign, result, run, Stuck}
-use Rattle.sas.proofs.ActionLaws.{result-applied, result-stuck}
-use Rattle.sas.proofs.RunLaws.{run-nothing, run-end, run-result, run-applied, run-stuck, run-first, run-append}
+use Rattle.sas.specs.Plan.{applicable, result, run, Stuck}
+use Rattle.sas.proofs.ActionLaws.{result-stuck, no-result-inapplicable}
+use Rattle.sas.proofs.RunLaws.{run-nothing, run-end, run-result, run-stuck, run-first, run-append}
 
 pub stuck-reaches-none : {s : State} {p : List Action} {i : ℕ} → Stuck s p i → run s p ≡ none
 stuck-reaches-none {s} k =
@@ -64,11 +64,11 @@ stuck-later {s} {t} a first k =
 
 pub none-stuck : (s : State) (p : List Action) → run s p ≡ none → (i : ℕ) × Stuck s p i
 none-stuck s [] h = absurd (Option·some-ne-none s (sym (run-nothing s) ∙ h))
-none-stuck s (a ∷ p) h = by-case (none-stuck after p) (applicable s a) refl
+none-stuck s (a ∷ p) h = by-case (λ t. none-stuck t p) (result s a) refl
   where
-    after : State
-    after = assign s (a .effect)
+    stuck-here : applicable s a ≡ false → Stuck s (a ∷ p) 1
+    stuck-here e = record { earlier = []; here = a; later = p; before = s; parts = refl; position = refl; reached = run-nothing s; not-applicable = e }
 
-    by-case : (run after p ≡ none → (i : ℕ) × Stuck after p i) → (b : Bool) → applicable s a ≡ b → (i : ℕ) × Stuck s (a ∷ p) i
-    by-case below true e = let (i, k) = below (sym (run-applied s a p e) ∙ h) in (i + 1, stuck-later a (result-applied s a e) k)
-    by-case below false e = (1, record { earlier = []; here = a; later = p; before = s; parts = refl; position = refl; reached = run-nothing s; not-applicable = e })
+    by-case : ((t : State) → run t p ≡ none → (i : ℕ) × Stuck t p i) → (r : Option State) → result s a ≡ r → (i : ℕ) × Stuck s (a ∷ p) i
+    by-case below none e = (1, stuck-here (no-result-inapplicable s a e))
+    by-case below (some t) e = let (i, k) = below t (sym (run-result s t a p e) ∙ h) in (i + 1, stuck-later a e k)
