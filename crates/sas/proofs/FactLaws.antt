@@ -1,0 +1,59 @@
+-- When a fact holds, and what `satisfies` says of the facts of an assignment: by the cases of its first fact, then by membership, by list induction.
+-- Assumes nothing.
+use Prim.Native.Nat.{_<_}
+use mathlib.Core.Path.{_≡_, refl, sym, _∙_}
+use mathlib.Core.Bool.{Bool, true, false, true≢false, and-eq-true-iff}
+use mathlib.Core.List.{[], _∷_, List·Memᴰ, List·Memᴰ·head, List·Memᴰ·tail}
+use lib.ListN.{length, getD}
+use lib.Dec.{ltb, eqb}
+use borrow.Author.Tests.{ltb-true, eqb-true, lt-ltb, eq-eqb}
+use Rattle.sas.specs.Task.{Fact, Assignment, State}
+use Rattle.sas.specs.Plan.{holds, first-failing, satisfies}
+
+-- where a fact holds, the state has its variable
+pub holds-variable : (s : State) (f : Fact) → holds s f ≡ true → f .variable < length s
+unfolding holds
+holds-variable s f h = ltb-true _ _ (and-eq-true-iff (ltb (f .variable) (length s)) (eqb (getD s (f .variable) 0) (f .value)) .0 h .0)
+
+-- and the variable has its value
+pub holds-value : (s : State) (f : Fact) → holds s f ≡ true → getD s (f .variable) 0 ≡ f .value
+unfolding holds
+holds-value s f h = eqb-true _ _ (and-eq-true-iff (ltb (f .variable) (length s)) (eqb (getD s (f .variable) 0) (f .value)) .0 h .1)
+
+pub holds-there : (s : State) (f : Fact) → f .variable < length s → getD s (f .variable) 0 ≡ f .value → holds s f ≡ true
+unfolding holds
+holds-there s f h e = rw (lt-ltb _ _ h, eq-eqb _ _ e)
+
+pub satisfies-nothing : (s : State) → satisfies s [] ≡ true
+unfolding satisfies first-failing
+satisfies-nothing s = refl
+
+pub satisfies-more : (s : State) (f : Fact) (q : Assignment) → holds s f ≡ true → satisfies s (f ∷ q) ≡ satisfies s q
+unfolding satisfies first-failing
+satisfies-more s f q h = rw (h, satisfies, first-failing)
+
+pub satisfies-failing : (s : State) (f : Fact) (q : Assignment) → holds s f ≡ false → satisfies s (f ∷ q) ≡ false
+unfolding satisfies first-failing
+satisfies-failing s f q h = rw (h, satisfies, first-failing)
+
+-- the first fact of a satisfied assignment holds
+pub satisfies-first : (s : State) (f : Fact) (q : Assignment) → satisfies s (f ∷ q) ≡ true → holds s f ≡ true
+satisfies-first s f q h = by-case (holds s f) refl
+  where
+    by-case : (b : Bool) → holds s f ≡ b → holds s f ≡ true
+    by-case true e = e
+    by-case false e = absurd (true≢false (sym h ∙ satisfies-failing s f q e))
+
+-- and its others are satisfied
+pub satisfies-rest : (s : State) (f : Fact) (q : Assignment) → satisfies s (f ∷ q) ≡ true → satisfies s q ≡ true
+satisfies-rest s f q h = sym (satisfies-more s f q (satisfies-first s f q h)) ∙ h
+
+-- every fact of a satisfied assignment holds
+pub satisfied-holds : {f : Fact} {q : Assignment} (s : State) → satisfies s q ≡ true → List·Memᴰ f q → holds s f ≡ true
+satisfied-holds s h (List·Memᴰ·head {x = g} {xs = q} e) = rw e (satisfies-first s g q h)
+satisfied-holds s h (List·Memᴰ·tail {x = g} {xs = q} m) = satisfied-holds s (satisfies-rest s g q h) m
+
+-- an assignment each fact of which holds is satisfied
+pub holding-satisfies : (s : State) (q : Assignment) → ((f : Fact) → List·Memᴰ f q → holds s f ≡ true) → satisfies s q ≡ true
+holding-satisfies s [] h = satisfies-nothing s
+holding-satisfies s (g ∷ q) h = satisfies-more s g q (h g (List·Memᴰ·head refl)) ∙ holding-satisfies s q (λ f m. h f (List·Memᴰ·tail m))

@@ -1,0 +1,14 @@
+-- FactLaws: which facts hold in a state, and in one that satisfies an assignment.
+pub mod FactLaws
+-- WellFormedLaws: the facts of an assignment whose variables rise, and assignments to a state within its domains.
+pub mod WellFormedLaws
+-- AssignLaws: what an assignment does to a state, for assignments whose variables rise too.
+pub mod AssignLaws
+-- ActionLaws: what a theorem about plans may use of an action.
+pub mod ActionLaws
+-- RunLaws: what a sequence of actions does, and that it keeps within the domains.
+pub mod RunLaws
+-- PadLaws: zeros at the end of a state change nothing.
+pub mod PadLaws
+-- Faults: a sequence that reaches no state is stuck at one position.
+pub mod Faults

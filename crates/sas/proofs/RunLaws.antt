@@ -1,0 +1,76 @@
+-- What a sequence of actions does, by the cases of its first action and over two sequences joined; and in a well-formed task it never leaves the
+-- domains, by list induction. Assumes nothing.
+use Prim.Native.Nat.{ℕ, _+_}
+use native.Mathlib.Omega.{arith}
+use mathlib.Core.Path.{_≡_, refl, sym, _∙_, ap}
+use mathlib.Core.Bool.{true, false}
+use mathlib.Core.Option.{Option, none, some, Option·some-ne-none}
+use mathlib.Core.List.{List, [], _∷_, _++_, List·Memᴰ, List·Memᴰ·head, List·Memᴰ·tail}
+use Rattle.sas.specs.Task.{State, Action, Task}
+use Rattle.sas.specs.Plan.{applicable, assign, result, run, cost}
+use Rattle.sas.specs.WellFormed.{Within, Action-formed, Well-formed}
+use Rattle.sas.proofs.WellFormedLaws.{Actions-formed, assign-within}
+use Rattle.sas.proofs.ActionLaws.{result-applied, result-stuck, result-assigned}
+
+pub run-nothing : (s : State) → run s [] ≡ some s
+unfolding run
+run-nothing s = refl
+
+-- no action, no change
+pub run-end : (s t : State) → run s [] ≡ some t → s ≡ t
+run-end s t h = cc (run-nothing s)
+
+pub run-result : (s t : State) (a : Action) (p : List Action) → result s a ≡ some t → run s (a ∷ p) ≡ run t p
+unfolding run
+run-result s t a p h = rw (h, run)
+
+pub run-no-result : (s : State) (a : Action) (p : List Action) → result s a ≡ none → run s (a ∷ p) ≡ none
+unfolding run
+run-no-result s a p h = rw (h, run)
+
+pub run-applied : (s : State) (a : Action) (p : List Action) → applicable s a ≡ true → run s (a ∷ p) ≡ run (assign s (a .effect)) p
+run-applied s a p h = run-result s (assign s (a .effect)) a p (result-applied s a h)
+
+pub run-stuck : (s : State) (a : Action) (p : List Action) → applicable s a ≡ false → run s (a ∷ p) ≡ none
+run-stuck s a p h = run-no-result s a p (result-stuck s a h)
+
+-- the first action of a sequence that runs has a result, from which the rest runs
+pub run-first : {u : State} (s : State) (a : Action) (p : List Action) → run s (a ∷ p) ≡ some u
+    → (t : State) × (result s a ≡ some t) × (run t p ≡ some u)
+run-first {u} s a p h = by-case (result s a) refl
+  where
+    by-case : (r : Option State) → result s a ≡ r → (t : State) × (result s a ≡ some t) × (run t p ≡ some u)
+    by-case none e = absurd (Option·some-ne-none u (sym h ∙ run-no-result s a p e))
+    by-case (some t) e = (t, e, sym (run-result s t a p e) ∙ h)
+
+pub run-append : (s t : State) (p q : List Action) → run s p ≡ some t → run s (p ++ q) ≡ run t q
+run-append s t [] q h = ap (λ x. run x q) (run-end s t h)
+run-append s t (a ∷ p) q h = let (u, first, rest) = run-first s a p h in run-result s u a (p ++ q) first ∙ run-append u t p q rest
+
+pub run-append-none : (s : State) (p q : List Action) → run s p ≡ none → run s (p ++ q) ≡ none
+run-append-none s [] q h = absurd (Option·some-ne-none s (sym (run-nothing s) ∙ h))
+run-append-none s (a ∷ p) q h = by-case (λ u. run-append-none u p q) (result s a) refl
+  where
+    by-case : ((u : State) → run u p ≡ none → run u (p ++ q) ≡ none) → (r : Option State) → result s a ≡ r → run s (a ∷ (p ++ q)) ≡ none
+    by-case below none e = run-no-result s a (p ++ q) e
+    by-case below (some u) e = run-result s u a (p ++ q) e ∙ below u (sym (run-result s u a p e) ∙ h)
+
+pub cost-append : (p q : List Action) → cost (p ++ q) ≡ cost p + cost q
+unfolding cost
+cost-append [] q = omega arith
+cost-append (a ∷ p) q = omega (arith, cost-append p q)
+
+-- an action over the domains keeps a state within them
+pub result-within : {domains : List ℕ} {s t : State} (a : Action) → Action-formed domains a → Within domains s → result s a ≡ some t → Within domains t
+result-within {s} a formed within h = rw (result-assigned s a h) (assign-within (formed .effect) within)
+
+run-stays-within : {domains : List ℕ} {s t : State} (p : List Action) → Actions-formed domains p → Within domains s → run s p ≡ some t → Within domains t
+run-stays-within {s} {t} [] formed within h = rw (run-end s t h) at within
+run-stays-within {s} (a ∷ p) formed within h =
+    let (u, first, rest) = run-first s a p h in
+    run-stays-within p (λ b m. formed b (List·Memᴰ·tail m)) (result-within a (formed a (List·Memᴰ·head refl)) within first) rest
+
+-- a state that actions of a well-formed task reach from its initial state is within the domains
+pub run-within : {s : State} (T : Task) → Well-formed T → (p : List Action)
+    → ((a : Action) → List·Memᴰ a p → List·Memᴰ a (T .actions)) → run (T .initial) p ≡ some s → Within (T .domains) s
+run-within T formed p known h = run-stays-within p (λ a m. formed .actions a (known a m)) (formed .initial) h

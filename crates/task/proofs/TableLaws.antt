@@ -1,0 +1,52 @@
+-- A table's length, its element at an index, and its members, by induction on its length. Assumes nothing.
+use Prim.Native.Nat.{ℕ, zero, suc, _+_, _≤_, _<_}
+use native.Mathlib.Omega.{arith}
+use mathlib.Core.Path.{_≡_, refl, ap}
+use mathlib.Core.Logic.{⊎-elim}
+use mathlib.Core.Bool.{Bool, true, false}
+use mathlib.Core.List.{[], _∷_, List·Memᴰ, List·Memᴰ·head, List·Memᴰ·tail, List·Memᴰ·not-nil, List·Memᴰ·cases-cons}
+use lib.ListN.{length, getD}
+use lib.Dec.{eqb}
+use borrow.Author.Tests.{eqb-true, eqb-false}
+use Rattle.task.specs.Decode.{table}
+
+module _ {A : Type 0} (f : ℕ → A) where
+  pub table-nothing : (i : ℕ) → table f i zero ≡ []
+  unfolding table
+  table-nothing i = refl
+
+  pub table-more : (i n : ℕ) → table f i (suc n) ≡ f i ∷ table f (i + 1) n
+  unfolding table
+  table-more i n = refl
+
+  pub table-length : (i n : ℕ) → length (table f i n) ≡ n
+  unfolding table
+  table-length i zero = refl
+  table-length i (suc n) = ap suc (table-length (i + 1) n)
+
+  -- the element at index k is the value at number j = i + k
+  pub table-at : (i n k j : ℕ) (d : A) → k < n → j ≡ i + k → getD (table f i n) k d ≡ f j
+  unfolding table
+  table-at i zero k j d h e = absurd (omega arith)
+  table-at i (suc n) zero j d h e = ap f (omega arith)
+  table-at i (suc n) (suc k) j d h e = table-at (i + 1) n k j d (omega arith) (omega arith)
+
+  -- each value at a number of the table is one of its members
+  pub table-member : (i n k : ℕ) → i ≤ k → k < i + n → List·Memᴰ (f k) (table f i n)
+  unfolding table
+  table-member i zero k low high = absurd (omega arith)
+  table-member i (suc n) k low high = by-case (table-member (i + 1) n k) (eqb k i) refl
+    where
+      by-case : (i + 1 ≤ k → k < i + 1 + n → List·Memᴰ (f k) (table f (i + 1) n)) → (b : Bool) → eqb k i ≡ b → List·Memᴰ (f k) (f i ∷ table f (i + 1) n)
+      by-case later true e = List·Memᴰ·head (ap f (eqb-true k i e))
+      by-case later false e = List·Memᴰ·tail (later (omega (arith, eqb-false k i e)) (omega arith))
+
+  -- and each member is the value at one of them
+  pub table-member-at : (i n : ℕ) {x : A} → List·Memᴰ x (table f i n) → (k : ℕ) × (i ≤ k) × (k < i + n) × (x ≡ f k)
+  unfolding table
+  table-member-at i zero m = absurd (List·Memᴰ·not-nil m)
+  table-member-at i (suc n) m =
+      ⊎-elim
+      (λ here. (i, omega arith, omega arith, here))
+      (λ later. let (k, low, high, e) = table-member-at (i + 1) n later in (k, omega arith, omega arith, e))
+      (List·Memᴰ·cases-cons m)
