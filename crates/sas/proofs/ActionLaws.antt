@@ -10,7 +10,7 @@ use mathlib.Core.Option.{none, some, Option·some-ne-none}
 use mathlib.Core.List.{List, List·Memᴰ}
 use lib.ListN.{length, getD}
 use Rattle.sas.specs.Task.{Fact, State, Action}
-use Rattle.sas.specs.Plan.{holds, applicable, assign, result}
+use Rattle.sas.specs.Plan.{holds, applicable, apply, result}
 use Rattle.sas.specs.WellFormed.{Action-formed}
 use Rattle.sas.proofs.FactLaws.{satisfied-holds}
 use Rattle.sas.proofs.WellFormedLaws.{rising-known}
@@ -24,7 +24,7 @@ may-write a f = List·Memᴰ f (a .effect)
 abbrev pub needs : Action → Fact → Type 0
 needs a f = List·Memᴰ f (a .precondition)
 
-pub result-applied : (s : State) (a : Action) → applicable s a ≡ true → result s a ≡ some (assign s (a .effect))
+pub result-applied : (s : State) (a : Action) → applicable s a ≡ true → result s a ≡ some (apply s a)
 unfolding result
 result-applied s a h = rw (h, result)
 
@@ -49,7 +49,7 @@ no-result-inapplicable s a h = by-case (applicable s a) refl
     by-case false e = e
 
 -- the result is what the action's effect makes of the state
-pub result-assigned : {t : State} (s : State) (a : Action) → result s a ≡ some t → t ≡ assign s (a .effect)
+pub result-assigned : {t : State} (s : State) (a : Action) → result s a ≡ some t → t ≡ apply s a
 result-assigned s a h = cc (result-applied s a (result-applicable s a h))
 
 -- what an action needs holds where it is applicable

@@ -13,7 +13,7 @@ use borrow.Author.Tests.{eqb-true, eqb-false}
 use Rattle.sas.specs.Task.{Fact, Assignment, State}
 use Rattle.sas.specs.Plan.{holds, assign}
 use Rattle.sas.specs.WellFormed.{Rising}
-use Rattle.sas.specs.WellFormed.Rising.{one}
+use Rattle.sas.specs.WellFormed.Rising.{fact}
 use Rattle.sas.proofs.FactLaws.{holds-variable, holds-value, holds-there}
 use Rattle.sas.proofs.WellFormedLaws.{rising-above}
 
@@ -72,5 +72,5 @@ set-then-kept {e = e} s g below rest = holds-there (assign t e) g (simp (assign-
 pub assigned-holds : {domains : List ℕ} {from : ℕ} {e : Assignment} {f : Fact} (s : State) → Rising domains from e → List·Memᴰ f e → f .variable < length s
     → holds (assign s e) f ≡ true
 unfolding assign
-assigned-holds s (one {f = g} known above rest) (List·Memᴰ·head same) below = rw same (set-then-kept s g (rw same at below) rest)
-assigned-holds s (one {f = g} known above rest) (List·Memᴰ·tail later) below = assigned-holds (set s (g .variable) (g .value)) rest later (simp length-set below)
+assigned-holds s (fact {f = g} known above rest) (List·Memᴰ·head same) below = rw same (set-then-kept s g (rw same at below) rest)
+assigned-holds s (fact {f = g} known above rest) (List·Memᴰ·tail later) below = assigned-holds (set s (g .variable) (g .value)) rest later (simp length-set below)

@@ -10,9 +10,9 @@ use lib.ListN.{length, set, replicate, length-append, length-set, List·getD-app
 use lib.Seq.{set-append-left}
 use borrow.Author.Tests.{lt-ltb}
 use Rattle.sas.specs.Task.{Fact, Assignment, State, Action}
-use Rattle.sas.specs.Plan.{holds, satisfies, applicable, assign, run}
+use Rattle.sas.specs.Plan.{holds, satisfies, applicable, assign, apply, run}
 use Rattle.sas.specs.WellFormed.{Rising, Action-formed}
-use Rattle.sas.specs.WellFormed.Rising.{none as no-fact, one}
+use Rattle.sas.specs.WellFormed.Rising.{empty, fact}
 use Rattle.sas.proofs.FactLaws.{satisfies-nothing, satisfies-more, satisfies-failing}
 use Rattle.sas.proofs.WellFormedLaws.{Actions-formed}
 use Rattle.sas.proofs.AssignLaws.{assign-length}
@@ -30,8 +30,8 @@ pad-holds n s f h =
 
 pub pad-satisfies : {domains : List ℕ} {from : ℕ} {q : Assignment} (n : ℕ) (s : State) → length s ≡ length domains → Rising domains from q
     → satisfies (pad n s) q ≡ satisfies s q
-pad-satisfies n s complete no-fact = satisfies-nothing (pad n s) ∙ sym (satisfies-nothing s)
-pad-satisfies n s complete (one {f = f} {q = q} known above rest) = by-case (pad-satisfies n s complete rest) (holds s f) refl
+pad-satisfies n s complete empty = satisfies-nothing (pad n s) ∙ sym (satisfies-nothing s)
+pad-satisfies n s complete (fact {f = f} {q = q} known above rest) = by-case (pad-satisfies n s complete rest) (holds s f) refl
   where
     padded : holds (pad n s) f ≡ holds s f
     padded = pad-holds n s f (omega (arith, complete, known .variable))
@@ -47,8 +47,8 @@ pad-set n s v x h = rw (length-set s v x) (set-append-left s (replicate (n - len
 pub pad-assign : {domains : List ℕ} {from : ℕ} {e : Assignment} (n : ℕ) (s : State) → length s ≡ length domains → Rising domains from e
     → assign (pad n s) e ≡ pad n (assign s e)
 unfolding assign
-pad-assign n s complete no-fact = refl
-pad-assign n s complete (one {f = f} {q = e} known above rest) =
+pad-assign n s complete empty = refl
+pad-assign n s complete (fact {f = f} {q = e} known above rest) =
     ap (λ t. assign t e) (pad-set n s (f .variable) (f .value) (omega (arith, complete, known .variable)))
     ∙ pad-assign n (set s (f .variable) (f .value)) (length-set s (f .variable) (f .value) ∙ complete) rest
 
@@ -63,12 +63,12 @@ pad-run n s [] complete formed = rw (run-nothing s) (run-nothing (pad n s))
 pad-run n s (a ∷ p) complete formed = by-case (pad-run n after p (assign-length s (a .effect) ∙ complete) (λ b m. formed b (List·Memᴰ·tail m))) (applicable s a) refl
   where
     after : State
-    after = assign s (a .effect)
+    after = apply s a
 
     padded : applicable (pad n s) a ≡ applicable s a
     padded = pad-applicable n s a complete (formed a (List·Memᴰ·head refl))
 
-    padded-after : assign (pad n s) (a .effect) ≡ pad n after
+    padded-after : apply (pad n s) a ≡ pad n after
     padded-after = pad-assign n s complete (formed a (List·Memᴰ·head refl) .effect)
 
     by-case : run (pad n after) p ≡ Option·map (pad n) (run after p) → (b : Bool) → applicable s a ≡ b → run (pad n s) (a ∷ p) ≡ Option·map (pad n) (run s (a ∷ p))

@@ -7,7 +7,7 @@ use mathlib.Core.Bool.{true, false}
 use mathlib.Core.Option.{Option, none, some, Option·some-ne-none}
 use mathlib.Core.List.{List, [], _∷_, _++_, List·Memᴰ, List·Memᴰ·head, List·Memᴰ·tail}
 use Rattle.sas.specs.Task.{State, Action, Task}
-use Rattle.sas.specs.Plan.{applicable, assign, result, run, cost}
+use Rattle.sas.specs.Plan.{applicable, apply, result, run, cost}
 use Rattle.sas.specs.WellFormed.{Within, Action-formed, Well-formed}
 use Rattle.sas.proofs.WellFormedLaws.{Actions-formed, assign-within}
 use Rattle.sas.proofs.ActionLaws.{result-applied, result-stuck, result-assigned}
@@ -28,8 +28,8 @@ pub run-no-result : (s : State) (a : Action) (p : List Action) → result s a �
 unfolding run
 run-no-result s a p h = rw (h, run)
 
-pub run-applied : (s : State) (a : Action) (p : List Action) → applicable s a ≡ true → run s (a ∷ p) ≡ run (assign s (a .effect)) p
-run-applied s a p h = run-result s (assign s (a .effect)) a p (result-applied s a h)
+pub run-applied : (s : State) (a : Action) (p : List Action) → applicable s a ≡ true → run s (a ∷ p) ≡ run (apply s a) p
+run-applied s a p h = run-result s (apply s a) a p (result-applied s a h)
 
 pub run-stuck : (s : State) (a : Action) (p : List Action) → applicable s a ≡ false → run s (a ∷ p) ≡ none
 run-stuck s a p h = run-no-result s a p (result-stuck s a h)

@@ -12,20 +12,20 @@ use borrow.Author.Tests.{eqb-true, eqb-false}
 use Rattle.sas.specs.Task.{Fact, Assignment, State, Action}
 use Rattle.sas.specs.Plan.{assign}
 use Rattle.sas.specs.WellFormed.{Known, Rising, Within, Action-formed}
-use Rattle.sas.specs.WellFormed.Rising.{none, one}
+use Rattle.sas.specs.WellFormed.Rising.{empty, fact}
 
 -- each action of a sequence is one over the domains
 abbrev pub Actions-formed : List ℕ → List Action → Type 0
 Actions-formed domains p = (a : Action) → List·Memᴰ a p → Action-formed domains a
 
 pub rising-known : {domains : List ℕ} {from : ℕ} {f : Fact} {q : Assignment} → Rising domains from q → List·Memᴰ f q → Known domains f
-rising-known (one known above rest) (List·Memᴰ·head same) = rw same known
-rising-known (one known above rest) (List·Memᴰ·tail later) = rising-known rest later
+rising-known (fact known above rest) (List·Memᴰ·head same) = rw same known
+rising-known (fact known above rest) (List·Memᴰ·tail later) = rising-known rest later
 
 -- the variable of each fact is `from` or above
 pub rising-above : {domains : List ℕ} {from : ℕ} {f : Fact} {q : Assignment} → Rising domains from q → List·Memᴰ f q → from ≤ f .variable
-rising-above (one known above rest) (List·Memᴰ·head same) = rw same above
-rising-above (one known above rest) (List·Memᴰ·tail later) = omega (arith, rising-above rest later)
+rising-above (fact known above rest) (List·Memᴰ·head same) = rw same above
+rising-above (fact known above rest) (List·Memᴰ·tail later) = omega (arith, rising-above rest later)
 
 -- a known fact's variable may be set to its value
 set-within : {domains : List ℕ} {s : State} {f : Fact} → Known domains f → Within domains s → Within domains (set s (f .variable) (f .value))
@@ -40,5 +40,5 @@ set-within {domains} {s} {f} known within =
 
 pub assign-within : {domains : List ℕ} {from : ℕ} {s : State} {e : Assignment} → Rising domains from e → Within domains s → Within domains (assign s e)
 unfolding assign
-assign-within none within = within
-assign-within (one known above rest) within = assign-within rest (set-within known within)
+assign-within empty within = within
+assign-within (fact known above rest) within = assign-within rest (set-within known within)

@@ -3,8 +3,8 @@ use Prim.Native.Nat.{ℕ, _+_}
 use mathlib.Core.Path.{_≡_}
 use mathlib.Core.Bool.{Bool, true, false, _&&_}
 use mathlib.Core.Option.{Option, none, some}
-use mathlib.Core.List.{List, [], _∷_, List·Memᴰ}
-use lib.ListN.{length, getD, set, take}
+use mathlib.Core.List.{List, [], _∷_, _++_, List·Memᴰ}
+use lib.ListN.{length, getD, set}
 use lib.Dec.{ltb, eqb}
 use Rattle.sas.specs.Task.{Fact, Assignment, State, Action, Task}
 
@@ -30,9 +30,13 @@ unfoldable pub assign : State → Assignment → State
 assign s [] = s
 assign s (f ∷ e) = assign (set s (f .variable) (f .value)) e
 
+-- the state that an action makes of a state: its effect is assigned
+abbrev pub apply : State → Action → State
+apply s a = assign s (a .effect)
+
 -- γ(s, a), the result of an action: undefined where the action is not applicable
 unfoldable pub result : State → Action → Option State
-result s a = elim (applicable s a) [ true ↦ some (assign s (a .effect)) | false ↦ none ]
+result s a = elim (applicable s a) [ true ↦ some (apply s a) | false ↦ none ]
 
 -- γ(s, ⟨a₁, …, aₙ⟩), the result of a sequence of actions
 unfoldable pub run : State → List Action → Option State
@@ -52,7 +56,7 @@ pub record Stuck (s : State) (p : List Action) (i : ℕ) : Type 0 where
   pub here : Action
   pub later : List Action
   pub before : State
-  pub parts : p ≡ mathlib.Core.List._++_ earlier (here ∷ later)
+  pub parts : p ≡ earlier ++ (here ∷ later)
   pub position : i ≡ length earlier + 1
   pub reached : run s earlier ≡ some before
   pub not-applicable : applicable before here ≡ false

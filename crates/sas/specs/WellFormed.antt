@@ -12,8 +12,8 @@ pub record Known (domains : List ℕ) (f : Fact) : Type 0 where
 
 -- an assignment of known facts whose variables rise strictly, the first being `from` or above
 pub data Rising (domains : List ℕ) : ℕ → Assignment → Type 0 where
-  none : {from : ℕ} → Rising domains from []
-  one : {from : ℕ} {f : Fact} {q : Assignment} → Known domains f → from ≤ f .variable → Rising domains (suc (f .variable)) q → Rising domains from (f ∷ q)
+  empty : {from : ℕ} → Rising domains from []
+  fact : {from : ℕ} {f : Fact} {q : Assignment} → Known domains f → from ≤ f .variable → Rising domains (suc (f .variable)) q → Rising domains from (f ∷ q)
 
 -- a state within the domains: it has just the task's variables, each at a value of its domain
 pub record Within (domains : List ℕ) (s : State) : Type 0 where

@@ -14,13 +14,14 @@ use Rattle.common.specs.Place.{first-of}
 use Rattle.sas.specs.Task.{Fact, State, Action}
 use Rattle.sas.specs.Plan.{run}
 use Rattle.sas.specs.WellFormed.{Known, Rising, Within, Action-formed, Well-formed}
-use Rattle.sas.specs.WellFormed.Rising.{none, one}
+use Rattle.sas.specs.WellFormed.Rising.{empty, fact}
 use Rattle.sas.proofs.RunLaws.{run-within}
 use Rattle.task.specs.Limits.{limits}
 use Rattle.task.specs.Layout.{word, variables, actions, domain, start, goal-start, goal-end, cost-word, precondition-start, effect-start, effect-end}
 use Rattle.task.specs.Decode.{table, fact-of, facts, domains, initial, goal, action, task}
 use Rattle.task.specs.Causes.{bad-variable, variable-place, bad-fact, group-place, action-place, fact-place, cost-place, Accepted}
-use Rattle.task.proofs.CauseLaws.{Clear, accepted-clear, or-else-nowhere, first-nowhere, first-of-nowhere, none-of-three, not-both}
+use Rattle.common.proofs.PlaceLaws.{or-else-nowhere, first-nowhere, first-of-nowhere}
+use Rattle.task.proofs.CauseLaws.{Clear, accepted-clear, none-of-three, not-both}
 use Rattle.task.proofs.TableLaws.{table-length, table-at, table-member, table-member-at}
 
 pub domains-length : (w : List ℕ) → length (domains w) ≡ variables w
@@ -50,8 +51,8 @@ record Good-variable (w : List ℕ) (v : ℕ) : Type 0 where
 good-variable : (w : List ℕ) (v : ℕ) → bad-variable w v ≡ false → Good-variable w v
 unfolding bad-variable
 good-variable w v h =
-    let (empty, beyond, outside) = none-of-three (ltb (domain w v) 1) (ltb (limits .values) (domain w v)) (leb (domain w v) (start w v)) h in
-    record { some-value = ltb-false _ _ empty; values = ltb-false _ _ beyond; starts = leb-false _ _ outside }
+    let (no-value, beyond, outside) = none-of-three (ltb (domain w v) 1) (ltb (limits .values) (domain w v)) (leb (domain w v) (start w v)) h in
+    record { some-value = ltb-false _ _ no-value; values = ltb-false _ _ beyond; starts = leb-false _ _ outside }
 
 -- the fact at word i of a group that begins at word `from` is known, and its variable above that of the fact before it
 record Good-fact (w : List ℕ) (from i : ℕ) : Type 0 where
@@ -80,16 +81,16 @@ module _ (w : List ℕ) (from end : ℕ) (clear : group-place w from end ≡ Now
   -- the n facts after the one at word i
   rising-after : (n i : ℕ) → from ≤ i → i + 1 + n ≤ end → Rising (domains w) (suc (fact-of (word w i) .variable)) (table (λ j. fact-of (word w j)) (i + 1) n)
   unfolding table
-  rising-after zero i low high = none
+  rising-after zero i low high = empty
   rising-after (suc n) i low high =
       let here : Good-fact w from (i + 1) = good (i + 1) (omega arith) (omega arith) in
-      one (here .known) (here .rising i low refl) (rising-after n (i + 1) (omega arith) (omega arith))
+      fact (here .known) (here .rising i low refl) (rising-after n (i + 1) (omega arith) (omega arith))
 
   -- the first n facts
   rising-first : (n : ℕ) → n ≤ end - from → Rising (domains w) 0 (table (λ j. fact-of (word w j)) from n)
   unfolding table
-  rising-first zero h = none
-  rising-first (suc n) h = one {from = 0} (good from (omega arith) (omega arith) .known) (omega arith) (rising-after n from (omega arith) (omega arith))
+  rising-first zero h = empty
+  rising-first (suc n) h = fact {from = 0} (good from (omega arith) (omega arith) .known) (omega arith) (rising-after n from (omega arith) (omega arith))
 
   -- a group in which no fact is bad is an assignment over the domains
   rising-group : Rising (domains w) 0 (facts w from end)

@@ -14,7 +14,8 @@ use Rattle.common.specs.Place.{when, first}
 use Rattle.task.specs.Limits.{limits}
 use Rattle.task.specs.Layout.{word, variables, actions, stated-length, pairs, pairs-end, offset, size, part-end, effect-start, effect-end}
 use Rattle.task.specs.Causes.{bad-length, bad-counts, due, wrong-size, bad-pair, pair-place, Accepted}
-use Rattle.task.proofs.CauseLaws.{Clear, accepted-clear, or-else-nowhere, first-nowhere, neither, none-of-three, not-both}
+use Rattle.common.proofs.PlaceLaws.{or-else-nowhere, first-nowhere}
+use Rattle.task.proofs.CauseLaws.{Clear, accepted-clear, neither, none-of-three, not-both}
 
 -- the words are as many as stated, and they and the counts are within the limits
 pub record Measured (w : List ℕ) : Type 0 where

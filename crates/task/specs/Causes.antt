@@ -1,5 +1,5 @@
 -- The causes of refusal of a task (document 01, "Causes of refusal", 1 to 7). Assumes nothing.
-use Prim.Native.Nat.{ℕ, _+_, _-_, _*_}
+use Prim.Native.Nat.{ℕ, _+_, _-_}
 use mathlib.Core.Path.{_≡_}
 use mathlib.Core.Bool.{Bool, true, false, not, _&&_, _||_}
 use mathlib.Core.Option.{none}
@@ -10,7 +10,7 @@ use Rattle.common.specs.declared.place.Place.{Place}
 use Rattle.common.specs.Place.{when, or-else, first-of, first}
 use Rattle.common.specs.Check.{Check, answer}
 use Rattle.task.specs.Limits.{limits}
-use Rattle.task.specs.Layout.{word, edition, variables, actions, stated-length, pairs, pairs-end, offset, size, part-end, domain, start, goal-start, goal-end, cost-word, precondition-count, precondition-start, effect-start, effect-end}
+use Rattle.task.specs.Layout.{word, edition, variables, actions, stated-length, pairs, pairs-end, offset, size, part-end, domain, start, goal-start, goal-end, cost-word, precondition-start, effect-start, effect-end}
 use Rattle.task.specs.Decode.{fact-of}
 
 -- 1: under 4 or over 8,192 words, or N differs from the length
@@ -29,7 +29,7 @@ bad-counts w = ltb (variables w) 1 || (ltb (limits .variables) (variables w) || 
 unfoldable pub due : List ℕ → ℕ → ℕ
 due w k = elim (eqb k 0) [ true ↦ pairs-end w | false ↦ part-end w (k - 1) ]
 
--- pair k is as long as its kind of part may be: V for pairs 0 and 1, for an action at least 2 and p at most the length − 2
+-- pair k has a length other than V, for pairs 0 and 1, or, for an action, a length under 2 or p over the length − 2
 unfoldable pub wrong-size : List ℕ → ℕ → Bool
 wrong-size w k =
     (ltb k 2 && not (eqb (size w k) (variables w)))

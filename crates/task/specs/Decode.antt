@@ -3,7 +3,7 @@ use Prim.Native.Nat.{ℕ, zero, suc, _+_, _-_, _/_, _%_}
 use mathlib.Core.List.{List, [], _∷_}
 use Rattle.sas.specs.Task.{Fact, Assignment, State, Action, Task}
 use Rattle.task.specs.Limits.{limits}
-use Rattle.task.specs.Layout.{word, variables, actions, offset, domain, start, goal-start, goal-end, cost-word, precondition-start, effect-start, effect-end}
+use Rattle.task.specs.Layout.{word, variables, actions, domain, start, goal-start, goal-end, cost-word, precondition-start, effect-start, effect-end}
 
 -- what f gives at the n numbers from i on
 unfoldable pub table {ℓ} : {A : Type ℓ} → (ℕ → A) → ℕ → ℕ → List A

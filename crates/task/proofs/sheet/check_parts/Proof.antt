@@ -5,7 +5,7 @@ use mathlib.Core.List.{List}
 use lib.ListN.{drop}
 use mathlib.Core.Path.{_≡_, sym, _∙_}
 use Rattle.common.specs.Check.{answer}
-use Rattle.common.proofs.CheckLaws.{answer-none, answer-fires, answer-passes}
+use Rattle.common.proofs.CheckLaws.{answer-nothing, answer-fires, answer-passes}
 use Rattle.task.specs.Causes.{sheet-checks}
 use borrow.Author.Needs.{needs}
 use Rattle.task.proofs.sheet.check_parts.Statement.{statement}
@@ -81,7 +81,7 @@ enum-told-4 c = search needs
 
 returns-5 : tie.Need-returns-5
 unfolding sheet-checks
-returns-5 c = sym (past-fact (c .before .before .before) ∙ answer-passes _ _ (sym (c .before .before .bad-cost-place .ensures) ∙ c .enum-told4 .given .1) ∙ answer-none)
+returns-5 c = sym (past-fact (c .before .before .before) ∙ answer-passes _ _ (sym (c .before .before .bad-cost-place .ensures) ∙ c .enum-told4 .given .1) ∙ answer-nothing)
 
 pub check-parts-spec : {M : Type 1} → statement M
 check-parts-spec =
