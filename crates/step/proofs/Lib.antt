@@ -1,0 +1,2 @@
+-- FactLaws: the facts among a task's words by the cases of a loop over them, and when an assignment of them holds.
+pub mod FactLaws
