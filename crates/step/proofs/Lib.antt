@@ -1,2 +1,4 @@
 -- FactLaws: the facts among a task's words by the cases of a loop over them, and when an assignment of them holds.
 pub mod FactLaws
+-- StepLaws: what a step answers on each of its ways.
+pub mod StepLaws

@@ -1,2 +1,3 @@
--- Failing: the first failing fact among a task's words.
+-- Failing: the first failing fact among a task's words. Step: what one step answers, and the state after it.
 pub mod Failing
+pub mod Step

@@ -1,0 +1,40 @@
+-- What one step answers, and the state after it (document 01, "Doing a step, and a valid list"). Assumes nothing.
+use Prim.Native.Nat.{ℕ}
+use mathlib.Core.Path.{_≡_}
+use mathlib.Core.Bool.{not}
+use mathlib.Core.Option.{none, some}
+use mathlib.Core.List.{List, [], _∷_, _++_}
+use lib.Dec.{leb}
+use Rattle.common.specs.declared.refusal.Verdict.{Verdict}
+use Rattle.common.specs.Place.{when}
+use Rattle.common.specs.Refusal.{told}
+use Rattle.common.specs.Check.{Check, answer}
+use Rattle.sas.specs.Plan.{applicable, apply}
+use Rattle.task.specs.Layout.{actions}
+use Rattle.task.specs.Decode.{action}
+use Rattle.task.specs.Causes.{sheet-checks}
+
+-- a step's own checks: 9, an unknown action; 11, a step that can't be done; both at place 1
+unfoldable pub own-checks : List ℕ → List ℕ → ℕ → List Check
+own-checks w s a =
+    record { number = 9; fires = when (leb (actions w) a) 1 }
+    ∷ record { number = 11; fires = when (not (applicable s (action w a))) 1 }
+    ∷ []
+
+-- the checks of one step: the sheet's, then its own
+unfoldable pub step-checks : List ℕ → List ℕ → ℕ → List Check
+step-checks w s a = sheet-checks w ++ own-checks w s a
+
+-- the state after a step: each variable in the effect has the value named; after a refusal, the state as it was
+unfoldable pub state-after : List ℕ → List ℕ → ℕ → List ℕ
+state-after w s a = elim (answer (step-checks w s a)) [ none ↦ apply s (action w a) | some t ↦ s ]
+
+-- one step of action a of the task w in the state `before`
+pub record Steps (w before : List ℕ) (a : ℕ) (verdict : Verdict) (after : List ℕ) : Type 0 where
+  pub verdict-told : told verdict ≡ answer (step-checks w before a)
+  pub state : after ≡ state-after w before a
+
+-- the same where the sheet is known to be accepted, so that only the step's own checks are left
+pub record Tries (w before : List ℕ) (a : ℕ) (verdict : Verdict) (after : List ℕ) : Type 0 where
+  pub verdict-told : told verdict ≡ answer (own-checks w before a)
+  pub state : after ≡ elim (answer (own-checks w before a)) [ none ↦ apply before (action w a) | some t ↦ before ]

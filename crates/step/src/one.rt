@@ -1,0 +1,67 @@
+// One step as a service, by value.
+use crate::facts::first_failing;
+use crate::facts::write_facts;
+use common::place::Place;
+use common::refusal::Refusal;
+use common::refusal::Verdict;
+use task::layout::action_end;
+use task::layout::actions;
+use task::layout::effect_at;
+use task::layout::precondition_at;
+use task::limits::Task;
+use task::sheet::check_sheet;
+ghost use Rattle.step.specs.Step.{Tries, Steps};
+
+// A state (document 01: site state). It may hold any values; those past the task's variables stay as they are.
+pub struct State {
+    pub values: [u32; Task::VARIABLES],
+}
+
+// A step's answer, and the state after it.
+pub struct Stepped {
+    pub verdict: Verdict,
+    pub state: State,
+}
+
+// Where a refusal places the step: it is the only one.
+const POSITION: usize = 1;
+
+// Does one step where the sheet is accepted, or refuses it and gives the state back as it was.
+fn try_step(words: &[u32], state: State, action: u32) -> Stepped
+    ensures { λ r. ⌜ Tries (now (words .entry)) (state .values) action (r .verdict) (r .state .values) ⌝ }
+{
+    if actions(words) <= action as usize {
+        return Stepped {
+            verdict: Verdict::Refused(Refusal::UnknownAction(POSITION)),
+            state,
+        };
+    }
+    let effect = effect_at(words, action);
+    let mut values = state.values;
+    match first_failing(words, &values, precondition_at(words, action), effect) {
+        Place::At(_) => Stepped {
+            verdict: Verdict::Refused(Refusal::NotAPlan(POSITION)),
+            state,
+        },
+        Place::Nowhere => {
+            write_facts(words, &mut values, effect, action_end(words, action));
+            Stepped {
+                verdict: Verdict::Passed,
+                state: State { values },
+            }
+        }
+    }
+}
+
+// Does one step in a state, or refuses it and gives the state back as it was.
+pub fn step(words: &[u32], state: State, action: u32) -> Stepped
+    ensures { λ r. ⌜ Steps (now (words .entry)) (state .values) action (r .verdict) (r .state .values) ⌝ }
+{
+    match check_sheet(words) {
+        Verdict::Passed => try_step(words, state, action),
+        Verdict::Refused(refusal) => Stepped {
+            verdict: Verdict::Refused(refusal),
+            state,
+        },
+    }
+}
