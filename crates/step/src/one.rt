@@ -1,4 +1,4 @@
-// One step as a service, by value.
+// One step as a service: by value, and on a lent state.
 use crate::facts::first_failing;
 use crate::facts::write_facts;
 use common::place::Place;
@@ -64,4 +64,13 @@ pub fn step(words: &[u32], state: State, action: u32) -> Stepped
             state,
         },
     }
+}
+
+// Does one step in a lent state, or refuses it and leaves the state as it was.
+pub fn step_in_place(words: &[u32], state: &mut State, action: u32) -> Verdict
+    ensures { λ r. ⌜ Steps (now (words .entry)) (now (state .entry) .values) action r (now (state .exit) .values) ⌝ }
+{
+    let stepped = step(words, *state, action);
+    *state = stepped.state;
+    stepped.verdict
 }
