@@ -2,3 +2,5 @@
 pub mod FactLaws
 -- StepLaws: what a step answers on each of its ways.
 pub mod StepLaws
+-- StepTheorem: the state after one step, in document 01's words.
+pub mod StepTheorem

@@ -1,0 +1,88 @@
+-- The state after one step, in document 01's words ("Doing a step, and a valid list") and not the code's: a refused step leaves it; a step that is done gives each
+-- variable in its effect the value named and keeps the others. A step that is done is one of an accepted task, whose effects name a variable once and are of known
+-- variables; the rest is the laws of `assign`. Assumes nothing.
+use Prim.Native.Nat.{ℕ, _≤_, _<_}
+use native.Mathlib.Omega.{arith}
+use mathlib.Core.Path.{_≡_, refl, sym, _∙_, ap}
+use mathlib.Core.Logic.{_≢_}
+use mathlib.Core.Option.{Option, none, some, Option·some-ne-none}
+use mathlib.Core.List.{List, _++_, List·Memᴰ}
+use lib.ListN.{length, getD}
+use borrow.Author.Tests.{leb-false}
+use Rattle.common.specs.Refusal.{Told}
+use Rattle.common.specs.Check.{Check, answer}
+use Rattle.common.proofs.PlaceLaws.{when-nowhere}
+use Rattle.common.proofs.CheckLaws.{none-fires, answer-first, answer-second}
+use Rattle.sas.specs.Task.{Fact}
+use Rattle.sas.specs.Plan.{assign}
+use Rattle.sas.specs.WellFormed.{Rising}
+use Rattle.sas.proofs.FactLaws.{holds-value}
+use Rattle.sas.proofs.WellFormedLaws.{rising-known}
+use Rattle.sas.proofs.AssignLaws.{assign-length, assign-other, assigned-holds}
+use Rattle.task.specs.Layout.{variables, actions}
+use Rattle.task.specs.Decode.{domains, action, task}
+use Rattle.task.specs.Causes.{sheet-checks, Accepted}
+use Rattle.task.proofs.Accepted.{domains-length, action-known, accepted-well-formed}
+use Rattle.step.specs.Step.{own-checks, step-checks, state-after}
+
+-- what holds of the state after a step of action a of the task w in the state s
+pub record After (w s : List ℕ) (a : ℕ) : Type 0 where
+  -- a refused step leaves the state, all its values
+  pub refused : (t : Told) → answer (step-checks w s a) ≡ some t → state-after w s a ≡ s
+  -- a step that is done gives each variable in its effect the value named
+  pub named : answer (step-checks w s a) ≡ none → (f : Fact) → List·Memᴰ f (action w a .effect) → f .variable < length s → getD (state-after w s a) (f .variable) 0 ≡ f .value
+  -- done or refused, a step keeps the others
+  pub others : (v : ℕ) → ((f : Fact) → List·Memᴰ f (action w a .effect) → f .variable ≢ v) → getD (state-after w s a) v 0 ≡ getD s v 0
+  -- among them those past the task's variables
+  pub past : (v : ℕ) → variables w ≤ v → getD (state-after w s a) v 0 ≡ getD s v 0
+  -- and no value is added or lost
+  pub complete : length (state-after w s a) ≡ length s
+
+-- of two lists of checks that answer nothing, the first answers nothing
+first-none : (cs ds : List Check) (t : Option Told) → answer (cs ++ ds) ≡ none → answer cs ≡ t → answer cs ≡ none
+first-none cs ds none h e = e
+first-none cs ds (some t) h e = absurd (Option·some-ne-none _ (sym (answer-first cs ds e) ∙ h))
+
+module _ (w s : List ℕ) (a : ℕ) where
+  refused-state : (t : Told) → answer (step-checks w s a) ≡ some t → state-after w s a ≡ s
+  unfolding state-after
+  refused-state t e = rw (e, state-after)
+
+  done-state : answer (step-checks w s a) ≡ none → state-after w s a ≡ assign s (action w a .effect)
+  unfolding state-after
+  done-state e = rw (e, state-after)
+
+  -- a step that is done is one of an accepted task
+  done-accepted : answer (step-checks w s a) ≡ none → Accepted w
+  unfolding step-checks
+  done-accepted e = first-none (sheet-checks w) (own-checks w s a) _ e refl
+
+  -- and of a known action
+  done-known : answer (step-checks w s a) ≡ none → a < actions w
+  unfolding step-checks own-checks
+  done-known e = leb-false _ _ (when-nowhere _ 1 (none-fires _ _ (sym (answer-second (sheet-checks w) (own-checks w s a) (done-accepted e)) ∙ e) .0))
+
+  done-rising : answer (step-checks w s a) ≡ none → Rising (domains w) 0 (action w a .effect)
+  unfolding task
+  done-rising e = accepted-well-formed w (done-accepted e) .actions (action w a) (action-known w a (done-known e)) .effect
+
+  other-kept : (v : ℕ) (t : Option Told) → answer (step-checks w s a) ≡ t → (answer (step-checks w s a) ≡ none → (f : Fact) → List·Memᴰ f (action w a .effect) → f .variable ≢ v)
+      → getD (state-after w s a) v 0 ≡ getD s v 0
+  other-kept v none e h = rw (done-state e) (assign-other s (action w a .effect) v (h e))
+  other-kept v (some t) e h = rw (refused-state t e)
+
+  past-unnamed : (v : ℕ) → variables w ≤ v → answer (step-checks w s a) ≡ none → (f : Fact) → List·Memᴰ f (action w a .effect) → f .variable ≢ v
+  past-unnamed v h e f m same = omega (arith, domains-length w, rising-known (done-rising e) m .variable)
+
+  length-kept : (t : Option Told) → answer (step-checks w s a) ≡ t → length (state-after w s a) ≡ length s
+  length-kept none e = ap length (done-state e) ∙ assign-length s (action w a .effect)
+  length-kept (some t) e = ap length (refused-state t e)
+
+pub step-theorem : (w s : List ℕ) (a : ℕ) → After w s a
+step-theorem w s a = record {
+  refused = refused-state w s a;
+  named = λ e f m below. rw (done-state w s a e) (holds-value _ f (assigned-holds s (done-rising w s a e) m below));
+  others = λ v h. other-kept w s a v _ refl (λ e. h);
+  past = λ v h. other-kept w s a v _ refl (past-unnamed w s a v h);
+  complete = length-kept w s a _ refl;
+}
