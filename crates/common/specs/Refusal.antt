@@ -19,7 +19,7 @@ told-refusal (Pair k) = record { number = 4; place = k }
 told-refusal (Variable v) = record { number = 5; place = v }
 told-refusal (Fact i) = record { number = 6; place = i }
 told-refusal (Cost a) = record { number = 7; place = a }
-told-refusal PlanLength = record { number = 8; place = 255 }
+told-refusal (PlanLength n) = record { number = 8; place = n }
 told-refusal (UnknownAction i) = record { number = 9; place = i }
 told-refusal (NotAPlan i) = record { number = 11; place = i }
 

@@ -8,7 +8,7 @@ pub enum Refusal {
     Variable(usize),
     Fact(usize),
     Cost(usize),
-    PlanLength,
+    PlanLength(usize),
     UnknownAction(usize),
     NotAPlan(usize),
 }

@@ -11,16 +11,13 @@ use lib.Seq.{set-append-left}
 use borrow.Author.Tests.{lt-ltb}
 use Rattle.sas.specs.Task.{Fact, Assignment, State, Action}
 use Rattle.sas.specs.Plan.{holds, satisfies, applicable, assign, apply, run}
+use Rattle.sas.specs.Pad.{pad}
 use Rattle.sas.specs.WellFormed.{Rising, Action-formed}
 use Rattle.sas.specs.WellFormed.Rising.{empty, fact}
 use Rattle.sas.proofs.FactLaws.{satisfies-nothing, satisfies-more, satisfies-failing}
 use Rattle.sas.proofs.WellFormedLaws.{Actions-formed}
 use Rattle.sas.proofs.AssignLaws.{assign-length}
 use Rattle.sas.proofs.RunLaws.{run-nothing, run-applied, run-stuck}
-
--- a state with zeros at its end, up to length n
-unfoldable pub pad : ℕ → State → State
-pad n s = s ++ replicate (n - length s) 0
 
 pub pad-holds : (n : ℕ) (s : State) (f : Fact) → f .variable < length s → holds (pad n s) f ≡ holds s f
 unfolding pad holds

@@ -25,7 +25,7 @@ use Rattle.step.specs.Step.{own-checks, step-checks, state-after, Steps,
 use Rattle.step.proofs.FactLaws.{nowhere, satisfied}
 
 -- an action can be done just where none of its precondition facts is found to fail
-applicable-place : (w s : List ℕ) (a from to : ℕ) (p : Place) → from ≡ precondition-start w a → to ≡ effect-start w a → p ≡ failing-place w s from to → applicable s (action w a) ≡ nowhere p
+pub applicable-place : (w s : List ℕ) (a from to : ℕ) (p : Place) → from ≡ precondition-start w a → to ≡ effect-start w a → p ≡ failing-place w s from to → applicable s (action w a) ≡ nowhere p
 unfolding applicable action
 applicable-place w s a from to p e e′ found = satisfied w s (precondition-start w a) (effect-start w a) ∙ rw (← e′, ← e, ← found)
 

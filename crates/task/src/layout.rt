@@ -2,7 +2,7 @@
 use common::access::word;
 ghost use mathlib.Core.Path.{_≡_};
 ghost use Prim.Native.Nat.{_<_, _≤_, _+_, _*_, _^_};
-ghost use Rattle.task.specs.Layout.{word as word-at, variables as variables-of, actions as actions-of, offset as offset-of, size as size-of, cost-word, precondition-start, effect-start, effect-end};
+ghost use Rattle.task.specs.Layout.{word as word-at, variables as variables-of, actions as actions-of, offset as offset-of, size as size-of, goal-start, goal-end as goal-end-of, cost-word, precondition-start, effect-start, effect-end};
 
 // The words of the header, and the pair where the actions begin.
 pub(crate) const EDITION_AT: usize = 0;
@@ -62,6 +62,27 @@ pub(crate) fn size(w: &[u32], k: usize) -> usize
     ensures { λ r. ⌜ (r ≡ size-of (now (w .entry)) k) × (r < 2 ^ 32) ⌝ }
 {
     number(w, PAIRS_AT + PAIR * k + 1)
+}
+
+// Where the starting values begin.
+pub fn start_at(w: &[u32]) -> usize
+    ensures { λ r. ⌜ (r ≡ offset-of (now (w .entry)) 1) × (r < 2 ^ 32) ⌝ }
+{
+    offset(w, INITIAL)
+}
+
+// Where the goal begins.
+pub fn goal_at(w: &[u32]) -> usize
+    ensures { λ r. ⌜ (r ≡ goal-start (now (w .entry))) × (r < 2 ^ 32) ⌝ }
+{
+    offset(w, GOAL)
+}
+
+// Where the goal ends.
+pub fn goal_end(w: &[u32]) -> usize
+    ensures { λ r. ⌜ (r ≡ goal-end-of (now (w .entry))) × (r < 2 ^ 33) ⌝ }
+{
+    offset(w, GOAL) + size(w, GOAL)
 }
 
 // The cost of action a.
