@@ -10,9 +10,9 @@ use crate::layout::Sheet;
 use crate::random::Random;
 use crate::rules::Cause;
 
-/// Spoils a sheet and answers with the place of the refusal, or with nothing if the sheet has no spot
-/// for the fault. The place is right when no other fault was put before, though one may have been:
-/// words may be cut off by then and parts empty.
+/// Spoils a sheet and answers with the place of the refusal, or with nothing if the sheet has no
+/// spot for the fault. The place is right when no other fault was put before; one may have been,
+/// and then words may be cut off and parts empty.
 type Put = fn(&mut Sheet, &mut Random) -> Option<usize>;
 
 pub struct Fault {

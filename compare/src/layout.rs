@@ -3,7 +3,7 @@
 
 use crate::random::Random;
 use crate::rules;
-use crate::sheets::Task;
+use crate::sheets::{length_word, offset_word, places, Task};
 use std::ops::Range;
 
 pub struct Sheet {
@@ -15,15 +15,9 @@ pub struct Sheet {
 
 impl Sheet {
     pub fn of(task: &Task) -> Self {
-        let mut offset = rules::HEADER + 2 * (rules::FIRST_ACTION_PAIR + task.actions.len());
-        let mut parts = Vec::new();
-        for part in task.parts() {
-            parts.push(offset..offset + part.len());
-            offset += part.len();
-        }
         Sheet {
             words: task.words(),
-            parts,
+            parts: places(&task.parts()),
             preconditions: task.actions.iter().map(|a| a.preconditions.len()).collect(),
         }
     }
@@ -147,12 +141,4 @@ impl Sheet {
     pub fn domain_of_fact(&self, index: usize) -> u32 {
         self.get(self.size_word(self.get(index) as usize / rules::FACT_BASE))
     }
-}
-
-pub fn offset_word(pair: usize) -> usize {
-    rules::HEADER + 2 * pair
-}
-
-pub fn length_word(pair: usize) -> usize {
-    offset_word(pair) + 1
 }

@@ -2,13 +2,16 @@
 
 use crate::random::Random;
 use crate::rules::{self, State};
+use std::ops::Range;
 
 /// The words that a task has apart from its variables, its actions and its facts.
-const FIXED_WORDS: usize = rules::HEADER + 2 * rules::FIRST_ACTION_PAIR;
+const FIXED_WORDS: usize = offset_word(rules::FIRST_ACTION_PAIR);
 /// A variable's domain size and starting value.
 const VARIABLE_WORDS: usize = 2;
 /// An action's pair and the words before its facts.
-const ACTION_WORDS: usize = 2 + rules::ACTION_HEAD;
+const ACTION_WORDS: usize = PAIR_WORDS + rules::ACTION_HEAD;
+/// A part's offset and length.
+const PAIR_WORDS: usize = 2;
 
 #[derive(Clone, Copy)]
 pub struct Fact {
@@ -164,21 +167,35 @@ impl Task {
 
     pub fn words(&self) -> Vec<u32> {
         let parts = self.parts();
-        let mut words = vec![
-            rules::EDITION as u32,
-            self.sizes.len() as u32,
-            self.actions.len() as u32,
-        ];
-        let mut offset = rules::HEADER + 2 * parts.len();
-        let count = offset + parts.iter().map(Vec::len).sum::<usize>();
-        words.push(count as u32);
-        for part in &parts {
-            words.extend([offset as u32, part.len() as u32]);
-            offset += part.len();
-        }
-        words.extend(parts.concat());
-        words
+        let places = places(&parts);
+        let count = places.last().map_or(0, |last| last.end);
+        let edition = rules::EDITION;
+        let header = [edition, self.sizes.len(), self.actions.len(), count];
+        let pairs = places.iter().flat_map(|place| [place.start, place.len()]);
+        let words = header.into_iter().chain(pairs).map(|word| word as u32);
+        words.chain(parts.concat()).collect()
     }
+}
+
+/// The word indices of the parts, one behind the other from the end of the pairs.
+pub fn places(parts: &[Vec<u32>]) -> Vec<Range<usize>> {
+    let mut end = offset_word(parts.len());
+    let place = |part: &Vec<u32>| {
+        let start = end;
+        end += part.len();
+        start..end
+    };
+    parts.iter().map(place).collect()
+}
+
+/// The word index of a pair's offset.
+pub const fn offset_word(pair: usize) -> usize {
+    rules::HEADER + PAIR_WORDS * pair
+}
+
+/// The word index of a pair's length.
+pub fn length_word(pair: usize) -> usize {
+    offset_word(pair) + 1
 }
 
 /// Gives the facts' variables the values that they have in `state`.

@@ -1,9 +1,10 @@
 //! Faults of the sheet's length and of its header: causes 1 to 3.
 
 use super::{other_word, word_above};
-use crate::layout::{length_word, Sheet};
+use crate::layout::Sheet;
 use crate::random::Random;
 use crate::rules;
+use crate::sheets::length_word;
 
 pub fn too_short(sheet: &mut Sheet, random: &mut Random) -> Option<usize> {
     sheet.words.truncate(random.index(rules::HEADER));

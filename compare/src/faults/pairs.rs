@@ -1,9 +1,10 @@
 //! Faults of the pairs and of the parts that they tell of: cause 4.
 
 use super::{other_word, word_above};
-use crate::layout::{length_word, offset_word, Sheet};
+use crate::layout::Sheet;
 use crate::random::Random;
 use crate::rules;
+use crate::sheets::{length_word, offset_word};
 
 /// Either more actions than there are words for, or words cut off within the pairs or right behind
 /// them.

@@ -23,6 +23,11 @@ pub struct Action<'a> {
     pub effects: &'a [u32],
 }
 
+/// The word index of a pair's offset; its length stands next to it.
+fn pair_word(pair: usize) -> usize {
+    HEADER + 2 * pair
+}
+
 /// Refusals 1 to 7.
 pub fn check_sheet(words: &[u32]) -> Result<Task<'_>, Refusal> {
     let task = Task { words };
@@ -81,7 +86,7 @@ impl<'a> Task<'a> {
     }
 
     fn first_offset(self) -> usize {
-        HEADER + 2 * self.pairs()
+        pair_word(self.pairs())
     }
 
     fn due_offset(self, pair: usize) -> usize {
@@ -149,11 +154,11 @@ impl<'a> Task<'a> {
     }
 
     fn offset(self, pair: usize) -> usize {
-        self.word(HEADER + 2 * pair)
+        self.word(pair_word(pair))
     }
 
     fn length(self, pair: usize) -> usize {
-        self.word(HEADER + 2 * pair + 1)
+        self.word(pair_word(pair) + 1)
     }
 
     fn part(self, pair: usize) -> Range<usize> {
