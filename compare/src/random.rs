@@ -1,0 +1,70 @@
+//! A small seeded generator (splitmix64), so that every case can be made again from its seed.
+
+use std::ops::RangeInclusive;
+
+/// Words at which a limit, a byte or a sign would show a slip.
+const EDGE_WORDS: [u32; 7] = [0, 1, 255, 256, 257, 1 << 31, u32::MAX];
+
+const GOLDEN_GAMMA: u64 = 0x9e37_79b9_7f4a_7c15;
+
+pub struct Random {
+    state: u64,
+}
+
+impl Random {
+    /// The generator of one case: it rests on the seed and the case's number only, so a case can be
+    /// made alone.
+    pub fn of_case(seed: u64, case: u64) -> Self {
+        let state = scramble(seed) ^ scramble(case.wrapping_add(GOLDEN_GAMMA));
+        Random { state }
+    }
+
+    fn next(&mut self) -> u64 {
+        self.state = self.state.wrapping_add(GOLDEN_GAMMA);
+        scramble(self.state)
+    }
+
+    /// An index below `count`, which is not 0.
+    pub fn index(&mut self, count: usize) -> usize {
+        ((u128::from(self.next()) * count as u128) >> u64::BITS) as usize
+    }
+
+    pub fn within(&mut self, range: RangeInclusive<u32>) -> u32 {
+        let width = (range.end() - range.start()) as usize + 1;
+        range.start() + self.index(width) as u32
+    }
+
+    pub fn size(&mut self, range: RangeInclusive<usize>) -> usize {
+        range.start() + self.index(range.end() - range.start() + 1)
+    }
+
+    /// True once in `times`.
+    pub fn once_in(&mut self, times: usize) -> bool {
+        self.index(times) == 0
+    }
+
+    pub fn pick<T: Copy>(&mut self, choices: &[T]) -> T {
+        choices[self.index(choices.len())]
+    }
+
+    /// Any word, half of the time one at an edge.
+    pub fn word(&mut self) -> u32 {
+        if self.once_in(2) {
+            self.pick(&EDGE_WORDS)
+        } else {
+            self.next() as u32
+        }
+    }
+
+    /// A word that a service is not likely to write by chance.
+    pub fn filler(&mut self) -> u64 {
+        self.next()
+    }
+}
+
+/// The output step of splitmix64.
+fn scramble(state: u64) -> u64 {
+    let mixed = (state ^ (state >> 30)).wrapping_mul(0xbf58_476d_1ce4_e5b9);
+    let mixed = (mixed ^ (mixed >> 27)).wrapping_mul(0x94d0_49bb_1331_11eb);
+    mixed ^ (mixed >> 31)
+}

@@ -1,0 +1,197 @@
+//! The task that a sheet holds, and the checks of the sheet. Words are read as `usize` of 64 bits,
+//! so that no sum of them can wrap.
+
+use super::{
+    refuse, split, Cause, Refusal, State, ACTIONS_WORD, ACTION_HEAD, COUNT_WORD, EDITION,
+    EDITION_WORD, FIRST_ACTION_PAIR, GOAL_PAIR, HEADER, MAX_ACTIONS, MAX_ACTION_COST, MAX_DOMAIN,
+    MAX_VARIABLES, MAX_WORDS, SIZES_PAIR, START_PAIR, VARIABLES_WORD,
+};
+use std::iter::once;
+use std::ops::Range;
+
+/// A task as the words of its sheet have it; it is handed out only when no check refuses.
+#[derive(Clone, Copy)]
+pub struct Task<'a> {
+    words: &'a [u32],
+}
+
+/// An action of a task; its facts are words of the sheet.
+#[derive(Clone, Copy)]
+pub struct Action<'a> {
+    pub cost: usize,
+    pub preconditions: &'a [u32],
+    pub effects: &'a [u32],
+}
+
+/// The word index of a pair's offset; its length stands next to it.
+fn pair_word(pair: usize) -> usize {
+    HEADER + 2 * pair
+}
+
+/// Refusals 1 to 7.
+pub fn check_sheet(words: &[u32]) -> Result<Task<'_>, Refusal> {
+    let task = Task { words };
+    refuse(Cause::Length, task.wrong_length())?;
+    refuse(Cause::Edition, task.wrong_edition())?;
+    refuse(Cause::Range, task.wrong_range())?;
+    refuse(Cause::Pair, task.first_wrong_pair())?;
+    refuse(Cause::Value, task.first_wrong_variable())?;
+    refuse(Cause::Fact, task.first_wrong_fact())?;
+    refuse(Cause::Cost, task.first_wrong_cost())?;
+    Ok(task)
+}
+
+/// The checks. Each one reads only what the checks before it have found in order.
+impl<'a> Task<'a> {
+    fn wrong_length(self) -> Option<usize> {
+        let length = self.words.len();
+        let wrong = !(HEADER..=MAX_WORDS).contains(&length) || self.word(COUNT_WORD) != length;
+        wrong.then_some(0)
+    }
+
+    fn wrong_edition(self) -> Option<usize> {
+        (self.word(EDITION_WORD) != EDITION).then_some(0)
+    }
+
+    fn wrong_range(self) -> Option<usize> {
+        let variables_wrong = !(1..=MAX_VARIABLES).contains(&self.variables());
+        let actions_wrong = self.actions() > MAX_ACTIONS;
+        (variables_wrong || actions_wrong).then_some(0)
+    }
+
+    fn first_wrong_pair(self) -> Option<usize> {
+        if self.first_offset() > self.words.len() {
+            return Some(0);
+        }
+        (0..self.pairs()).find(|&pair| self.pair_is_wrong(pair))
+    }
+
+    /// The pairs before this one are in order. An action's part is read only once it is known to
+    /// lie in the sheet.
+    fn pair_is_wrong(self, pair: usize) -> bool {
+        let count = self.words.len();
+        let (offset, length) = (self.offset(pair), self.length(pair));
+        let end = offset + length;
+        let is_last = pair + 1 == self.pairs();
+        let has_values = pair == SIZES_PAIR || pair == START_PAIR;
+        offset != self.due_offset(pair)
+            || end > count
+            || (is_last && end < count)
+            || (has_values && length != self.variables())
+            || (pair >= FIRST_ACTION_PAIR && self.action_part_is_wrong(offset, length))
+    }
+
+    fn action_part_is_wrong(self, offset: usize, length: usize) -> bool {
+        length < ACTION_HEAD || self.word(offset + 1) > length - ACTION_HEAD
+    }
+
+    fn first_offset(self) -> usize {
+        pair_word(self.pairs())
+    }
+
+    fn due_offset(self, pair: usize) -> usize {
+        match pair {
+            0 => self.first_offset(),
+            _ => self.offset(pair - 1) + self.length(pair - 1),
+        }
+    }
+
+    fn first_wrong_variable(self) -> Option<usize> {
+        (0..self.variables()).find(|&variable| {
+            let size = self.domain(variable);
+            !(1..=MAX_DOMAIN).contains(&size) || self.start_value(variable) >= size
+        })
+    }
+
+    /// The groups stand in word order, so this is the first wrong fact of them all.
+    fn first_wrong_fact(self) -> Option<usize> {
+        self.groups()
+            .find_map(|group| self.first_wrong_fact_of(group))
+    }
+
+    fn first_wrong_fact_of(self, group: Range<usize>) -> Option<usize> {
+        let first = group.start;
+        group.into_iter().find(|&index| {
+            let (variable, value) = split(self.words[index]);
+            variable >= self.variables()
+                || value as usize >= self.domain(variable)
+                || (index > first && variable <= split(self.words[index - 1]).0)
+        })
+    }
+
+    /// The word indices of the goal, then of each action's preconditions and effects.
+    fn groups(self) -> impl Iterator<Item = Range<usize>> + 'a {
+        let actions = (0..self.actions()).flat_map(move |action| {
+            let part = self.part(FIRST_ACTION_PAIR + action);
+            let facts = part.start + ACTION_HEAD;
+            let effects = facts + self.word(part.start + 1);
+            [facts..effects, effects..part.end]
+        });
+        once(self.part(GOAL_PAIR)).chain(actions)
+    }
+
+    fn first_wrong_cost(self) -> Option<usize> {
+        (0..self.actions()).find(|&action| self.action(action).cost > MAX_ACTION_COST)
+    }
+}
+
+/// What the sheet says.
+impl<'a> Task<'a> {
+    fn word(self, index: usize) -> usize {
+        self.words[index] as usize
+    }
+
+    fn variables(self) -> usize {
+        self.word(VARIABLES_WORD)
+    }
+
+    pub fn actions(self) -> usize {
+        self.word(ACTIONS_WORD)
+    }
+
+    fn pairs(self) -> usize {
+        FIRST_ACTION_PAIR + self.actions()
+    }
+
+    fn offset(self, pair: usize) -> usize {
+        self.word(pair_word(pair))
+    }
+
+    fn length(self, pair: usize) -> usize {
+        self.word(pair_word(pair) + 1)
+    }
+
+    fn part(self, pair: usize) -> Range<usize> {
+        self.offset(pair)..self.offset(pair) + self.length(pair)
+    }
+
+    fn domain(self, variable: usize) -> usize {
+        self.word(self.offset(SIZES_PAIR) + variable)
+    }
+
+    fn start_value(self, variable: usize) -> usize {
+        self.word(self.offset(START_PAIR) + variable)
+    }
+
+    /// The starting values, zero past the task's variables.
+    pub fn start(self) -> State {
+        let mut state = [0; MAX_VARIABLES];
+        state[..self.variables()].copy_from_slice(&self.words[self.part(START_PAIR)]);
+        state
+    }
+
+    pub fn goal(self) -> &'a [u32] {
+        &self.words[self.part(GOAL_PAIR)]
+    }
+
+    pub fn action(self, action: usize) -> Action<'a> {
+        let words = &self.words[self.part(FIRST_ACTION_PAIR + action)];
+        let (head, facts) = words.split_at(ACTION_HEAD);
+        let (preconditions, effects) = facts.split_at(head[1] as usize);
+        Action {
+            cost: head[0] as usize,
+            preconditions,
+            effects,
+        }
+    }
+}
