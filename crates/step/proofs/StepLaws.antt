@@ -1,13 +1,12 @@
 -- What one step answers on each of its ways: an unknown action, a precondition that fails, a step that is done; and how the sheet's checks come before.
 -- What the code calls is a variable here, with what is known of it as a premise. Assumes nothing.
+-- check 9 fires
 use Prim.Native.Nat.{ℕ, _≤_, _<_}
 use mathlib.Core.Path.{_≡_, refl, sym, _∙_, ap}
-use mathlib.Core.Bool.{true, false, not}
+use mathlib.Core.Bool.{Bool, true, false, not}
 use mathlib.Core.Option.{none, some}
 use mathlib.Core.List.{List, [], _∷_}
 use borrow.Author.Tests.{le-leb, lt-leb}
-use Rattle.common.specs.declared.place.Place.{Place}
-use Rattle.common.specs.declared.place.Place.the-variants.{Nowhere, At}
 use Rattle.common.specs.declared.refusal.Refusal.{Refusal}
 use Rattle.common.specs.declared.refusal.Refusal.the-variants.{UnknownAction, NotAPlan}
 use Rattle.common.specs.declared.refusal.Verdict.{Verdict}
@@ -16,20 +15,13 @@ use Rattle.common.specs.Place.{when}
 use Rattle.common.specs.Refusal.{Told, told-refusal, told}
 use Rattle.common.specs.Check.{answer}
 use Rattle.common.proofs.CheckLaws.{answer-fires, answer-passes, answer-first, answer-second}
-use Rattle.sas.specs.Plan.{applicable, assign}
-use Rattle.task.specs.Layout.{actions, precondition-start, effect-start, effect-end}
-use Rattle.task.specs.Decode.{facts, action}
+use Rattle.sas.specs.Plan.{applicable}
+use Rattle.task.specs.Layout.{actions}
+use Rattle.task.specs.Decode.{action}
 use Rattle.task.specs.Causes.{sheet-checks}
-use Rattle.step.specs.Failing.{failing-place}
+use Rattle.step.specs.Advance.{Advances}
 use Rattle.step.specs.Step.{own-checks, step-checks, state-after, Steps, Tries}
-use Rattle.step.proofs.FactLaws.{nowhere, satisfied}
 
--- an action can be done just where none of its precondition facts is found to fail
-pub applicable-place : (w s : List ℕ) (a from to : ℕ) (p : Place) → from ≡ precondition-start w a → to ≡ effect-start w a → p ≡ failing-place w s from to → applicable s (action w a) ≡ nowhere p
-unfolding applicable action
-applicable-place w s a from to p e e′ found = satisfied w s (precondition-start w a) (effect-start w a) ∙ rw (← e′, ← e, ← found)
-
--- check 9 fires
 own-unknown : (w s : List ℕ) (a : ℕ) → actions w ≤ a → answer (own-checks w s a) ≡ some (record { number = 9; place = 1 })
 unfolding own-checks
 own-unknown w s a h = answer-fires _ _ 1 (rw (le-leb (actions w) a h))
@@ -56,18 +48,15 @@ refused w s a v t e e′ = record { verdict-told = e ∙ sym e′; state = rw e�
 pub tries-unknown : (w s : List ℕ) (a : ℕ) (n : ℕ) → n ≡ actions w → n ≤ a → Tries w s a (Refused (UnknownAction 1)) s
 tries-unknown w s a n e h = refused w s a _ _ refl (own-unknown w s a (rw e at h))
 
--- a precondition fact that fails
-pub tries-fails : (w s : List ℕ) (a n from to k : ℕ) (p : Place) → n ≡ actions w → a < n → from ≡ precondition-start w a → to ≡ effect-start w a
-    → p ≡ failing-place w s from to → p ≡ At k → Tries w s a (Refused (NotAPlan 1)) s
-tries-fails w s a n from to k p e h e₁ e₂ e₃ found = refused w s a _ _ refl (own-fails w s a (rw e at h) (applicable-place w s a from to p e₁ e₂ e₃ ∙ ap nowhere found))
+-- a step that can't be done
+pub tries-fails : (w s after : List ℕ) (a n : ℕ) (done : Bool) → n ≡ actions w → a < n → Advances w s a done after → done ≡ false → Tries w s a (Refused (NotAPlan 1)) s
+tries-fails w s after a n done e h advances is = refused w s a _ _ refl (own-fails w s a (rw e at h) (sym (advances .applied) ∙ is))
 
 -- a step that is done
-pub tries-done : (w s after : List ℕ) (a n from to end : ℕ) (p : Place) → n ≡ actions w → a < n → from ≡ precondition-start w a → to ≡ effect-start w a → end ≡ effect-end w a
-    → p ≡ failing-place w s from to → p ≡ Nowhere → after ≡ assign s (facts w to end) → Tries w s a Passed after
-unfolding action
-tries-done w s after a n from to end p e h e₁ e₂ e₃ e₄ missed written =
-    let passes : answer (own-checks w s a) ≡ none = own-passes w s a (rw e at h) (applicable-place w s a from to p e₁ e₂ e₄ ∙ ap nowhere missed) in
-    record { verdict-told = sym passes; state = rw (passes, ← e₂, ← e₃) written }
+pub tries-done : (w s after : List ℕ) (a n : ℕ) (done : Bool) → n ≡ actions w → a < n → Advances w s a done after → done ≡ true → Tries w s a Passed after
+tries-done w s after a n done e h advances is =
+    let passes : answer (own-checks w s a) ≡ none = own-passes w s a (rw e at h) (sym (advances .applied) ∙ is) in
+    record { verdict-told = sym passes; state = rw passes (advances .state ∙ rw is) }
 
 -- a sheet that is refused
 pub steps-refused : (w s : List ℕ) (a : ℕ) (v : Verdict) (r : Refusal) → told v ≡ answer (sheet-checks w) → v ≡ Refused r → Steps w s a (Refused r) s

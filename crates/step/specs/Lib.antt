@@ -1,3 +1,4 @@
--- Failing: the first failing fact among a task's words. Step: what one step answers, and the state after it.
+-- Failing: the first failing fact among a task's words. Advance: one action in a lent state. Step: what one step answers, and the state after it.
 pub mod Failing
+pub mod Advance
 pub mod Step

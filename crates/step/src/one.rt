@@ -1,13 +1,8 @@
 // One step as a service: by value, and on a lent state.
-use crate::facts::first_failing;
-use crate::facts::write_facts;
-use common::place::Place;
+use crate::advance::advance;
 use common::refusal::Refusal;
 use common::refusal::Verdict;
-use task::layout::action_end;
 use task::layout::actions;
-use task::layout::effect_at;
-use task::layout::precondition_at;
 use task::limits::Task;
 use task::sheet::check_sheet;
 ghost use Rattle.step.specs.Step.{Tries, Steps};
@@ -36,20 +31,16 @@ fn try_step(words: &[u32], state: State, action: u32) -> Stepped
             state,
         };
     }
-    let effect = effect_at(words, action);
     let mut values = state.values;
-    match first_failing(words, &values, precondition_at(words, action), effect) {
-        Place::At(_) => Stepped {
-            verdict: Verdict::Refused(Refusal::NotAPlan(POSITION)),
-            state,
-        },
-        Place::Nowhere => {
-            write_facts(words, &mut values, effect, action_end(words, action));
-            Stepped {
-                verdict: Verdict::Passed,
-                state: State { values },
-            }
-        }
+    if advance(words, &mut values, action) {
+        return Stepped {
+            verdict: Verdict::Passed,
+            state: State { values },
+        };
+    }
+    Stepped {
+        verdict: Verdict::Refused(Refusal::NotAPlan(POSITION)),
+        state,
     }
 }
 

@@ -1,0 +1,67 @@
+-- What the check of a plan (document 01: list) answers. Assumes nothing.
+use Prim.Native.Nat.{ℕ, _+_}
+use mathlib.Core.Path.{_≡_}
+use mathlib.Core.Option.{Option, none, some}
+use mathlib.Core.List.{List, [], _∷_, _++_}
+use lib.ListN.{length, getD, replicate}
+use lib.Dec.{ltb, leb}
+use Rattle.common.specs.declared.place.Place.{Place}
+use Rattle.common.specs.Place.{when, first-of}
+use Rattle.common.specs.Refusal.{Told, told-refusal}
+use Rattle.common.specs.Check.{Check, answer}
+use Rattle.sas.specs.Task.{State}
+use Rattle.sas.specs.Plan.{cost}
+use Rattle.sas.specs.Pad.{pad}
+use Rattle.tally.specs.declared.Tally.{Tally}
+use Rattle.tally.specs.Tally.{nothing}
+use Rattle.task.specs.Limits.{limits}
+use Rattle.task.specs.Layout.{actions}
+use Rattle.task.specs.Decode.{goal, initial}
+use Rattle.task.specs.Causes.{sheet-checks}
+use Rattle.plan.specs.declared.check.Answer.{Answer}
+use Rattle.plan.specs.declared.check.Answer.the-variants.{Valid, Refused}
+use Rattle.plan.specs.Limits.{most-steps}
+use Rattle.plan.specs.Valid.{steps, fault, final}
+
+-- 9: the position of the first unknown action
+unfoldable pub unknown-place : List ℕ → List ℕ → Place
+unknown-place w l = first-of (λ i. when (leb (actions w) (getD l i 0)) (i + 1)) 0 (length l)
+
+-- the checks of the list itself: 8, over 255 steps; 9, an unknown action
+unfoldable pub list-checks : List ℕ → List ℕ → List Check
+list-checks w l =
+    record { number = 8; fires = when (ltb most-steps (length l)) most-steps }
+    ∷ record { number = 9; fires = unknown-place w l }
+    ∷ []
+
+-- 11: the list is not valid
+unfoldable pub valid-checks : List ℕ → List ℕ → List Check
+valid-checks w l = record { number = 11; fires = fault (goal w) (initial w) 1 (steps w l) } ∷ []
+
+-- the checks of a list, in the order in which they run
+unfoldable pub plan-checks : List ℕ → List ℕ → List Check
+plan-checks w l = sheet-checks w ++ (list-checks w l ++ valid-checks w l)
+
+-- the refusal in an answer, if it is one
+abbrev pub told-answer : Answer → Option Told
+told-answer (Valid t) = none
+told-answer (Refused r) = some (told-refusal r)
+
+-- the tally in an answer: zero in a refusal
+abbrev pub told-tally : Answer → Tally
+told-tally (Valid t) = t
+told-tally (Refused r) = nothing
+
+-- the tally of a valid list is the sum of its prices and the number of its steps; zero on a refusal
+unfoldable pub tally-of : List ℕ → List ℕ → Tally
+tally-of w l = elim (answer (plan-checks w l)) [ none ↦ record { cost = cost (steps w l); steps = length l } | some t ↦ nothing ]
+
+-- the end state: the task's variables after the last step, zero past them; all zero on a refusal
+unfoldable pub end-state : List ℕ → List ℕ → State
+end-state w l = elim (answer (plan-checks w l)) [ none ↦ pad (limits .variables) (final (initial w) (steps w l)) | some t ↦ replicate (limits .variables) 0 ]
+
+-- the check of the list l of the task w
+pub record Checks (w l : List ℕ) (given : Answer) (state : List ℕ) : Type 0 where
+  pub refusal : told-answer given ≡ answer (plan-checks w l)
+  pub tally : told-tally given ≡ tally-of w l
+  pub end : state ≡ end-state w l
