@@ -11,10 +11,11 @@ use Rattle.common.specs.declared.place.Place.the-variants.{Nowhere, At}
 use Rattle.common.specs.Place.{when, or-else, first-of-next, first-of, first}
 
 -- one number fewer is left after the first
-one-fewer : (i end : ℕ) → i < end → end - i ≡ suc (end - (i + 1))
+pub one-fewer : (i end : ℕ) → i < end → end - i ≡ suc (end - (i + 1))
 one-fewer i end h = omega arith
 
-none-left : (i end : ℕ) → end ≤ i → end - i ≡ zero
+-- at the end none is left
+pub none-left : (i end : ℕ) → end ≤ i → end - i ≡ zero
 none-left i end h = omega arith
 
 pub first-of-over : (f : ℕ → Place) (i end : ℕ) → end ≤ i → first-of f i end ≡ Nowhere
