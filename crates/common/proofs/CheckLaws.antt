@@ -1,7 +1,7 @@
 -- What a list of checks answers, by whether its first check fires, and for a list that another begins. Assumes nothing.
 use Prim.Native.Nat.{ℕ}
 use mathlib.Core.Path.{_≡_, refl, sym, _∙_}
-use mathlib.Core.Option.{none, some, Option·some-ne-none}
+use mathlib.Core.Option.{Option, none, some, Option·some-ne-none}
 use mathlib.Core.List.{List, [], _∷_, _++_}
 use Rattle.common.specs.declared.place.Place.{Place}
 use Rattle.common.specs.declared.place.Place.the-variants.{Nowhere, At}
@@ -40,3 +40,8 @@ answer-first (c ∷ cs) ds {t} h = by-case (λ e. answer-first cs ds e) (c .fire
 pub answer-second : (cs ds : List Check) → answer cs ≡ none → answer (cs ++ ds) ≡ answer ds
 answer-second [] ds h = refl
 answer-second (c ∷ cs) ds h = let (passes, rest) = none-fires c cs h in answer-passes c (cs ++ ds) passes ∙ answer-second cs ds rest
+
+-- where two lists of checks joined answer nothing, the first answers nothing
+pub first-none : (cs ds : List Check) (t : Option Told) → answer (cs ++ ds) ≡ none → answer cs ≡ t → answer cs ≡ none
+first-none cs ds none h e = e
+first-none cs ds (some t) h e = absurd (Option·some-ne-none _ (sym (answer-first cs ds e) ∙ h))

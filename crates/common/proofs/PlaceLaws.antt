@@ -14,6 +14,7 @@ use Rattle.common.specs.Place.{when, or-else, first-of-next, first-of, f
 pub one-fewer : (i end : ℕ) → i < end → end - i ≡ suc (end - (i + 1))
 one-fewer i end h = omega arith
 
+-- at the end none is left
 pub none-left : (i end : ℕ) → end ≤ i → end - i ≡ zero
 none-left i end h = omega arith
 

@@ -18,3 +18,12 @@ pub fn put(words: &mut [u32], i: usize, x: u32)
         words[i] = x;
     }
 }
+
+// Writes x at index i, among wide words.
+pub fn put64(words: &mut [u64], i: usize, x: u64)
+    ensures { λ _. ⌜ now (words .exit) ≡ set (now (words .entry)) i x ⌝ }
+{
+    if i < words.len() {
+        words[i] = x;
+    }
+}

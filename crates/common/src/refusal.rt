@@ -1,5 +1,8 @@
 // Document 01's causes of refusal, each with the place that is not always the same.
-// specs/Refusal.antt gives each its number and place.
+// specs/Refusal.antt gives each its number and place, and `number` and `place` hold the code to it.
+ghost use mathlib.Core.Path.{_≡_};
+ghost use Rattle.common.specs.Refusal.{told-refusal};
+
 pub enum Refusal {
     Length,
     Edition,
@@ -11,6 +14,44 @@ pub enum Refusal {
     PlanLength(usize),
     UnknownAction(usize),
     NotAPlan(usize),
+}
+
+impl Refusal {
+    // The number in document 01's table.
+    pub fn number(self) -> u32
+        ensures { λ r. ⌜ r ≡ told-refusal self .number ⌝ }
+    {
+        match self {
+            Refusal::Length => 1,
+            Refusal::Edition => 2,
+            Refusal::Counts => 3,
+            Refusal::Pair(_) => 4,
+            Refusal::Variable(_) => 5,
+            Refusal::Fact(_) => 6,
+            Refusal::Cost(_) => 7,
+            Refusal::PlanLength(_) => 8,
+            Refusal::UnknownAction(_) => 9,
+            Refusal::NotAPlan(_) => 11,
+        }
+    }
+
+    // The place that is returned with it.
+    pub fn place(self) -> usize
+        ensures { λ r. ⌜ r ≡ told-refusal self .place ⌝ }
+    {
+        match self {
+            Refusal::Length => 0,
+            Refusal::Edition => 0,
+            Refusal::Counts => 0,
+            Refusal::Pair(k) => k,
+            Refusal::Variable(v) => v,
+            Refusal::Fact(i) => i,
+            Refusal::Cost(a) => a,
+            Refusal::PlanLength(n) => n,
+            Refusal::UnknownAction(i) => i,
+            Refusal::NotAPlan(i) => i,
+        }
+    }
 }
 
 // What a check answers.

@@ -1,12 +1,12 @@
 -- When a fact holds, and what `satisfies` says of the facts of an assignment: by the cases of its first fact, then by membership, by list induction.
 -- Assumes nothing.
-use Prim.Native.Nat.{_<_}
+use Prim.Native.Nat.{_≤_, _<_}
 use mathlib.Core.Path.{_≡_, refl, sym, _∙_}
 use mathlib.Core.Bool.{Bool, true, false, true≢false, and-eq-true-iff}
 use mathlib.Core.List.{[], _∷_, List·Memᴰ, List·Memᴰ·head, List·Memᴰ·tail}
 use lib.ListN.{length, getD}
 use lib.Dec.{ltb, eqb}
-use borrow.Author.Tests.{ltb-true, eqb-true, lt-ltb, eq-eqb}
+use borrow.Author.Tests.{ltb-true, eqb-true, lt-ltb, le-ltb, eq-eqb}
 use Rattle.sas.specs.Task.{Fact, Assignment, State}
 use Rattle.sas.specs.Plan.{holds, first-failing, satisfies}
 
@@ -23,6 +23,16 @@ holds-value s f h = eqb-true _ _ (and-eq-true-iff (ltb (f .variable) (length s))
 pub holds-there : (s : State) (f : Fact) → f .variable < length s → getD s (f .variable) 0 ≡ f .value → holds s f ≡ true
 unfolding holds
 holds-there s f h e = rw (lt-ltb _ _ h, eq-eqb _ _ e)
+
+-- a fact of a variable that the state has
+pub holds-known : (s : State) (f : Fact) → f .variable < length s → holds s f ≡ eqb (getD s (f .variable) 0) (f .value)
+unfolding holds
+holds-known s f h = rw (lt-ltb (f .variable) (length s) h)
+
+-- a fact of a variable that the state has not
+pub holds-unknown : (s : State) (f : Fact) → length s ≤ f .variable → holds s f ≡ false
+unfolding holds
+holds-unknown s f h = rw (le-ltb (f .variable) (length s) h)
 
 pub satisfies-nothing : (s : State) → satisfies s [] ≡ true
 unfolding satisfies first-failing

@@ -3,48 +3,19 @@
 use Prim.Native.Nat.{ℕ, zero, suc, _+_, _-_, _≤_, _<_}
 use mathlib.Core.Path.{_≡_, refl, _∙_, ap}
 use mathlib.Core.Bool.{Bool, true, false, not}
-use mathlib.Core.List.{List, [], _∷_}
+use mathlib.Core.List.{List}
 use native.Mathlib.Omega.{arith}
-use lib.ListN.{length, getD, set}
-use lib.Dec.{eqb}
-use borrow.Author.Tests.{lt-ltb, le-ltb}
+use lib.ListN.{set}
 use Rattle.common.specs.declared.place.Place.{Place}
 use Rattle.common.specs.declared.place.Place.the-variants.{Nowhere, At}
 use Rattle.common.proofs.PlaceLaws.{first-over, first-here, first-more}
-use Rattle.sas.specs.Task.{Fact, State}
+use Rattle.sas.specs.Task.{State}
 use Rattle.sas.specs.Plan.{holds, satisfies, assign}
 use Rattle.sas.proofs.FactLaws.{satisfies-nothing, satisfies-more, satisfies-failing}
 use Rattle.task.specs.Layout.{word}
-use Rattle.task.specs.Decode.{table, fact-of, facts}
+use Rattle.task.specs.Decode.{fact-of, facts}
+use Rattle.task.proofs.TableLaws.{facts-over, facts-next}
 use Rattle.step.specs.Failing.{failing-place}
-
--- a fact of a variable that the state has
-pub holds-known : (s : State) (f : Fact) → f .variable < length s → holds s f ≡ eqb (getD s (f .variable) 0) (f .value)
-unfolding holds
-holds-known s f h = rw (lt-ltb (f .variable) (length s) h)
-
--- a fact of a variable that the state has not
-pub holds-unknown : (s : State) (f : Fact) → length s ≤ f .variable → holds s f ≡ false
-unfolding holds
-holds-unknown s f h = rw (le-ltb (f .variable) (length s) h)
-
--- one word fewer is left after the first
-one-fewer : (i end : ℕ) → i < end → end - i ≡ suc (end - (i + 1))
-one-fewer i end h = omega arith
-
--- at the end no word is left
-none-left : (i end : ℕ) → end ≤ i → end - i ≡ zero
-none-left i end h = omega arith
-
--- from the end on there is no fact
-pub facts-over : (w : List ℕ) (i end : ℕ) → end ≤ i → facts w i end ≡ []
-unfolding facts table
-facts-over w i end h = rw (none-left i end h)
-
--- before the end, the fact here comes first
-pub facts-next : (w : List ℕ) (i end : ℕ) → i < end → facts w i end ≡ fact-of (word w i) ∷ facts w (i + 1) end
-unfolding facts table
-facts-next w i end h = rw (one-fewer i end h)
 
 -- from the end on nothing is written
 pub assign-over : (s : State) (w : List ℕ) (i end : ℕ) → end ≤ i → assign s (facts w i end) ≡ s

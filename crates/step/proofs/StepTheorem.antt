@@ -5,14 +5,14 @@ use Prim.Native.Nat.{ℕ, _≤_, _<_}
 use native.Mathlib.Omega.{arith}
 use mathlib.Core.Path.{_≡_, refl, sym, _∙_, ap}
 use mathlib.Core.Logic.{_≢_}
-use mathlib.Core.Option.{Option, none, some, Option·some-ne-none}
-use mathlib.Core.List.{List, _++_, List·Memᴰ}
+use mathlib.Core.Option.{Option, none, some}
+use mathlib.Core.List.{List, List·Memᴰ}
 use lib.ListN.{length, getD}
 use borrow.Author.Tests.{leb-false}
 use Rattle.common.specs.Refusal.{Told}
-use Rattle.common.specs.Check.{Check, answer}
+use Rattle.common.specs.Check.{answer}
 use Rattle.common.proofs.PlaceLaws.{when-nowhere}
-use Rattle.common.proofs.CheckLaws.{none-fires, answer-first, answer-second}
+use Rattle.common.proofs.CheckLaws.{none-fires, answer-second, first-none}
 use Rattle.sas.specs.Task.{Fact}
 use Rattle.sas.specs.Plan.{assign}
 use Rattle.sas.specs.WellFormed.{Rising}
@@ -37,11 +37,6 @@ pub record After (w s : List ℕ) (a : ℕ) : Type 0 where
   pub past : (v : ℕ) → variables w ≤ v → getD (state-after w s a) v 0 ≡ getD s v 0
   -- and no value is added or lost
   pub complete : length (state-after w s a) ≡ length s
-
--- of two lists of checks that answer nothing, the first answers nothing
-first-none : (cs ds : List Check) (t : Option Told) → answer (cs ++ ds) ≡ none → answer cs ≡ t → answer cs ≡ none
-first-none cs ds none h e = e
-first-none cs ds (some t) h e = absurd (Option·some-ne-none _ (sym (answer-first cs ds e) ∙ h))
 
 module _ (w s : List ℕ) (a : ℕ) where
   refused-state : (t : Told) → answer (step-checks w s a) ≡ some t → state-after w s a ≡ s

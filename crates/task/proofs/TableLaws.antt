@@ -1,14 +1,17 @@
--- A table's length, its element at an index, and its members, by induction on its length. Assumes nothing.
+-- A table's length, its element at an index, and its members, by induction on its length; and the facts among a task's words, which are a table,
+-- by the cases of a loop over them. Assumes nothing.
 use Prim.Native.Nat.{ℕ, zero, suc, _+_, _≤_, _<_}
 use native.Mathlib.Omega.{arith}
 use mathlib.Core.Path.{_≡_, refl, ap}
 use mathlib.Core.Logic.{⊎-elim}
 use mathlib.Core.Bool.{Bool, true, false}
-use mathlib.Core.List.{[], _∷_, List·Memᴰ, List·Memᴰ·head, List·Memᴰ·tail, List·Memᴰ·not-nil, List·Memᴰ·cases-cons}
+use mathlib.Core.List.{List, [], _∷_, List·Memᴰ, List·Memᴰ·head, List·Memᴰ·tail, List·Memᴰ·not-nil, List·Memᴰ·cases-cons}
 use lib.ListN.{length, getD}
 use lib.Dec.{eqb}
 use borrow.Author.Tests.{eqb-true, eqb-false}
-use Rattle.task.specs.Decode.{table}
+use Rattle.common.proofs.PlaceLaws.{one-fewer, none-left}
+use Rattle.task.specs.Layout.{word}
+use Rattle.task.specs.Decode.{table, fact-of, facts}
 
 module _ {A : Type 0} (f : ℕ → A) where
   pub table-nothing : (i : ℕ) → table f i zero ≡ []
@@ -50,3 +53,13 @@ module _ {A : Type 0} (f : ℕ → A) where
       (λ here. (i, omega arith, omega arith, here))
       (λ later. let (k, low, high, e) = table-member-at (i + 1) n later in (k, omega arith, omega arith, e))
       (List·Memᴰ·cases-cons m)
+
+-- from the end on there is no fact
+pub facts-over : (w : List ℕ) (i end : ℕ) → end ≤ i → facts w i end ≡ []
+unfolding facts table
+facts-over w i end h = rw (none-left i end h)
+
+-- before the end, the fact here comes first
+pub facts-next : (w : List ℕ) (i end : ℕ) → i < end → facts w i end ≡ fact-of (word w i) ∷ facts w (i + 1) end
+unfolding facts table
+facts-next w i end h = rw (one-fewer i end h)

@@ -3,7 +3,7 @@ use native.Mathlib.Omega.{arith}
 use mathlib.Core.Path.{sym}
 use borrow.Author.Needs.{needs}
 use Prim.Native.Nat.{_/_}
-use Rattle.step.proofs.FactLaws.{holds-known, holds-unknown}
+use Rattle.sas.proofs.FactLaws.{holds-known, holds-unknown}
 use Rattle.step.proofs.facts.holds.Statement.{statement}
 use Rattle.step.proofs.facts.holds.Tie as tie
 

@@ -1,0 +1,33 @@
+-- What answers, tallies, orders and states are as words. Assumes nothing.
+use Prim.Native.Nat.{ℕ}
+use mathlib.Core.Option.{Option, none, some}
+use mathlib.Core.List.{List, [], _∷_}
+use Rattle.common.specs.Refusal.{Told}
+use Rattle.tally.specs.declared.Tally.{Tally}
+use Rattle.tally.specs.declared.Order.{Order}
+use Rattle.tally.specs.declared.Order.the-variants.{Less, Equal, Greater}
+use Rattle.task.specs.Limits.{limits}
+use Rattle.task.specs.Layout.{word}
+use Rattle.task.specs.Decode.{table}
+
+-- an answer: the number and the place of a refusal, or 0 and 0
+abbrev pub answer-words : Option Told → List ℕ
+answer-words none = 0 ∷ 0 ∷ []
+answer-words (some t) = t .number ∷ t .place ∷ []
+
+-- a tally of two numbers, and its words: the cost, then the steps
+abbrev pub tally-of : ℕ → ℕ → Tally
+tally-of cost steps = record { cost = cost; steps = steps }
+
+abbrev pub tally-words : Tally → List ℕ
+tally-words t = t .cost ∷ t .steps ∷ []
+
+-- which of two tallies is the lower, as a number
+abbrev pub order-number : Order → ℕ
+order-number Less = 0
+order-number Equal = 1
+order-number Greater = 2
+
+-- the state that lent words are: the first 64 of them, 0 past their end
+unfoldable pub lent-state : List ℕ → List ℕ
+lent-state words = table (word words) 0 (limits .variables)

@@ -1,0 +1,61 @@
+// Answers and states in lent words. What does not fit is dropped, and words past what is written stay.
+use common::access::put;
+use common::access::put64;
+use common::access::word;
+use common::refusal::Verdict;
+use step::one::State;
+use task::limits::Task;
+ghost use mathlib.Core.Path.{_≡_};
+ghost use Prim.Native.Nat.{_<_, _^_};
+ghost use mathlib.Core.List.{[], _∷_};
+ghost use lib.Seq.{sets};
+ghost use Rattle.common.specs.Refusal.{told};
+ghost use Rattle.services.specs.Words.{answer-words, lent-state};
+
+// Writes two numbers, the first at index `at`.
+pub(crate) fn write_pair(out: &mut [u64], at: usize, first: u64, second: u64)
+    requires { ⌜ at < 2 ^ 32 ⌝ }
+    ensures { λ _. ⌜ now (out .exit) ≡ sets (now (out .entry)) at (first ∷ second ∷ []) ⌝ }
+{
+    put64(out, at, first);
+    put64(out, at + 1, second);
+}
+
+// Writes the number and the place of a refusal, or 0 and 0.
+pub(crate) fn write_verdict(out: &mut [u64], verdict: Verdict)
+    ensures { λ _. ⌜ now (out .exit) ≡ sets (now (out .entry)) 0 (answer-words (told verdict)) ⌝ }
+{
+    match verdict {
+        Verdict::Passed => write_pair(out, 0, 0, 0),
+        Verdict::Refused(refusal) => write_pair(
+            out,
+            0,
+            refusal.number() as u64,
+            refusal.place() as u64,
+        ),
+    }
+}
+
+// The state that the first words are.
+pub(crate) fn read_state(words: &[u32]) -> State
+    ensures { λ r. ⌜ r .values ≡ lent-state (now (words .entry)) ⌝ }
+{
+    let mut values = [0u32; Task::VARIABLES];
+    let mut v = 0;
+    while v < Task::VARIABLES {
+        values[v] = word(words, v);
+        v += 1;
+    }
+    State { values }
+}
+
+// Writes values from the first word on.
+pub(crate) fn write_values(words: &mut [u32], values: &[u32])
+    ensures { λ _. ⌜ now (words .exit) ≡ sets (now (words .entry)) 0 (now (values .entry)) ⌝ }
+{
+    let mut v = 0;
+    while v < values.len() {
+        put(words, v, word(values, v));
+        v += 1;
+    }
+}

@@ -1,0 +1,76 @@
+// The services as a static library, for programs in other languages: C's names, slices and numbers alone.
+// A slice is passed as its pointer and then its length. What does not fit into a lent slice is dropped.
+// lent: how answers and states go into lent words, and how a state is read from them.
+mod lent;
+
+use crate::lent::read_state;
+use crate::lent::write_pair;
+use crate::lent::write_values;
+use crate::lent::write_verdict;
+use step::one::step;
+use tally::Order;
+use tally::Tally;
+use task::sheet::check_sheet;
+ghost use mathlib.Core.Path.{_≡_};
+ghost use lib.Seq.{sets};
+ghost use Rattle.common.specs.Check.{answer};
+ghost use Rattle.tally.specs.Tally.{one-more, comparison};
+ghost use Rattle.task.specs.Causes.{sheet-checks};
+ghost use Rattle.step.specs.Step.{step-checks, state-after};
+ghost use Rattle.services.specs.Words.{answer-words, tally-of, tally-words, order-number, lent-state};
+
+// Checks a task: the number and the place of its refusal go to `out`, or 0 and 0.
+#[no_mangle]
+pub extern "C" fn hollchiku_check_sheet(words: &[u32], out: &mut [u64])
+    ensures { λ _. ⌜ now (out .exit) ≡ sets (now (out .entry)) 0 (answer-words (answer (sheet-checks (now (words .entry))))) ⌝ }
+{
+    write_verdict(out, check_sheet(words));
+}
+
+// Adds a step to a tally: the cost and the steps after it go to `out`.
+#[no_mangle]
+pub extern "C" fn hollchiku_tally_add(cost: u32, steps: u32, price: u32, out: &mut [u64])
+    ensures { λ _. ⌜ now (out .exit) ≡ sets (now (out .entry)) 0 (tally-words (one-more (tally-of cost steps) price)) ⌝ }
+{
+    let after = Tally { cost, steps }.add(price);
+    write_pair(out, 0, after.cost as u64, after.steps as u64);
+}
+
+// Compares two tallies: 0 where the first is the lower, 1 where they are equal, 2 where the second is.
+#[no_mangle]
+pub extern "C" fn hollchiku_tally_compare(
+    cost_a: u32,
+    steps_a: u32,
+    cost_b: u32,
+    steps_b: u32,
+) -> u32
+    ensures { λ r. ⌜ r ≡ order-number (comparison (tally-of «cost_a» «steps_a») (tally-of «cost_b» «steps_b»)) ⌝ }
+{
+    let first = Tally {
+        cost: cost_a,
+        steps: steps_a,
+    };
+    let second = Tally {
+        cost: cost_b,
+        steps: steps_b,
+    };
+    match first.compare(second) {
+        Order::Less => 0,
+        Order::Equal => 1,
+        Order::Greater => 2,
+    }
+}
+
+// Does one step in a lent state of 64 values: the number and the place of its refusal go to `out`, or 0 and 0.
+#[no_mangle]
+pub extern "C" fn hollchiku_step(words: &[u32], state: &mut [u32], action: u32, out: &mut [u64])
+    ensures state { λ _. ⌜ now (state .exit) ≡ sets (now (state .entry)) 0 (state-after (now (words .entry)) (lent-state (now (state .entry))) action) ⌝ }
+    ensures out { λ _. ⌜ now (out .exit) ≡ sets (now (out .entry)) 0 (answer-words (answer (step-checks (now (words .entry)) (lent-state (now (state .entry))) action))) ⌝ }
+{
+    let stepped = step(words, read_state(state), action);
+    let after = stepped.state;
+    let values = after.values;
+    let verdict = stepped.verdict;
+    write_values(state, &values);
+    write_verdict(out, verdict);
+}
