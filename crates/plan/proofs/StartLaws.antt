@@ -1,26 +1,25 @@
 -- The starting values are stored one by one: by the cases of a loop over the variables. Assumes nothing.
--- a state with the starting values of the variables from v up to n stored in it
 use Prim.Native.Nat.{ℕ, _+_, _-_, _≤_, _<_}
-use native.Mathlib.Numerals.{add-one}
 use mathlib.Core.Path.{_≡_}
 use mathlib.Core.List.{List}
 use lib.ListN.{set}
 use lib.Seq.{sets}
-use Rattle.common.proofs.PlaceLaws.{one-fewer, none-left}
 use native.Mathlib.Nat.{sub-zero}
 use Rattle.task.specs.Layout.{variables, start}
 use Rattle.task.specs.Decode.{table, initial}
+use Rattle.task.proofs.TableLaws.{stores-over, stores-next}
 
+-- a state with the starting values of the variables from v up to n stored in it
 unfoldable pub started : List ℕ → List ℕ → ℕ → ℕ → List ℕ
 started w values v n = sets values v (table (start w) v (n - v))
 
 pub started-over : (w values : List ℕ) (v n : ℕ) → n ≤ v → started w values v n ≡ values
-unfolding started table
-started-over w values v n h = rw (none-left v n h)
+unfolding started
+started-over w values v n h = stores-over (start w) values v n h
 
 pub started-more : (w values : List ℕ) (v n : ℕ) → v < n → started w values v n ≡ started w (set values v (start w v)) (v + 1) n
-unfolding started table
-started-more w values v n h = rw (one-fewer v n h, add-one)
+unfolding started
+started-more w values v n h = stores-next (start w) values v n h
 
 -- from the first variable on, all of them are
 pub started-whole : (w values : List ℕ) (n : ℕ) → n ≡ variables w → started w values 0 n ≡ sets values 0 (initial w)

@@ -1,6 +1,5 @@
 -- A walk along a plan, by the cases of its loop: from each position on it finds what the whole walk finds, and so what it hands back is right.
 -- Assumes nothing.
--- where the walk stands before position i + 1, with the state and the tally that it has there
 use Prim.Native.Nat.{ℕ, _+_, _≤_, _<_}
 use native.Mathlib.Omega.{arith}
 use mathlib.Core.Path.{_≡_, refl, sym, _∙_}
@@ -19,6 +18,7 @@ use Rattle.plan.specs.Valid.{steps, fault, final}
 use Rattle.plan.specs.Walk.{Walks}
 use Rattle.plan.proofs.ValidLaws.{fault-here, fault-more, fault-goal, final-more, final-over, after-more, after-over}
 
+-- where the walk stands before position i + 1, with the state and the tally that it has there
 pub record Along (w l s : List ℕ) (i : ℕ) (values : List ℕ) (tally : Tally) : Type 0 where
   pub reached : i ≤ length l
   pub place : fault (goal w) values (i + 1) (steps w (drop i l)) ≡ fault (goal w) s 1 (steps w l)

@@ -3,14 +3,19 @@ use common::access::put;
 use common::access::put64;
 use common::access::word;
 use common::refusal::Verdict;
+use plan::check::Answer;
 use step::one::State;
 use task::limits::Task;
 ghost use mathlib.Core.Path.{_≡_};
 ghost use Prim.Native.Nat.{_<_, _^_};
-ghost use mathlib.Core.List.{[], _∷_};
+ghost use mathlib.Core.List.{[], _∷_, _++_};
 ghost use lib.Seq.{sets};
 ghost use Rattle.common.specs.Refusal.{told};
-ghost use Rattle.services.specs.Words.{answer-words, lent-state};
+ghost use Rattle.plan.specs.Checked.{told-answer, told-tally};
+ghost use Rattle.services.specs.Words.{answer-words, tally-words, lent-state};
+
+// Where the tally of a plan stands, after the refusal's number and place.
+const TALLY_AT: usize = 2;
 
 // Writes two numbers, the first at index `at`.
 pub(crate) fn write_pair(out: &mut [u64], at: usize, first: u64, second: u64)
@@ -33,6 +38,22 @@ pub(crate) fn write_verdict(out: &mut [u64], verdict: Verdict)
             refusal.number() as u64,
             refusal.place() as u64,
         ),
+    }
+}
+
+// Writes the answer to a plan: the number and the place of a refusal, or 0 and 0, then the cost and the steps.
+pub(crate) fn write_answer(out: &mut [u64], given: Answer)
+    ensures { λ _. ⌜ now (out .exit) ≡ sets (now (out .entry)) 0 (answer-words (told-answer given) ++ tally-words (told-tally given)) ⌝ }
+{
+    match given {
+        Answer::Valid(tally) => {
+            write_pair(out, 0, 0, 0);
+            write_pair(out, TALLY_AT, tally.cost as u64, tally.steps as u64);
+        }
+        Answer::Refused(refusal) => {
+            write_pair(out, 0, refusal.number() as u64, refusal.place() as u64);
+            write_pair(out, TALLY_AT, 0, 0);
+        }
     }
 }
 

@@ -4,19 +4,23 @@
 mod lent;
 
 use crate::lent::read_state;
+use crate::lent::write_answer;
 use crate::lent::write_pair;
 use crate::lent::write_values;
 use crate::lent::write_verdict;
+use plan::check::check_plan;
 use step::one::step;
 use tally::Order;
 use tally::Tally;
 use task::sheet::check_sheet;
 ghost use mathlib.Core.Path.{_≡_};
+ghost use mathlib.Core.List.{_++_};
 ghost use lib.Seq.{sets};
 ghost use Rattle.common.specs.Check.{answer};
 ghost use Rattle.tally.specs.Tally.{one-more, comparison};
 ghost use Rattle.task.specs.Causes.{sheet-checks};
 ghost use Rattle.step.specs.Step.{step-checks, state-after};
+ghost use Rattle.plan.specs.Checked.{plan-checks, tally-of as plan-tally, end-state};
 ghost use Rattle.services.specs.Words.{answer-words, tally-of, tally-words, order-number, lent-state};
 
 // Checks a task: the number and the place of its refusal go to `out`, or 0 and 0.
@@ -73,4 +77,23 @@ pub extern "C" fn hollchiku_step(words: &[u32], state: &mut [u32], action: u32, 
     let verdict = stepped.verdict;
     write_values(state, &values);
     write_verdict(out, verdict);
+}
+
+// Checks a plan of a task: the number and the place of its refusal, or 0 and 0, then its cost and steps go to `out`, and the end state to the lent state.
+#[no_mangle]
+pub extern "C" fn hollchiku_check_plan(
+    words: &[u32],
+    plan: &[u32],
+    state: &mut [u32],
+    out: &mut [u64],
+)
+    ensures state { λ _. ⌜ now (state .exit) ≡ sets (now (state .entry)) 0 (end-state (now (words .entry)) (now (plan .entry))) ⌝ }
+    ensures out { λ _. ⌜ now (out .exit) ≡ sets (now (out .entry)) 0 (answer-words (answer (plan-checks (now (words .entry)) (now (plan .entry)))) ++ tally-words (plan-tally (now (words .entry)) (now (plan .entry)))) ⌝ }
+{
+    let checked = check_plan(words, plan);
+    let end = checked.state;
+    let values = end.values;
+    let given = checked.answer;
+    write_values(state, &values);
+    write_answer(out, given);
 }

@@ -1,6 +1,5 @@
 -- An action is done just where none of its precondition facts is found to fail, and the goal holds just where none of its facts is. What the code calls is
 -- a variable here, with what is known of it as a premise. Assumes nothing.
--- an action can be done just where none of its precondition facts is found to fail
 use Prim.Native.Nat.{ℕ}
 use mathlib.Core.Path.{_≡_, refl, sym, _∙_, ap}
 use mathlib.Core.Bool.{true, false}
@@ -14,6 +13,7 @@ use Rattle.step.specs.Failing.{failing-place}
 use Rattle.step.specs.Advance.{Advances}
 use Rattle.step.proofs.FactLaws.{nowhere, satisfied}
 
+-- an action can be done just where none of its precondition facts is found to fail
 applicable-place : (w s : List ℕ) (a from to : ℕ) (p : Place) → from ≡ precondition-start w a → to ≡ effect-start w a → p ≡ failing-place w s from to → applicable s (action w a) ≡ nowhere p
 unfolding applicable action
 applicable-place w s a from to p e e′ found = satisfied w s (precondition-start w a) (effect-start w a) ∙ rw (← e′, ← e, ← found)

@@ -1,6 +1,5 @@
 -- What one step answers on each of its ways: an unknown action, a precondition that fails, a step that is done; and how the sheet's checks come before.
 -- What the code calls is a variable here, with what is known of it as a premise. Assumes nothing.
--- check 9 fires
 use Prim.Native.Nat.{ℕ, _≤_, _<_}
 use mathlib.Core.Path.{_≡_, refl, sym, _∙_, ap}
 use mathlib.Core.Bool.{Bool, true, false, not}
@@ -22,6 +21,7 @@ use Rattle.task.specs.Causes.{sheet-checks}
 use Rattle.step.specs.Advance.{Advances}
 use Rattle.step.specs.Step.{own-checks, step-checks, state-after, Steps, Tries}
 
+-- check 9 fires
 own-unknown : (w s : List ℕ) (a : ℕ) → actions w ≤ a → answer (own-checks w s a) ≡ some (record { number = 9; place = 1 })
 unfolding own-checks
 own-unknown w s a h = answer-fires _ _ 1 (rw (le-leb (actions w) a h))

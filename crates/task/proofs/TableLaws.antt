@@ -1,12 +1,14 @@
 -- A table's length, its element at an index, and its members, by induction on its length; and the facts among a task's words, which are a table,
--- by the cases of a loop over them. Assumes nothing.
-use Prim.Native.Nat.{ℕ, zero, suc, _+_, _≤_, _<_}
+-- by the cases of a loop over them, and so a run of stores of a table. Assumes nothing.
+use Prim.Native.Nat.{ℕ, zero, suc, _+_, _-_, _≤_, _<_}
+use native.Mathlib.Numerals.{add-one}
 use native.Mathlib.Omega.{arith}
-use mathlib.Core.Path.{_≡_, refl, ap}
+use mathlib.Core.Path.{_≡_, refl, _∙_, ap}
 use mathlib.Core.Logic.{⊎-elim}
 use mathlib.Core.Bool.{Bool, true, false}
-use mathlib.Core.List.{List, [], _∷_, List·Memᴰ, List·Memᴰ·head, List·Memᴰ·tail, List·Memᴰ·not-nil, List·Memᴰ·cases-cons}
-use lib.ListN.{length, getD}
+use mathlib.Core.List.{List, [], _∷_, List·Memᴰ, List·Memᴰ·head, List·Memᴰ·tail, List·Memᴰ·not-nil, List·Memᴰ·cases-cons, append-nil}
+use lib.ListN.{length, getD, set, drop, drop-of-length-le}
+use lib.Seq.{sets, sets-eq}
 use lib.Dec.{eqb}
 use borrow.Author.Tests.{eqb-true, eqb-false}
 use Rattle.common.proofs.PlaceLaws.{one-fewer, none-left}
@@ -63,3 +65,19 @@ facts-over w i end h = rw (none-left i end h)
 pub facts-next : (w : List ℕ) (i end : ℕ) → i < end → facts w i end ≡ fact-of (word w i) ∷ facts w (i + 1) end
 unfolding facts table
 facts-next w i end h = rw (one-fewer i end h)
+
+-- from the end on nothing is stored
+pub stores-over : (f : ℕ → ℕ) (l : List ℕ) (i end : ℕ) → end ≤ i → sets l i (table f i (end - i)) ≡ l
+stores-over f l i end h = rw (none-left i end h, table-nothing f i)
+
+-- before the end, the value here is stored first
+pub stores-next : (f : ℕ → ℕ) (l : List ℕ) (i end : ℕ) → i < end
+    → sets l i (table f i (end - i)) ≡ sets (set l i (f i)) (i + 1) (table f (i + 1) (end - (i + 1)))
+stores-next f l i end h = rw (one-fewer i end h, table-more f i (end - (i + 1)), add-one i)
+
+-- a table stored over as many words is all that is left
+pub stores-whole : (f : ℕ → ℕ) (l : List ℕ) (n : ℕ) → length l ≡ n → sets l 0 (table f 0 n) ≡ table f 0 n
+stores-whole f l n e =
+    let long : length (table f 0 n) ≡ n = table-length f 0 n in
+    let none-after : drop (0 + length (table f 0 n)) l ≡ [] = drop-of-length-le l {i = 0 + length (table f 0 n)} (omega arith) in
+    sets-eq (table f 0 n) l 0 (omega arith) ∙ rw (none-after, append-nil)

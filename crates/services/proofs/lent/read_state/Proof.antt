@@ -9,7 +9,7 @@ use Rattle.task.specs.Limits.{limits}
 use Rattle.task.specs.Layout.{word}
 use Rattle.task.specs.Decode.{table}
 use Rattle.services.specs.Words.{lent-state}
-use Rattle.services.proofs.LentLaws.{table-over, table-next, table-stored}
+use Rattle.task.proofs.TableLaws.{stores-over, stores-next, stores-whole}
 use Rattle.services.proofs.lent.read_state.Statement.{statement}
 use Rattle.services.proofs.lent.read_state.Tie as tie
 
@@ -21,7 +21,7 @@ abbrev μ-loop : tie.MeasureT-loop
 
 loop-holds : tie.Need-loop-holds Inv-loop μ-loop
 unfolding lent-state
-loop-holds c = table-stored _ (replicate (limits .variables) 0) _ refl
+loop-holds c = stores-whole _ (replicate (limits .variables) 0) _ refl
 
 word-requires : tie.Need-word-requires Inv-loop μ-loop
 word-requires c κs = search needs
@@ -39,10 +39,10 @@ loop-less : tie.Need-loop-less Inv-loop μ-loop
 loop-less c = search needs
 
 loop-again : tie.Need-loop-again Inv-loop μ-loop
-loop-again c = cc (table-next (word (c .before .before .before .before .args .words .now)) (c .before .before .loop .values) (c .before .before .loop .v) (limits .variables) (c .before .loop-test .taken))
+loop-again c = cc (stores-next (word (c .before .before .before .before .args .words .now)) (c .before .before .loop .values) (c .before .before .loop .v) (limits .variables) (c .before .loop-test .taken))
 
 returns : tie.Need-returns Inv-loop μ-loop
-returns c = sym (table-over _ _ _ _ (c .loop-test .left)) ∙ c .before .loop .inv
+returns c = sym (stores-over _ _ _ _ (c .loop-test .left)) ∙ c .before .loop .inv
 
 pub read-state-spec : {M : Type 1} → statement M
 read-state-spec =
