@@ -63,8 +63,13 @@ module _ (w l s : List ℕ) (i : ℕ) (values : List ℕ) (tally : Tally) (along
       }
 
   -- the goal is not met
-  pub walks-unmet : (holds : Bool) (r : Walked) → length l ≤ i → holds ≡ satisfies values (goal w) → holds ≡ false → r .fault ≡ At (i + 1) → Walks w l s r
+  pub walks-unmet : (holds : Bool) (r : Walked) → length l ≤ i → holds ≡ satisfies values (goal w) → holds ≡ false → r .fault ≡ At (length l + 1) → Walks w l s r
   walks-unmet holds r past test is found =
       let unmet : satisfies values (goal w) ≡ false = sym test ∙ is in
+      let last : length l ≡ i = omega (arith, along .reached) in
       let place : At (i + 1) ≡ fault (goal w) s 1 (steps w l) = sym (fault-goal w l (goal w) values i past ∙ rw unmet) ∙ along .place in
-      record { place = found ∙ place; tally = λ nowhere. absurd (elsewhere r (i + 1) found nowhere); values = λ nowhere. absurd (elsewhere r (i + 1) found nowhere) }
+      record {
+        place = found ∙ rw last place;
+        tally = λ nowhere. absurd (elsewhere r (length l + 1) found nowhere);
+        values = λ nowhere. absurd (elsewhere r (length l + 1) found nowhere);
+      }

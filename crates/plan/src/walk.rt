@@ -42,7 +42,7 @@ pub fn walk(words: &[u32], plan: &[u32], start: [u32; Task::VARIABLES]) -> Walke
         };
     }
     Walked {
-        fault: Place::At(i + 1),
+        fault: Place::At(plan.len() + 1),
         tally,
         values,
     }

@@ -61,8 +61,8 @@ goal-holds-requires c κs = search needs
 returns-2 : tie.Need-returns-2 Inv-loop μ-loop
 returns-2 c = walks-valid _ _ _ _ _ _ (c .before .before .before .before .loop .inv .1) _ _ (c .before .before .before .loop-test .left) (c .before .goal-holds .ensures) (c .if2 .taken) refl refl refl
 
-add-t24 : tie.Need-add-t24 Inv-loop μ-loop
-add-t24 c = search needs
+add-t25 : tie.Need-add-t25 Inv-loop μ-loop
+add-t25 c = search needs
 
 returns-3 : tie.Need-returns-3 Inv-loop μ-loop
 returns-3 c = walks-unmet _ _ _ _ _ _ (c .before .before .before .before .loop .inv .1) _ _ (c .before .before .before .loop-test .left) (c .before .goal-holds .ensures) (c .if2 .left) refl
@@ -89,5 +89,5 @@ walk-spec =
     slice-aggregate-goal-holds
     goal-holds-requires
     returns-2
-    add-t24
+    add-t25
     returns-3)
