@@ -1,6 +1,6 @@
 -- The place of cause 6: in the first group that has a bad fact. Assumes nothing.
 use Prim.Native.Nat.{ℕ}
-use mathlib.Core.Path.{_≡_, refl}
+use mathlib.Core.Path.{_≡_}
 use mathlib.Core.List.{List}
 use Rattle.common.specs.declared.place.Place.the-variants.{Nowhere, At}
 use Rattle.common.specs.Place.{first-of}

@@ -1,6 +1,6 @@
 -- The offset due in a pair, by whether it is the first, and the place of cause 4, by whether the pairs fit. Assumes nothing.
 use Prim.Native.Nat.{ℕ, _-_, _≤_, _<_}
-use mathlib.Core.Path.{_≡_, refl}
+use mathlib.Core.Path.{_≡_}
 use mathlib.Core.List.{List}
 use borrow.Author.Tests.{eq-eqb, ne-eqb, lt-ltb, le-ltb}
 use Rattle.common.specs.declared.place.Place.the-variants.{At}

@@ -12,7 +12,6 @@ use crate::limits::Task;
 use crate::variables::domain;
 use common::place::Place;
 ghost use mathlib.Core.Path.{_≡_};
-ghost use Prim.Native.Nat.{_<_, _≤_, _^_};
 ghost use Rattle.common.specs.Place.{first-of};
 ghost use Rattle.task.specs.Layout.{actions as actions-of};
 ghost use Rattle.task.specs.Causes.{bad-fact, group-place, action-place, fact-place};
@@ -55,11 +54,13 @@ fn bad_in_group(w: &[u32], from: usize, end: usize) -> Place
 fn bad_in_action(w: &[u32], a: u32) -> Place
     ensures { λ r. ⌜ r ≡ action-place (now (w .entry)) a ⌝ }
 {
+    let precondition = precondition_at(w, a);
     let effect = effect_at(w, a);
-    let found = bad_in_group(w, precondition_at(w, a), effect);
+    let end = action_end(w, a);
+    let found = bad_in_group(w, precondition, effect);
     match found {
         Place::At(i) => Place::At(i),
-        Place::Nowhere => bad_in_group(w, effect, action_end(w, a)),
+        Place::Nowhere => bad_in_group(w, effect, end),
     }
 }
 

@@ -1,7 +1,7 @@
 // Where the parts of a task stand among its words. Each function is safe for any words: what a word lacks reads as 0.
 use common::access::word;
 ghost use mathlib.Core.Path.{_≡_};
-ghost use Prim.Native.Nat.{_<_, _≤_, _+_, _*_, _^_};
+ghost use Prim.Native.Nat.{_<_, _≤_, _^_};
 ghost use Rattle.task.specs.Layout.{word as word-at, variables as variables-of, actions as actions-of, offset as offset-of, size as size-of, goal-start, goal-end as goal-end-of, cost-word, precondition-start, effect-start, effect-end};
 
 // The words of the header, and the pair where the actions begin.

@@ -1,5 +1,4 @@
 -- `check_parts` meets its contract: each check that passed leaves the rest of the list, and the first that fires answers. Assumes nothing.
--- the words that are checked
 use Prim.Native.Nat.{ℕ}
 use mathlib.Core.List.{List}
 use lib.ListN.{drop}
@@ -11,6 +10,7 @@ use borrow.Author.Needs.{needs}
 use Rattle.task.proofs.sheet.check_parts.Statement.{statement}
 use Rattle.task.proofs.sheet.check_parts.Tie as tie
 
+-- the words that are checked
 abbrev words : tie.Start → List ℕ
 words c = c .args .w .now
 
