@@ -1,31 +1,17 @@
--- What a valid list does, reductions of reductions, and that a strike raises neither the number of steps nor the cost. By one walk along the
+-- Reductions of reductions, and that a strike raises neither the number of steps nor the cost. By one walk along the
 -- reductions; where a Boolean is missing its step counts as struck, so that few laws ask for the length. Assumes nothing.
 use Prim.Native.Nat.{ℕ, zero, suc, _≤_, _<_}
 use native.Mathlib.Omega.{arith}
 use mathlib.Core.Path.{_≡_, refl, sym, _∙_, ap}
 use mathlib.Core.Bool.{Bool, true, false, true≢false, false≢true}
-use mathlib.Core.Option.{Option, none, some}
 use mathlib.Core.List.{List, [], _∷_}
 use lib.ListN.{length, getD, set, getD-replicate, List·getD-eq-default}
 use lib.Seq.{getD-set-other}
 use lib.Dec.{ltb, eqb}
 use borrow.Author.Tests.{ltb-true, ltb-false, eqb-true, eqb-false}
 use Rattle.sas.specs.Task.{Assignment, State, Action}
-use Rattle.sas.specs.Plan.{satisfies, run, cost}
-use Rattle.reduction.specs.Reduction.{Reduction, keeps, kept, count, whole, valid, Valid-reduction}
-
--- a valid list runs, to a state in which the goal holds
-pub valid-runs : (s : State) (goal : Assignment) (p : List Action) → valid s goal p ≡ true → (t : State) × (run s p ≡ some t) × (satisfies t goal ≡ true)
-unfolding valid
-valid-runs s goal p h = by-case (run s p) refl
-  where
-    by-case : (r : Option State) → run s p ≡ r → (t : State) × (run s p ≡ some t) × (satisfies t goal ≡ true)
-    by-case none e = absurd (false≢true (rw (e, valid) at h))
-    by-case (some t) e = (t, e, rw (e, valid) at h)
-
-pub runs-valid : (s t : State) (goal : Assignment) (p : List Action) → run s p ≡ some t → valid s goal p ≡ satisfies t goal
-unfolding valid
-runs-valid s t goal p h = rw (h, valid)
+use Rattle.sas.specs.Plan.{cost}
+use Rattle.reduction.specs.Reduction.{Reduction, keeps, kept, count, whole, Valid-reduction}
 
 pub kept-whole : {A : Type 0} (p : List A) → kept (whole p) p ≡ p
 unfolding kept
