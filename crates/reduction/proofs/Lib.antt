@@ -10,3 +10,7 @@ pub mod WantedLaws
 pub mod LandmarksKept
 -- LandmarkTheorem: the steps flagged are the landmarks, and every valid reduction keeps them.
 pub mod LandmarkTheorem
+-- TrialLaws: what a walk and a successful trial leave.
+pub mod TrialLaws
+-- EliminationTheorem: what the eliminations leave is valid, and no trial succeeds on what greedy elimination leaves.
+pub mod EliminationTheorem
