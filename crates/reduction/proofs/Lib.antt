@@ -14,3 +14,5 @@ pub mod LandmarkTheorem
 pub mod TrialLaws
 -- EliminationTheorem: what the eliminations leave is valid, and no trial succeeds on what greedy elimination leaves.
 pub mod EliminationTheorem
+-- Worked: the definitions on the worked lists of document 01.
+pub mod Worked
