@@ -69,7 +69,8 @@ pub data Wanted-by (goal : Assignment) (p : List Action) (m : Reduction) (f : Fa
   by-goal : List·Memᴰ f goal → Unwritten p (length p) f → Wanted-by goal p m f
   by-step : (j : ℕ) → keeps m j → needs (step p j) f → Unwritten p j f → Wanted-by goal p m f
 
-wanted-later : {goal : Assignment} {f : Fact} (a : Action) (p : List Action) (m : Reduction) → (may-write a f → ⊥) → Wanted-by goal p (drop 1 m) f → Wanted-by goal (a ∷ p) m f
+wanted-later : {goal : Assignment} {f : Fact} (a : Action) (p : List Action) (m : Reduction) → (may-write a f → ⊥)
+    → Wanted-by goal p (drop 1 m) f → Wanted-by goal (a ∷ p) m f
 wanted-later a p m first (by-goal g u) = by-goal g (unwritten-more a p first u)
 wanted-later a p m first (by-step j k need u) = by-step (suc j) (rw keeps-later at k) need (unwritten-more a p first u)
 
