@@ -87,11 +87,14 @@ valid-shortens {p = p} {m = m} v =
 
 module _ (s : State) (goal : Assignment) (p : List Action) where
   pub eliminate-shortens : valid s goal p ≡ true → Shortens s goal p (eliminate s goal p)
+  unfolding eliminate
   eliminate-shortens v = valid-shortens (eliminated-valid s goal p v (length p))
 
   pub greedy-shortens : valid s goal p ≡ true → Shortens s goal p (greedy s goal p)
+  unfolding greedy
   greedy-shortens v = valid-shortens (rounds-valid s goal p (length p) (whole p) (whole-valid s goal p v))
 
   -- greedy elimination ends: no trial succeeds on what it leaves
   pub greedy-ends : (i : ℕ) → trial s goal p (greedy s goal p) i ≡ none
+  unfolding greedy
   greedy-ends = rounds-end s goal p (length p) (whole p) (length-replicate (length p) true) (omega (arith, count-whole p))

@@ -67,4 +67,5 @@ kept-behind held s goal (a ∷ p) (false ∷ r) unheld fits v (suc i) k = kept-b
 -- every valid reduction keeps every flagged step
 pub flags-kept : (s : State) (goal : Assignment) (p : List Action) (m : Reduction) → length m ≡ length p → valid s goal (kept m p) ≡ true
     → Contains m (landmarks s goal p)
+unfolding landmarks
 flags-kept s goal p m = kept-behind (holds s) s goal p m (λ f unheld. unheld)

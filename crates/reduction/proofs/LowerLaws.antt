@@ -1,5 +1,5 @@
--- `lower` read as numbers, and that it is a strict order in which a list not lower than another is not lower than what is lower still. By the cases of
--- cost and length. Assumes nothing.
+-- `lower` orders lists by cost, then length: what it says in numbers, and that what is lower than a list is lower than every list that is not lower than
+-- that one. By the cases of cost and length. Assumes nothing.
 use Prim.Native.Nat.{_≤_, _<_}
 use native.Mathlib.Omega.{arith}
 use mathlib.Core.Path.{_≡_, refl, sym}
@@ -19,12 +19,12 @@ Lower p q = (cost p < cost q) ⊎ ((cost p ≡ cost q) × (length p < length q))
 
 pub lower-true : (p q : List Action) → lower p q ≡ true → Lower p q
 unfolding lower
-lower-true p q h =
-    ⊎-elim
-    (λ less. inl (ltb-true (cost p) (cost q) less))
-    (λ x. let (same, less) = and-eq-true-iff (eqb (cost p) (cost q)) (ltb (length p) (length q)) .0 x in
-    inr (eqb-true (cost p) (cost q) same, ltb-true (length p) (length q) less))
-    (or-cases (ltb (cost p) (cost q)) (eqb (cost p) (cost q) && ltb (length p) (length q)) h)
+lower-true p q h = ⊎-elim (λ less. inl (ltb-true (cost p) (cost q) less)) (λ x. inr (as-dear x)) (or-cases (ltb (cost p) (cost q)) _ h)
+  where
+    as-dear : (eqb (cost p) (cost q) && ltb (length p) (length q)) ≡ true → (cost p ≡ cost q) × (length p < length q)
+    as-dear x =
+        let (same, less) = and-eq-true-iff (eqb (cost p) (cost q)) (ltb (length p) (length q)) .0 x in
+        (eqb-true (cost p) (cost q) same, ltb-true (length p) (length q) less)
 
 pub true-lower : (p q : List Action) → Lower p q → lower p q ≡ true
 unfolding lower
