@@ -1,47 +1,26 @@
 -- What the eliminations leave of a valid list is a valid reduction of it, for each success is one; and no trial succeeds on what greedy elimination
 -- leaves, for each round that goes on lowers the number of kept steps. Assumes nothing.
-use Prim.Native.Nat.{ℕ, zero, suc, _≤_, _<_}
+use Prim.Native.Nat.{ℕ, zero, suc, _≤_}
 use native.Mathlib.Omega.{arith}
 use mathlib.Core.Path.{_≡_, refl, _∙_}
-use mathlib.Core.Logic.{_⊎_, inl, inr, ⊎-elim}
 use mathlib.Core.Bool.{Bool, true, false}
-use mathlib.Core.Option.{Option, none, some, Option·getD, Option·some-ne-none, Option·none-ne-some}
+use mathlib.Core.Option.{Option, none, some, Option·getD}
 use mathlib.Core.List.{List}
 use lib.ListN.{length, length-replicate, List·getD-eq-default}
 use lib.Dec.{ltb}
 use borrow.Author.Tests.{ltb-true, ltb-false}
 use Rattle.sas.specs.Task.{Assignment, State, Action}
 use Rattle.sas.specs.Plan.{cost}
-use Rattle.reduction.specs.Reduction.{Reduction, kept, count, whole, valid, Valid-reduction, lower}
-use Rattle.reduction.specs.Elimination.{trial, eliminated, eliminate, better, best, rounds, greedy}
+use Rattle.reduction.specs.Reduction.{Reduction, kept, count, whole, valid, Valid-reduction}
+use Rattle.reduction.specs.Elimination.{trial, eliminated, eliminate, best, rounds, greedy}
 use Rattle.reduction.proofs.ReductionLaws.{kept-whole, kept-length, count-whole, left-length, left-cost}
+use Rattle.reduction.proofs.GreedyChoice.{best-none, best-chosen}
 use Rattle.reduction.proofs.TrialLaws.{Succeeds, trial-succeeds, unkept-fails, success-length, success-valid, success-count}
 
 -- what a success leaves of a reduction is a valid reduction
-success-reduction : {s : State} {goal : Assignment} {p : List Action} {m n : Reduction} {i : ℕ} → length m ≡ length p → Succeeds s goal p m i n → Valid-reduction s goal p n
+success-reduction : {s : State} {goal : Assignment} {p : List Action} {m n : Reduction} {i : ℕ} → length m ≡ length p
+    → Succeeds s goal p m i n → Valid-reduction s goal p n
 success-reduction fits t = record { fits = success-length t ∙ fits; valid-left = success-valid t }
-
--- the better of two successes is one of them
-better-either : {k : Reduction} (p : List Action) (x y : Option Reduction) → better p x y ≡ some k → (x ≡ some k) ⊎ (y ≡ some k)
-unfolding better
-better-either p none y h = inr h
-better-either p (some m) none h = inl h
-better-either {k} p (some m) (some n) h = by-case (lower (kept n p) (kept m p)) refl
-  where
-    by-case : (b : Bool) → lower (kept n p) (kept m p) ≡ b → (some m ≡ some k) ⊎ (some n ≡ some k)
-    by-case true e = inr (rw e at h)
-    by-case false e = inl (rw e at h)
-
--- and there is one unless both are missing
-better-neither : (p : List Action) (x y : Option Reduction) → better p x y ≡ none → (x ≡ none) × (y ≡ none)
-unfolding better
-better-neither p none y h = (refl, h)
-better-neither p (some m) none h = absurd (Option·some-ne-none m h)
-better-neither p (some m) (some n) h = by-case (lower (kept n p) (kept m p)) refl
-  where
-    by-case : (b : Bool) → lower (kept n p) (kept m p) ≡ b → (some m ≡ none) × (some n ≡ none)
-    by-case true e = absurd (Option·some-ne-none n (rw e at h))
-    by-case false e = absurd (Option·some-ne-none m (rw e at h))
 
 module _ (s : State) (goal : Assignment) (p : List Action) where
   whole-valid : valid s goal p ≡ true → Valid-reduction s goal p (whole p)
@@ -57,37 +36,17 @@ module _ (s : State) (goal : Assignment) (p : List Action) where
       by-case m none e = rw e m
       by-case m (some k) e = rw e (success-reduction (m .fits) (trial-succeeds s goal p (eliminated s goal p n) n e))
 
-  module _ (m : Reduction) where
-    -- what a round takes is a success
-    best-succeeds : {k : Reduction} (n : ℕ) → best s goal p m n ≡ some k → (i : ℕ) × Succeeds s goal p m i k
-    unfolding best
-    best-succeeds {k} zero h = absurd (Option·none-ne-some k h)
-    best-succeeds {k} (suc n) h =
-        ⊎-elim
-        (best-succeeds n)
-        (λ e. (n, trial-succeeds s goal p m n e))
-        (better-either p (best s goal p m n) (trial s goal p m n) h)
+  -- what a round takes is a success
+  best-succeeds : {k : Reduction} (m : Reduction) → best s goal p m (length p) ≡ some k → (i : ℕ) × Succeeds s goal p m i k
+  best-succeeds m h = let (i, c) = best-chosen s goal p m (length p) h in (i, trial-succeeds s goal p m i (c .success))
 
-    -- where it takes nothing, no trial succeeds
-    none-succeeds : (n : ℕ) → best s goal p m n ≡ none → (i : ℕ) → i < n → trial s goal p m i ≡ none
-    unfolding best
-    none-succeeds zero h i below = absurd (omega arith)
-    none-succeeds (suc n) h i below = by-case (none-succeeds n) (ltb i n) refl
-      where
-        before-at : (best s goal p m n ≡ none) × (trial s goal p m n ≡ none)
-        before-at = better-neither p (best s goal p m n) (trial s goal p m n) h
-
-        by-case : (best s goal p m n ≡ none → (i : ℕ) → i < n → trial s goal p m i ≡ none) → (b : Bool) → ltb i n ≡ b → trial s goal p m i ≡ none
-        by-case rest true e = rest (before-at .0) i (ltb-true i n e)
-        by-case rest false e = let last : i ≡ n = omega (arith, ltb-false i n e) in rw last (before-at .1)
-
-    -- at an index past the list nothing is kept, so no trial at all succeeds
-    none-succeeds-anywhere : length m ≡ length p → best s goal p m (length p) ≡ none → (i : ℕ) → trial s goal p m i ≡ none
-    none-succeeds-anywhere fits h i = by-case (ltb i (length p)) refl
-      where
-        by-case : (b : Bool) → ltb i (length p) ≡ b → trial s goal p m i ≡ none
-        by-case true e = none-succeeds (length p) h i (ltb-true i (length p) e)
-        by-case false e = unkept-fails s goal p m i (List·getD-eq-default m false (omega (arith, ltb-false i (length p) e)))
+  -- and where it takes nothing, no trial succeeds, nor is there a step to try past the list
+  none-succeeds : (m : Reduction) → length m ≡ length p → best s goal p m (length p) ≡ none → (i : ℕ) → trial s goal p m i ≡ none
+  none-succeeds m fits h i = by-case (ltb i (length p)) refl
+    where
+      by-case : (b : Bool) → ltb i (length p) ≡ b → trial s goal p m i ≡ none
+      by-case true e = best-none s goal p m (length p) h i (ltb-true i (length p) e)
+      by-case false e = unkept-fails s goal p m i (List·getD-eq-default m false (omega (arith, ltb-false i (length p) e)))
 
   rounds-valid : (n : ℕ) (m : Reduction) → Valid-reduction s goal p m → Valid-reduction s goal p (rounds s goal p n m)
   unfolding rounds
@@ -97,7 +56,7 @@ module _ (s : State) (goal : Assignment) (p : List Action) where
       by-case : ((k : Reduction) → Valid-reduction s goal p k → Valid-reduction s goal p (rounds s goal p n k)) → (r : Option Reduction) → best s goal p m (length p) ≡ r
           → Valid-reduction s goal p (rounds s goal p (suc n) m)
       by-case rest none e = rw (e, rounds) v
-      by-case rest (some k) e = rw (e, rounds) (rest k (success-reduction (v .fits) (best-succeeds m (length p) e .1)))
+      by-case rest (some k) e = rw (e, rounds) (rest k (success-reduction (v .fits) (best-succeeds m e .1)))
 
   -- rounds that are no fewer than the kept steps end with one without success
   rounds-end : (n : ℕ) (m : Reduction) → length m ≡ length p → count m ≤ n → (i : ℕ) → trial s goal p (rounds s goal p n m) i ≡ none
@@ -111,9 +70,9 @@ module _ (s : State) (goal : Assignment) (p : List Action) where
     where
       by-case : ((k : Reduction) → length k ≡ length p → count k ≤ n → (i : ℕ) → trial s goal p (rounds s goal p n k) i ≡ none)
           → (r : Option Reduction) → best s goal p m (length p) ≡ r → (i : ℕ) → trial s goal p (rounds s goal p (suc n) m) i ≡ none
-      by-case rest none e = rw (e, rounds) (none-succeeds-anywhere m fits e)
+      by-case rest none e = rw (e, rounds) (none-succeeds m fits e)
       by-case rest (some k) e =
-          let (j, t) = best-succeeds m (length p) e in
+          let (j, t) = best-succeeds m e in
           rw (e, rounds) (rest k (success-length t ∙ fits) (omega (arith, success-count t)))
 
 -- what an elimination does to a valid list: what it leaves is valid, no longer and no dearer
@@ -128,11 +87,14 @@ valid-shortens {p = p} {m = m} v =
 
 module _ (s : State) (goal : Assignment) (p : List Action) where
   pub eliminate-shortens : valid s goal p ≡ true → Shortens s goal p (eliminate s goal p)
+  unfolding eliminate
   eliminate-shortens v = valid-shortens (eliminated-valid s goal p v (length p))
 
   pub greedy-shortens : valid s goal p ≡ true → Shortens s goal p (greedy s goal p)
+  unfolding greedy
   greedy-shortens v = valid-shortens (rounds-valid s goal p (length p) (whole p) (whole-valid s goal p v))
 
   -- greedy elimination ends: no trial succeeds on what it leaves
   pub greedy-ends : (i : ℕ) → trial s goal p (greedy s goal p) i ≡ none
+  unfolding greedy
   greedy-ends = rounds-end s goal p (length p) (whole p) (length-replicate (length p) true) (omega (arith, count-whole p))

@@ -101,5 +101,5 @@ table =
 
 -- of each list the definitions tell what its row does
 worked : map (λ row. told (row .0)) table ≡ map (λ row. row .1) table
-unfolding told positions kept valid lower some-fact same-fact has wanted landmarks-behind walk after trial eliminated better best rounds holds first-failing satisfies applicable assign result run cost
+unfolding told positions landmarks eliminate greedy kept valid lower some-fact same-fact has wanted landmarks-behind walk after trial eliminated better best rounds holds first-failing satisfies applicable assign result run cost
 worked = refl

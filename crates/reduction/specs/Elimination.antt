@@ -24,8 +24,8 @@ after s (a ∷ p) (false ∷ m) = after s p m
 after s (a ∷ p) (true ∷ m) = elim (applicable s a) [ true ↦ after (apply s a) p m | false ↦ after s p m ]
 
 -- "Trial at position i: strike step i, walk the rest from the state before i, and strike also each later step that can't be done. The trial succeeds when
--- the goal holds after the whole walk": what it leaves, if it succeeds. The walk is made from the start; in a current list whose steps can be done it
--- strikes nothing before i, and comes to i in the state before it.
+-- the goal holds after the whole walk": what it leaves, if it succeeds. The walk is made from the start: in a valid current list
+-- it strikes nothing before i and comes to i in the state before it (`trial-from-before` of proofs/TrialLaws).
 unfoldable pub trial : State → Assignment → List Action → Reduction → ℕ → Option Reduction
 trial s goal p m i =
     let struck : Reduction = set m i false in
@@ -37,7 +37,7 @@ unfoldable pub eliminated : State → Assignment → List Action → ℕ → Red
 eliminated s goal p zero = whole p
 eliminated s goal p (suc n) = let m : Reduction = eliminated s goal p n in Option·getD (trial s goal p m n) m
 
-abbrev pub eliminate : State → Assignment → List Action → Reduction
+unfoldable pub eliminate : State → Assignment → List Action → Reduction
 eliminate s goal p = eliminated s goal p (length p)
 
 -- of two successes, perhaps none, the one that leaves the lower list, and the first where they are equal. The trials of a round strike from one list, so
@@ -59,5 +59,5 @@ rounds s goal p zero m = m
 rounds s goal p (suc n) m = elim (best s goal p m (length p)) [ none ↦ m | some k ↦ rounds s goal p n k ]
 
 -- each round that goes on strikes a step, so there are no more of them than steps
-abbrev pub greedy : State → Assignment → List Action → Reduction
+unfoldable pub greedy : State → Assignment → List Action → Reduction
 greedy s goal p = rounds s goal p (length p) (whole p)
