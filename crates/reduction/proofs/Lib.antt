@@ -20,3 +20,5 @@ pub mod GreedyChoice
 pub mod EliminationTheorem
 -- Worked: the definitions on the worked lists of document 01.
 pub mod Worked
+-- BeforeLaws: the state before an index of a valid reduction, step by step, and flags past the end of a plan.
+pub mod BeforeLaws

@@ -1,0 +1,48 @@
+-- `trial` meets its contract: the walk of the rest, with the step struck. Assumes nothing.
+use Prim.Native.Nat.{_<_}
+use lib.ListN.{length}
+use Rattle.elimination.proofs.TrialLaws.{tries}
+use borrow.Author.Needs.{needs}
+use Rattle.elimination.proofs.trial.trial.Statement.{statement}
+use Rattle.elimination.proofs.trial.trial.Tie as tie
+
+slice-aggregate-strike : tie.Need-slice-aggregate-strike
+slice-aggregate-strike c = search needs
+
+strike-requires : tie.Need-strike-requires
+strike-requires c κs = search needs
+
+slice-aggregate-walk-rest : tie.Need-slice-aggregate-walk-rest
+slice-aggregate-walk-rest c = search needs
+
+slice-aggregate-walk-rest-2 : tie.Need-slice-aggregate-walk-rest-2
+slice-aggregate-walk-rest-2 c = search needs
+
+add-walk-rest : tie.Need-add-walk-rest
+add-walk-rest c = search needs
+
+walk-rest-requires : tie.Need-walk-rest-requires
+walk-rest-requires c κs = search needs
+
+slice-aggregate-goal-holds : tie.Need-slice-aggregate-goal-holds
+slice-aggregate-goal-holds c = search needs
+
+goal-holds-requires : tie.Need-goal-holds-requires
+goal-holds-requires c κs = search needs
+
+returns : tie.Need-returns
+returns c = let start = c .before .before .before .before .before .before .before .before .before .before .before .before in let inside : start .args .i < length (start .args .flags) = search needs in tries _ _ _ _ _ _ _ _ _ inside (c .before .before .before .before .before .before .before .before .strike .ensures) (c .before .before .before .before .walk-rest .ensures) (c .goal-holds .ensures)
+
+pub trial-spec : {M : Type 1} → statement M
+trial-spec =
+    tie.close
+    (tie.spec
+    slice-aggregate-strike
+    strike-requires
+    slice-aggregate-walk-rest
+    slice-aggregate-walk-rest-2
+    add-walk-rest
+    walk-rest-requires
+    slice-aggregate-goal-holds
+    goal-holds-requires
+    returns)

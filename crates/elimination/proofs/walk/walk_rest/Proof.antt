@@ -1,0 +1,60 @@
+-- `walk_rest` meets its contract. The loop's invariant: from the next index on the walk ends as it was to end. Assumes nothing.
+use borrow.Author.Needs.{needs}
+use Prim.Native.Nat.{_-_}
+use lib.ListN.{length}
+use Rattle.elimination.proofs.WalkLaws.{Along, along-start, along-turn, along-walks}
+use Rattle.elimination.proofs.walk.walk_rest.Statement.{statement}
+use Rattle.elimination.proofs.walk.walk_rest.Tie as tie
+
+abbrev Inv-loop : tie.InvT-loop
+Inv-loop words plan flags₀ state₀ i j₀ flags state j = Along words plan i flags₀ state₀ j flags state
+
+abbrev μ-loop : tie.MeasureT-loop
+μ-loop words plan flags₀ state₀ i j₀ flags state j = length plan - j
+
+loop-holds : tie.Need-loop-holds Inv-loop μ-loop
+loop-holds c = along-start _ _ _ _ _
+
+mul-do-or-strike : tie.Need-mul-do-or-strike Inv-loop μ-loop
+mul-do-or-strike c = search needs
+
+shared-slice-read-do-or-strike : tie.Need-shared-slice-read-do-or-strike Inv-loop μ-loop
+shared-slice-read-do-or-strike c = search needs
+
+do-or-strike-requires : tie.Need-do-or-strike-requires Inv-loop μ-loop
+do-or-strike-requires c κs = search needs
+
+add-j : tie.Need-add-j Inv-loop μ-loop
+add-j c = search needs
+
+loop-less : tie.Need-loop-less Inv-loop μ-loop
+loop-less c = search needs
+
+loop-again : tie.Need-loop-again Inv-loop μ-loop
+loop-again c = let turn = c .before .before .before .before .before .before .before .before .before in let done = c .before .before .before .before .do-or-strike in along-turn _ _ _ _ _ _ _ _ (turn .loop .inv) _ _ (turn .before .before .before .before .before .pre) (c .before .before .before .before .before .before .before .before .loop-test .taken) (done .kept .1 .0) (done .kept .1 .1 .0) (done .ensures)
+
+same-length : tie.Need-same-length Inv-loop μ-loop
+same-length c = c .before .loop .inv .long
+
+same-length-2 : tie.Need-same-length-2 Inv-loop μ-loop
+same-length-2 c = c .before .loop .inv .complete
+
+returns : tie.Need-returns Inv-loop μ-loop
+returns c = along-walks _ _ _ _ _ _ _ _ (c .before .loop .inv) (c .loop-test .left)
+
+pub walk-rest-spec : {M : Type 1} → statement M
+walk-rest-spec =
+    tie.close
+    (tie.spec
+    Inv-loop
+    μ-loop
+    loop-holds
+    mul-do-or-strike
+    shared-slice-read-do-or-strike
+    do-or-strike-requires
+    add-j
+    loop-less
+    loop-again
+    same-length
+    same-length-2
+    returns)

@@ -1,0 +1,7 @@
+// The two eliminations of document 01: a trial at each step, and the best trial of a round.
+// current: the current list as flags. walk: its rest, with steps that can't be done struck. trial: one trial, from the state before its step.
+// eliminate: a trial at each position in turn.
+mod current;
+mod eliminate;
+mod trial;
+mod walk;

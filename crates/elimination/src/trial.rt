@@ -1,0 +1,37 @@
+// One trial, from the state before its step.
+use crate::walk::walk_rest;
+use common::access::strike;
+use plan::limits::Plan;
+use step::advance::goal_holds;
+use task::limits::Task;
+ghost use Prim.Native.Nat.{_≤_, _<_};
+ghost use lib.ListN.{length};
+ghost use Rattle.elimination.specs.Trial.{Tries};
+
+// Whether a trial succeeds, and what it leaves.
+pub(crate) struct Tried {
+    pub succeeds: bool,
+    pub flags: [bool; Plan::STEPS],
+}
+
+// Strikes the step at index i, walks the rest from the state before it, and looks at the goal.
+pub(crate) fn trial(
+    words: &[u32],
+    plan: &[u32],
+    flags: [bool; Plan::STEPS],
+    values: [u32; Task::VARIABLES],
+    i: usize,
+) -> Tried
+    requires { ⌜ (length (now plan) ≤ 255) × (i < length (now plan)) ⌝ }
+    ensures { λ r. ⌜ Tries (now (words .entry)) (now (plan .entry)) i flags values (r .succeeds) (r .flags) ⌝ }
+{
+    let mut left = flags;
+    let mut state = values;
+    strike(&mut left, i);
+    walk_rest(words, plan, &mut left, &mut state, i + 1);
+    let succeeds = goal_holds(words, &state);
+    Tried {
+        succeeds,
+        flags: left,
+    }
+}

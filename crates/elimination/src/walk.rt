@@ -1,0 +1,37 @@
+// The walk of a trial along the rest of the current list.
+use common::access::flag;
+use common::access::strike;
+use step::advance::advance;
+ghost use Prim.Native.Nat.{_≤_};
+ghost use lib.ListN.{length};
+ghost use Rattle.elimination.specs.Walk.{Walks, Turns};
+
+// Does each kept step from index i on in turn, and strikes those that can't be done.
+pub(crate) fn walk_rest(
+    words: &[u32],
+    plan: &[u32],
+    flags: &mut [bool],
+    state: &mut [u32],
+    i: usize,
+)
+    requires { ⌜ length (now plan) ≤ length (now flags) ⌝ }
+    ensures { λ _. ⌜ Walks (now (words .entry)) (now (plan .entry)) i (now (flags .entry)) (now (state .entry)) (now (flags .exit)) (now (state .exit)) ⌝ }
+{
+    let mut j = i;
+    while j < plan.len() {
+        do_or_strike(words, flags, state, plan[j], j);
+        j += 1;
+    }
+}
+
+// Does action a if the step at index j is kept, and strikes it where it can't be done.
+fn do_or_strike(words: &[u32], flags: &mut [bool], state: &mut [u32], a: u32, j: usize)
+    ensures { λ _. ⌜ Turns (now (words .entry)) a j (now (flags .entry)) (now (state .entry)) (now (flags .exit)) (now (state .exit)) ⌝ }
+{
+    if flag(flags, j) {
+        if advance(words, state, a) {
+            return;
+        }
+        strike(flags, j);
+    }
+}
