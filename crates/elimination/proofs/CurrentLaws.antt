@@ -81,11 +81,11 @@ module _ (w l : List ℕ) (flags : Reduction) (current : Current w l flags) wher
       unfolding trial
       trial-unmet is = rw (← met-goal, is, and-false)
 
-      left-length : length (walk (start w) (steps w l) (set (mask l flags) i false)) ≡ length l
+      pub left-length : length (walk (start w) (steps w l) (set (mask l flags) i false)) ≡ length l
       left-length = walk-length (start w) (steps w l) (set (mask l flags) i false) ∙ length-set (mask l flags) i false ∙ mask-length
 
       -- the reduction that a trial leaves
-      left-mask : mask l left ≡ walk (start w) (steps w l) (set (mask l flags) i false)
+      pub left-mask : mask l left ≡ walk (start w) (steps w l) (set (mask l flags) i false)
       left-mask = rw left-flags (take-at _ _ (length l) left-length)
 
       pub left-current : getD flags i false ≡ true → met ≡ true → Current w l left

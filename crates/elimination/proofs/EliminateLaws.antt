@@ -18,7 +18,7 @@ use Rattle.elimination.specs.Current.{start, mask, held, Current, Elimin
 
 -- nothing struck: the flags of a plan that is valid
 module _ (w l : List ℕ) (flags : Reduction) (few : length l ≤ most-steps) (is : flags ≡ replicate (length l) true ++ replicate (most-steps - length l) false) where
-  all-mask : mask l flags ≡ whole (steps w l)
+  pub all-mask : mask l flags ≡ whole (steps w l)
   all-mask = rw (is, length-map l (action w)) (take-at (replicate (length l) true) _ (length l) (length-replicate (length l) true))
 
   pub all-current : valid (start w) (goal w) (steps w l) ≡ true → Current w l flags

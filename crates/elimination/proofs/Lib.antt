@@ -8,3 +8,11 @@ pub mod CurrentLaws
 pub mod KeptLaws
 -- EliminateLaws: elimination along the flags that the code holds.
 pub mod EliminateLaws
+-- TalliedLaws: the tally of a reduction, step by step and plainly.
+pub mod TalliedLaws
+-- RoundLaws: the better of two successes, and the best of a round.
+pub mod RoundLaws
+-- PickLaws: the best of a round, position by position.
+pub mod PickLaws
+-- GreedyLaws: greedy elimination, round by round.
+pub mod GreedyLaws

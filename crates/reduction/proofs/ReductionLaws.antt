@@ -19,13 +19,13 @@ unfolding kept
 kept-whole [] = refl
 kept-whole (a ∷ p) = ap (λ q. a ∷ q) (kept-whole p)
 
-kept-none : {A : Type 0} (p : List A) → kept [] p ≡ []
+pub kept-none : {A : Type 0} (p : List A) → kept [] p ≡ []
 unfolding kept
 kept-none [] = refl
 kept-none (a ∷ p) = refl
 
 -- what is left was lodged
-kept-lodged : {A : Type 0} {a : A} (m : Reduction) (p : List A) → List·Memᴰ a (kept m p) → List·Memᴰ a p
+pub kept-lodged : {A : Type 0} {a : A} (m : Reduction) (p : List A) → List·Memᴰ a (kept m p) → List·Memᴰ a p
 unfolding kept
 kept-lodged m [] left = left
 kept-lodged [] (b ∷ p) left = absurd (List·Memᴰ·not-nil left)

@@ -1,0 +1,122 @@
+-- The best of a round, position by position: the better of the best so far and the trial here is the best of the definitions so far. By whether the trial
+-- succeeds, whether there was a success before it, and which is the lower. Assumes nothing.
+use Prim.Native.Nat.{ℕ, suc, _+_, _<_}
+use native.Mathlib.Numerals.{add-one}
+use mathlib.Core.Path.{_≡_, refl, sym, _∙_, ap}
+use mathlib.Core.Bool.{Bool, true, false, cond, true≢false}
+use mathlib.Core.Option.{Option, none, some}
+use mathlib.Core.List.{List}
+use lib.ListN.{length, getD}
+use Rattle.tally.specs.Tally.{comparison}
+use Rattle.task.specs.Decode.{goal}
+use Rattle.step.specs.Advance.{Advances}
+use Rattle.plan.specs.Valid.{steps}
+use Rattle.plan.proofs.PlanTheorem.{Readable}
+use Rattle.reduction.specs.Reduction.{Reduction, kept, lower}
+use Rattle.reduction.specs.Elimination.{trial, better, best}
+use Rattle.reduction.proofs.TrialLaws.{unkept-fails}
+use Rattle.reduction.proofs.BeforeLaws.{Before}
+use Rattle.elimination.specs.declared.greedy.Best.{Best}
+use Rattle.elimination.specs.declared.trial.Tried.{Tried}
+use Rattle.elimination.specs.Trial.{Tries}
+use Rattle.elimination.specs.Current.{start, mask, Current}
+use Rattle.elimination.specs.Round.{tallied, is-less, replaces, better-of, Betters, Picks, Looks}
+use Rattle.elimination.proofs.CurrentLaws.{mask-length, mask-flag, trial-met, trial-unmet, left-mask, left-current, advanced, eliminates-nothing}
+use Rattle.elimination.proofs.RoundLaws.{tallied-mask, tally-lower}
+
+module _ (w l : List ℕ) (m : Reduction) (i : ℕ) where
+  -- a trial that fails changes nothing
+  best-same : trial (start w) (goal w) (steps w l) m i ≡ none → best (start w) (goal w) (steps w l) m (suc i) ≡ best (start w) (goal w) (steps w l) m i
+  unfolding best better
+  best-same e = rw e (by-case (best (start w) (goal w) (steps w l) m i))
+    where
+      by-case : (b : Option Reduction) → better (steps w l) b none ≡ b
+      by-case none = refl
+      by-case (some k) = refl
+
+  -- the first success is the best so far
+  best-first : (k : Reduction) → best (start w) (goal w) (steps w l) m i ≡ none → trial (start w) (goal w) (steps w l) m i ≡ some k → best (start w) (goal w) (steps w l) m (suc i) ≡ some k
+  unfolding best better
+  best-first k e t = rw (e, t)
+
+  -- of two successes the lower, the earlier where they are equal
+  best-second : (k n : Reduction) (b : Bool) → best (start w) (goal w) (steps w l) m i ≡ some n → trial (start w) (goal w) (steps w l) m i ≡ some k
+      → lower (kept k (steps w l)) (kept n (steps w l)) ≡ b → best (start w) (goal w) (steps w l) m (suc i) ≡ cond b (some k) (some n)
+  unfolding best better
+  best-second k n b e t is = rw (e, t, is)
+
+  same-picks : (so-far : Best) → Picks w l m i so-far → best (start w) (goal w) (steps w l) m (suc i) ≡ best (start w) (goal w) (steps w l) m i → Picks w l m (suc i) so-far
+  same-picks so-far picks e =
+      record { nothing-found = λ f. e ∙ picks .nothing-found f; best-found = λ f. e ∙ picks .best-found f; current = picks .current; counted = picks .counted }
+
+module _ (w l : List ℕ) (readable : Readable w l) (flags : Reduction) (current : Current w l flags) (i : ℕ) (values : List ℕ) (here : i < length l)
+    (before : Before (start w) (steps w l) (mask l flags) i values) where
+  module _ (so-far : Best) (tried : Tried) (picks : Picks w l (mask l flags) i so-far) (tries : Tries w l i flags values (tried .succeeds) (tried .flags)) (up : getD flags i false ≡ true) where
+    chosen : Best
+    chosen = record { found = true; flags = tried .flags; tally = tallied w l (tried .flags) }
+
+    so-far-stays : replaces w l so-far tried ≡ false → better-of w l so-far tried ≡ so-far
+    unfolding better-of
+    so-far-stays e = rw e
+
+    module _ (succeeds : tried .succeeds ≡ true) where
+      tried-here : trial (start w) (goal w) (steps w l) (mask l flags) i ≡ some (mask l (tried .flags))
+      tried-here = trial-met w l flags current i values here before (tried .succeeds) (tried .flags) tries up succeeds ∙ ap some (sym (left-mask w l flags current i values here before (tried .succeeds) (tried .flags) tries))
+
+      tried-current : Current w l (tried .flags)
+      tried-current = left-current w l flags current i values here before (tried .succeeds) (tried .flags) tries up succeeds
+
+      chosen-picks : best (start w) (goal w) (steps w l) (mask l flags) (suc i) ≡ some (mask l (tried .flags)) → Picks w l (mask l flags) (suc i) chosen
+      unfolding chosen
+      chosen-picks e =
+          record { nothing-found = λ f. absurd (true≢false f); best-found = λ f. e; current = λ f. tried-current; counted = λ f. tallied-mask w l (tried .flags) }
+
+      -- the two are compared by their tallies, and so by what they leave
+      less : so-far .found ≡ true → is-less (comparison (tallied w l (tried .flags)) (so-far .tally)) ≡ lower (kept (mask l (tried .flags)) (steps w l)) (kept (mask l (so-far .flags)) (steps w l))
+      less found =
+          rw (tallied-mask w l (tried .flags), picks .counted found)
+          (tally-lower w l (mask l (tried .flags)) (mask l (so-far .flags)) readable (mask-length w l (tried .flags) tried-current) (mask-length w l (so-far .flags) (picks .current found)))
+
+      picks-second : (r : Best) (b : Bool) → Betters w l so-far tried r → so-far .found ≡ true → is-less (comparison (tallied w l (tried .flags)) (so-far .tally)) ≡ b
+          → Picks w l (mask l flags) (suc i) r
+      unfolding better-of replaces chosen
+      picks-second r true is found e =
+          rw (is, succeeds, found, e) (chosen-picks (best-second w l (mask l flags) i (mask l (tried .flags)) (mask l (so-far .flags)) true (picks .best-found found) tried-here (sym (less found) ∙ e)))
+      picks-second r false is found e =
+          let stays : replaces w l so-far tried ≡ false = rw (succeeds, found, e) in
+          let same : r ≡ so-far = is ∙ so-far-stays stays in
+          rw same
+          (same-picks w l (mask l flags) i so-far picks
+          (best-second w l (mask l flags) i (mask l (tried .flags)) (mask l (so-far .flags)) false (picks .best-found found) tried-here (sym (less found) ∙ e) ∙ sym (picks .best-found found)))
+
+      picks-first : (r : Best) → Betters w l so-far tried r → so-far .found ≡ false → Picks w l (mask l flags) (suc i) r
+      unfolding better-of replaces chosen
+      picks-first r is found = rw (is, succeeds, found) (chosen-picks (best-first w l (mask l flags) i (mask l (tried .flags)) (picks .nothing-found found) tried-here))
+
+    picks-fail : (r : Best) → Betters w l so-far tried r → tried .succeeds ≡ false → Picks w l (mask l flags) (suc i) r
+    unfolding better-of replaces
+    picks-fail r is fails =
+        rw (is, fails) (same-picks w l (mask l flags) i so-far picks (best-same w l (mask l flags) i (trial-unmet w l flags current i values here before (tried .succeeds) (tried .flags) tries fails)))
+
+    picks-next : (r : Best) → Betters w l so-far tried r → Picks w l (mask l flags) (suc i) r
+    picks-next r is = by-case (tried .succeeds) refl (so-far .found) refl
+      where
+        by-case : (s : Bool) → tried .succeeds ≡ s → (f : Bool) → so-far .found ≡ f → Picks w l (mask l flags) (suc i) r
+        by-case false s f e = picks-fail r is s
+        by-case true s false e = picks-first s r is e
+        by-case true s true e = picks-second s r _ is e refl
+
+  -- a kept step is tried and done
+  pub looks-kept : (so-far r : Best) (tried : Tried) (done : Bool) (next : List ℕ) → Picks w l (mask l flags) i so-far → Tries w l i flags values (tried .succeeds) (tried .flags) → getD flags i false ≡ true
+      → Betters w l so-far tried r → Advances w values (getD l i 0) done next → Looks w l (mask l flags) (i + 1) r next
+  looks-kept so-far r tried done next picks tries up is advances =
+      record { picks = rw add-one (picks-next so-far tried picks tries up r is); before = advanced w l flags current i values here before done next up advances }
+
+  -- a struck one is passed over
+  pub looks-struck : (so-far : Best) → Picks w l (mask l flags) i so-far → getD flags i false ≡ false → Looks w l (mask l flags) (i + 1) so-far values
+  looks-struck so-far picks down =
+      let unkept : getD (mask l flags) i false ≡ false = mask-flag w l flags current i here ∙ down in
+      record {
+        picks = rw add-one (same-picks w l (mask l flags) i so-far picks (best-same w l (mask l flags) i (unkept-fails (start w) (goal w) (steps w l) (mask l flags) i unkept)));
+        before = eliminates-nothing w l flags current i values here before down .before;
+      }

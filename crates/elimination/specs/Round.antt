@@ -1,0 +1,51 @@
+-- A round of greedy elimination as the code makes it. Assumes nothing.
+use Prim.Native.Nat.{ℕ}
+use mathlib.Core.Path.{_≡_}
+use mathlib.Core.Bool.{Bool, true, false, cond, _&&_}
+use mathlib.Core.Option.{none, some}
+use mathlib.Core.List.{List, map}
+use Rattle.tally.specs.declared.Tally.{Tally}
+use Rattle.tally.specs.declared.Order.{Order}
+use Rattle.tally.specs.declared.Order.the-variants.{Less, Equal, Greater}
+use Rattle.tally.specs.Tally.{nothing, after, comparison}
+use Rattle.task.specs.Layout.{cost-word}
+use Rattle.task.specs.Decode.{goal}
+use Rattle.plan.specs.Valid.{steps}
+use Rattle.reduction.specs.Reduction.{Reduction, kept}
+use Rattle.reduction.specs.Elimination.{best}
+use Rattle.reduction.proofs.BeforeLaws.{Before}
+use Rattle.elimination.specs.declared.greedy.Best.{Best}
+use Rattle.elimination.specs.declared.trial.Tried.{Tried}
+use Rattle.elimination.specs.Current.{start, mask, Current}
+
+-- the tally of the kept steps
+unfoldable pub tallied : List ℕ → List ℕ → Reduction → Tally
+tallied w l m = after nothing (map (cost-word w) (kept m l))
+
+-- the first of two tallies is the lower
+abbrev pub is-less : Order → Bool
+is-less Less = true
+is-less Equal = false
+is-less Greater = false
+
+-- a success that is the lower, or the first, takes the place of the best so far
+unfoldable pub replaces : List ℕ → List ℕ → Best → Tried → Bool
+replaces w l so-far tried = tried .succeeds && cond (so-far .found) (is-less (comparison (tallied w l (tried .flags)) (so-far .tally))) true
+
+unfoldable pub better-of : List ℕ → List ℕ → Best → Tried → Best
+better-of w l so-far tried = cond (replaces w l so-far tried) (record { found = true; flags = tried .flags; tally = tallied w l (tried .flags) }) so-far
+
+abbrev pub Betters : List ℕ → List ℕ → Best → Tried → Best → Type 0
+Betters w l so-far tried r = r ≡ better-of w l so-far tried
+
+-- the best of the trials at the first n positions of the current list m
+pub record Picks (w l : List ℕ) (m : Reduction) (n : ℕ) (r : Best) : Type 0 where
+  pub nothing-found : r .found ≡ false → best (start w) (goal w) (steps w l) m n ≡ none
+  pub best-found : r .found ≡ true → best (start w) (goal w) (steps w l) m n ≡ some (mask l (r .flags))
+  pub current : r .found ≡ true → Current w l (r .flags)
+  pub counted : r .found ≡ true → r .tally ≡ tallied w l (mask l (r .flags))
+
+-- the best so far, and the state before the next position
+pub record Looks (w l : List ℕ) (m : Reduction) (i : ℕ) (so-far : Best) (values : List ℕ) : Type 0 where
+  pub picks : Picks w l m i so-far
+  pub before : Before (start w) (steps w l) m i values

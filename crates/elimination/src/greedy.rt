@@ -1,0 +1,137 @@
+// Greedy elimination (document 01): rounds of trials, of which each takes the best success.
+use crate::current::all_kept;
+use crate::tallied::tally_of;
+use crate::trial::Tried;
+use crate::trial::trial;
+use common::access::flag;
+use common::access::word;
+use plan::limits::Plan;
+use plan::start::initial;
+use step::advance::advance;
+use tally::Order;
+use tally::Tally;
+use task::limits::Task;
+ghost use mathlib.Core.Path.{_≡_};
+ghost use mathlib.Core.Bool.{true};
+ghost use Prim.Native.Nat.{_+_, _<_};
+ghost use lib.ListN.{length};
+ghost use Rattle.reduction.specs.Reduction.{valid};
+ghost use Rattle.reduction.specs.Elimination.{greedy as greedy-of};
+ghost use Rattle.task.specs.Decode.{goal};
+ghost use Rattle.plan.specs.Valid.{steps};
+ghost use Rattle.plan.proofs.PlanTheorem.{Readable};
+ghost use Rattle.elimination.specs.Current.{start, mask, held, Current};
+ghost use Rattle.elimination.specs.Round.{Picks, Looks, Betters};
+
+// The best success of a round so far, if there is one, with its tally.
+pub(crate) struct Best {
+    pub found: bool,
+    pub flags: [bool; Plan::STEPS],
+    pub tally: Tally,
+}
+
+// The best success so far, and the state before the next step.
+pub(crate) struct Looked {
+    pub best: Best,
+    pub values: [u32; Task::VARIABLES],
+}
+
+// The better of the best so far and a trial: the lower tally, the earlier where they are equal.
+fn better(words: &[u32], plan: &[u32], best: Best, tried: Tried) -> Best
+    ensures { λ r. ⌜ Betters (now (words .entry)) (now (plan .entry)) best tried r ⌝ }
+{
+    if tried.succeeds {
+        let flags = tried.flags;
+        let tally = tally_of(words, plan, &flags);
+        if best.found {
+            let order = tally.compare(best.tally);
+            return match order {
+                Order::Less => Best {
+                    found: true,
+                    flags,
+                    tally,
+                },
+                Order::Equal => best,
+                Order::Greater => best,
+            };
+        }
+        return Best {
+            found: true,
+            flags,
+            tally,
+        };
+    }
+    best
+}
+
+// Makes the trial at index i, and goes on to the state before the next step.
+fn try_at(
+    words: &[u32],
+    plan: &[u32],
+    flags: [bool; Plan::STEPS],
+    values: [u32; Task::VARIABLES],
+    best: Best,
+    i: usize,
+) -> Looked
+    requires { ⌜ Readable (now words) (now plan) ⌝ }
+    requires { ⌜ Current (now words) (now plan) flags ⌝ }
+    requires { ⌜ i < length (now plan) ⌝ }
+    requires { ⌜ Looks (now words) (now plan) (mask (now plan) flags) i best values ⌝ }
+    ensures { λ r. ⌜ Looks (now (words .entry)) (now (plan .entry)) (mask (now (plan .entry)) flags) (i + 1) (r .best) (r .values) ⌝ }
+{
+    if flag(&flags, i) {
+        let chosen = better(words, plan, best, trial(words, plan, flags, values, i));
+        let mut next = values;
+        advance(words, &mut next, word(plan, i));
+        return Looked {
+            best: chosen,
+            values: next,
+        };
+    }
+    Looked { best, values }
+}
+
+// The best success of the trials at every position of the current list.
+fn round(words: &[u32], plan: &[u32], flags: [bool; Plan::STEPS]) -> Best
+    requires { ⌜ Readable (now words) (now plan) ⌝ }
+    requires { ⌜ Current (now words) (now plan) flags ⌝ }
+    ensures { λ r. ⌜ Picks (now (words .entry)) (now (plan .entry)) (mask (now (plan .entry)) flags) (length (now (plan .entry))) r ⌝ }
+{
+    let mut values = initial(words);
+    let mut best = Best {
+        found: false,
+        flags,
+        tally: Tally::new(),
+    };
+    let mut i = 0;
+    while i < plan.len() {
+        let looked = try_at(words, plan, flags, values, best, i);
+        let chosen = looked.best;
+        let state = looked.values;
+        best = chosen;
+        values = state;
+        i += 1;
+    }
+    best
+}
+
+// The flags that greedy elimination leaves of a valid plan.
+pub(crate) fn greedy(words: &[u32], plan: &[u32]) -> [bool; Plan::STEPS]
+    requires { ⌜ Readable (now words) (now plan) ⌝ }
+    requires { ⌜ valid (start (now words)) (goal (now words)) (steps (now words) (now plan)) ≡ true ⌝ }
+    ensures { λ r. ⌜ r ≡ held (now (plan .entry)) (greedy-of (start (now (words .entry))) (goal (now (words .entry))) (steps (now (words .entry)) (now (plan .entry)))) ⌝ }
+{
+    let mut flags = all_kept(plan.len());
+    let mut rounds = 0;
+    while rounds < plan.len() {
+        let best = round(words, plan, flags);
+        if best.found {
+            let left = best.flags;
+            flags = left;
+            rounds += 1;
+        } else {
+            return flags;
+        }
+    }
+    flags
+}
