@@ -1,0 +1,130 @@
+-- Reductions of reductions, and that a strike raises neither the number of steps nor the cost. By one walk along the
+-- reductions; where a Boolean is missing its step counts as struck, so that few laws ask for the length. Assumes nothing.
+use Prim.Native.Nat.{ℕ, zero, suc, _≤_, _<_}
+use native.Mathlib.Omega.{arith}
+use mathlib.Core.Path.{_≡_, refl, sym, _∙_, ap}
+use mathlib.Core.Bool.{Bool, true, false, true≢false, false≢true}
+use mathlib.Core.List.{List, [], _∷_}
+use lib.ListN.{length, getD, set, getD-replicate, List·getD-eq-default}
+use lib.Seq.{getD-set-other}
+use lib.Dec.{ltb, eqb}
+use borrow.Author.Tests.{ltb-true, ltb-false, eqb-true, eqb-false}
+use Rattle.sas.specs.Task.{Assignment, State, Action}
+use Rattle.sas.specs.Plan.{cost}
+use Rattle.reduction.specs.Reduction.{Reduction, keeps, kept, count, whole, Valid-reduction}
+
+pub kept-whole : {A : Type 0} (p : List A) → kept (whole p) p ≡ p
+unfolding kept
+kept-whole [] = refl
+kept-whole (a ∷ p) = ap (λ q. a ∷ q) (kept-whole p)
+
+kept-none : {A : Type 0} (p : List A) → kept [] p ≡ []
+unfolding kept
+kept-none [] = refl
+kept-none (a ∷ p) = refl
+
+-- of what a reduction leaves, a further one strikes: the two as one
+unfoldable pub compose : Reduction → Reduction → Reduction
+compose [] m = []
+compose (false ∷ r) m = false ∷ compose r m
+compose (true ∷ r) [] = false ∷ compose r []
+compose (true ∷ r) (b ∷ m) = b ∷ compose r m
+
+pub compose-length : (r m : Reduction) → length (compose r m) ≡ length r
+unfolding compose
+compose-length [] m = refl
+compose-length (false ∷ r) m = ap suc (compose-length r m)
+compose-length (true ∷ r) [] = ap suc (compose-length r [])
+compose-length (true ∷ r) (b ∷ m) = ap suc (compose-length r m)
+
+pub kept-compose : {A : Type 0} (r m : Reduction) (p : List A) → kept (compose r m) p ≡ kept m (kept r p)
+unfolding compose kept
+kept-compose r m [] = refl
+kept-compose [] m (a ∷ p) = refl
+kept-compose (false ∷ r) m (a ∷ p) = kept-compose r m p
+kept-compose (true ∷ r) [] (a ∷ p) = kept-compose r [] p ∙ kept-none (kept r p)
+kept-compose (true ∷ r) (true ∷ m) (a ∷ p) = ap (λ q. a ∷ q) (kept-compose r m p)
+kept-compose (true ∷ r) (false ∷ m) (a ∷ p) = kept-compose r m p
+
+-- a valid reduction of what a reduction leaves makes a valid reduction of the lodged list
+pub compose-valid : {s : State} {goal : Assignment} (p : List Action) (r m : Reduction) → length r ≡ length p → Valid-reduction s goal (kept r p) m
+    → Valid-reduction s goal p (compose r m)
+compose-valid p r m fits v = record { fits = compose-length r m ∙ fits; valid-left = rw kept-compose (v .valid-left) }
+
+-- the second reduction is the first with none, some or all of its steps struck
+abbrev pub Contains : Reduction → Reduction → Type 0
+Contains m n = (i : ℕ) → keeps n i → keeps m i
+
+pub count-whole : {A : Type 0} (p : List A) → count (whole p) ≡ length p
+unfolding count
+count-whole [] = refl
+count-whole (a ∷ p) = ap suc (count-whole p)
+
+-- the number of kept steps is the length of the list left
+pub kept-length : {A : Type 0} (m : Reduction) (p : List A) → length m ≡ length p → length (kept m p) ≡ count m
+unfolding kept count
+kept-length [] [] fits = refl
+kept-length [] (a ∷ p) fits = omega arith
+kept-length (b ∷ m) [] fits = omega arith
+kept-length (true ∷ m) (a ∷ p) fits = ap suc (kept-length m p (omega arith))
+kept-length (false ∷ m) (a ∷ p) fits = kept-length m p (omega arith)
+
+-- a strike does not raise the number of steps
+pub strike-count : (m n : Reduction) → Contains m n → count n ≤ count m
+unfolding count
+strike-count m [] h = omega arith
+strike-count [] (true ∷ n) h = absurd (false≢true (h 0 refl))
+strike-count [] (false ∷ n) h = strike-count [] n (λ i. h (suc i))
+strike-count (true ∷ m) (true ∷ n) h = omega (arith, strike-count m n (λ i. h (suc i)))
+strike-count (false ∷ m) (true ∷ n) h = absurd (false≢true (h 0 refl))
+strike-count (true ∷ m) (false ∷ n) h = omega (arith, strike-count m n (λ i. h (suc i)))
+strike-count (false ∷ m) (false ∷ n) h = strike-count m n (λ i. h (suc i))
+
+-- to strike one kept step lowers it by one
+pub struck-count : (m : Reduction) (i : ℕ) → keeps m i → suc (count (set m i false)) ≡ count m
+unfolding count
+struck-count [] i k = absurd (false≢true k)
+struck-count (true ∷ m) zero k = refl
+struck-count (false ∷ m) zero k = absurd (false≢true k)
+struck-count (true ∷ m) (suc i) k = ap suc (struck-count m i k)
+struck-count (false ∷ m) (suc i) k = struck-count m i k
+
+-- a reduction without step i is one of the reduction in which that step is struck
+pub contains-without : (m n : Reduction) (i : ℕ) → Contains m n → getD n i false ≡ false → Contains (set m i false) n
+contains-without m n i h struck j k = by-case (eqb j i) refl
+  where
+    by-case : (b : Bool) → eqb j i ≡ b → keeps (set m i false) j
+    by-case true e = absurd (true≢false (sym k ∙ rw (← eqb-true j i e) at struck))
+    by-case false e = getD-set-other m i j false false (eqb-false j i e) ∙ h j k
+
+-- so a strike that strikes a kept step lowers it
+pub strict-strike-count : (m n : Reduction) (i : ℕ) → Contains m n → keeps m i → getD n i false ≡ false → count n < count m
+strict-strike-count m n i h k struck = omega (arith, strike-count (set m i false) n (contains-without m n i h struck), struck-count m i k)
+
+-- nor does it raise the cost
+pub strike-cost : (m n : Reduction) (p : List Action) → Contains m n → cost (kept n p) ≤ cost (kept m p)
+unfolding kept cost
+strike-cost m n [] h = omega arith
+strike-cost m [] (a ∷ p) h = omega arith
+strike-cost [] (true ∷ n) (a ∷ p) h = absurd (false≢true (h 0 refl))
+strike-cost [] (false ∷ n) (a ∷ p) h = rw kept-none at (strike-cost [] n p (λ i. h (suc i)))
+strike-cost (true ∷ m) (true ∷ n) (a ∷ p) h = omega (arith, strike-cost m n p (λ i. h (suc i)))
+strike-cost (false ∷ m) (true ∷ n) (a ∷ p) h = absurd (false≢true (h 0 refl))
+strike-cost (true ∷ m) (false ∷ n) (a ∷ p) h = omega (arith, strike-cost m n p (λ i. h (suc i)))
+strike-cost (false ∷ m) (false ∷ n) (a ∷ p) h = strike-cost m n p (λ i. h (suc i))
+
+-- every reduction is one of that which strikes none
+pub contains-whole : {A : Type 0} (m : Reduction) (p : List A) → length m ≡ length p → Contains (whole p) m
+contains-whole m p fits i k = by-case (ltb i (length m)) refl
+  where
+    by-case : (b : Bool) → ltb i (length m) ≡ b → keeps (whole p) i
+    by-case true e = getD-replicate (length p) i true false (omega (arith, ltb-true i (length m) e))
+    by-case false e = absurd (false≢true (sym (List·getD-eq-default m false (ltb-false i (length m) e)) ∙ k))
+
+-- so no list left is longer than the lodged one
+pub left-length : {A : Type 0} (m : Reduction) (p : List A) → length m ≡ length p → length (kept m p) ≤ length p
+left-length m p fits = omega (arith, kept-length m p fits, strike-count (whole p) m (contains-whole m p fits), count-whole p)
+
+-- and none costs more
+pub left-cost : (m : Reduction) (p : List Action) → length m ≡ length p → cost (kept m p) ≤ cost p
+left-cost m p fits = rw kept-whole at (strike-cost (whole p) m p (contains-whole m p fits))

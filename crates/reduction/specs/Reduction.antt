@@ -1,0 +1,48 @@
+-- A reduction of a plan (document 01, "Doing a step, and a valid list"; 01's list is a plan here and its price a cost). Assumes nothing.
+use Prim.Native.Nat.{ℕ, suc}
+use mathlib.Core.Path.{_≡_}
+use mathlib.Core.Bool.{Bool, true, false, _&&_, _||_}
+use mathlib.Core.Option.{none, some}
+use mathlib.Core.List.{List, [], _∷_}
+use lib.ListN.{length, getD, replicate}
+use lib.Dec.{ltb, eqb}
+use Rattle.sas.specs.Task.{Assignment, State, Action}
+use Rattle.sas.specs.Plan.{satisfies, run, cost}
+
+-- "A reduction, or striking, strikes none, some or all of its steps and keeps the order of the rest": one Boolean for each lodged step, true where it is kept
+abbrev pub Reduction : Type 0
+Reduction = List Bool
+
+-- the step at index i is kept; indices count from 0, document 01's positions from 1
+abbrev pub keeps : Reduction → ℕ → Type 0
+keeps m i = getD m i false ≡ true
+
+-- the list that a reduction leaves
+unfoldable pub kept : {A : Type 0} → Reduction → List A → List A
+kept m [] = []
+kept [] (a ∷ p) = []
+kept (true ∷ m) (a ∷ p) = a ∷ kept m p
+kept (false ∷ m) (a ∷ p) = kept m p
+
+-- the number of kept steps
+unfoldable pub count : Reduction → ℕ
+count [] = 0
+count (true ∷ m) = suc (count m)
+count (false ∷ m) = count m
+
+-- the reduction that strikes none
+abbrev pub whole : {A : Type 0} → List A → Reduction
+whole p = replicate (length p) true
+
+-- "A list is valid when each step can be done in turn from the starting values and all goal facts hold after the last."
+unfoldable pub valid : State → Assignment → List Action → Bool
+valid s goal p = elim (run s p) [ none ↦ false | some t ↦ satisfies t goal ]
+
+-- "A reduction is valid when the list it leaves is."
+pub record Valid-reduction (s : State) (goal : Assignment) (p : List Action) (m : Reduction) : Type 0 where
+  pub fits : length m ≡ length p
+  pub valid-left : valid s goal (kept m p) ≡ true
+
+-- of two lists the first has the lower price, or the same price and fewer steps
+unfoldable pub lower : List Action → List Action → Bool
+lower p q = ltb (cost p) (cost q) || (eqb (cost p) (cost q) && ltb (length p) (length q))
