@@ -1,5 +1,6 @@
 // Reads and writes that are safe at any index: past the end a read finds 0, and a write does nothing.
 ghost use mathlib.Core.Path.{_≡_};
+ghost use mathlib.Core.Bool.{false};
 ghost use Prim.Native.Nat.{_<_, _^_};
 ghost use lib.ListN.{getD, set};
 
@@ -25,5 +26,21 @@ pub fn put64(words: &mut [u64], i: usize, x: u64)
 {
     if i < words.len() {
         words[i] = x;
+    }
+}
+
+// The flag at index i: past the end none is up.
+pub fn flag(flags: &[bool], i: usize) -> bool
+    ensures { λ r. ⌜ r ≡ getD (now (flags .entry)) i false ⌝ }
+{
+    if i < flags.len() { flags[i] } else { false }
+}
+
+// Takes the flag at index i down.
+pub fn strike(flags: &mut [bool], i: usize)
+    ensures { λ _. ⌜ now (flags .exit) ≡ set (now (flags .entry)) i false ⌝ }
+{
+    if i < flags.len() {
+        flags[i] = false;
     }
 }

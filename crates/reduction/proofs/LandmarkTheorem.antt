@@ -108,15 +108,21 @@ flagged-marked held goal [] i k = absurd (false≢true k)
 flagged-marked held goal (a ∷ p) zero k = first-marked held goal a p (flagged-marked (passed held a) goal p) k
 flagged-marked held goal (a ∷ p) (suc i) k = marked-later held goal a p (flagged-marked (passed held a) goal p i k)
 
-pub landmarks-length : (held : Fact → Bool) (goal : Assignment) (p : List Action) → length (landmarks-behind held goal p) ≡ length p
+flags-length : (held : Fact → Bool) (goal : Assignment) (p : List Action) → length (landmarks-behind held goal p) ≡ length p
 unfolding landmarks-behind
-landmarks-length held goal [] = refl
-landmarks-length held goal (a ∷ p) = ap suc (landmarks-length (passed held a) goal p)
+flags-length held goal [] = refl
+flags-length held goal (a ∷ p) = ap suc (flags-length (passed held a) goal p)
+
+-- each step has a flag
+pub landmarks-length : (s : State) (goal : Assignment) (p : List Action) → length (landmarks s goal p) ≡ length p
+unfolding landmarks
+landmarks-length s goal p = flags-length (holds s) goal p
 
 -- a step is flagged just where the rule marks it
 pub flagged-just-marked : (s : State) (goal : Assignment) (p : List Action) (i : ℕ) → keeps (landmarks s goal p) i ↔ Marked (holds s) goal p i
+unfolding landmarks
 flagged-just-marked s goal p i = (flagged-marked (holds s) goal p i, marked-flagged (holds s) goal p i)
 
 -- every valid reduction keeps every marked step
 pub landmark-kept : {s : State} {goal : Assignment} {p : List Action} {m : Reduction} {i : ℕ} → Valid-reduction s goal p m → Marked (holds s) goal p i → keeps m i
-landmark-kept {s} {goal} {p} {m} {i} v marked = flags-kept s goal p m (v .fits) (v .valid-left) i (marked-flagged (holds s) goal p i marked)
+landmark-kept {s} {goal} {p} {m} {i} v marked = flags-kept s goal p m (v .fits) (v .valid-left) i (flagged-just-marked s goal p i .1 marked)

@@ -64,5 +64,8 @@ kept-behind held s goal (a ∷ p) (false ∷ r) unheld fits v zero k =
     absurd (true≢false (sym (wanted-holds s goal p r (flags-behind held goal a p) f (omega arith) v rest behind) ∙ unheld f not-held))
 kept-behind held s goal (a ∷ p) (false ∷ r) unheld fits v (suc i) k = kept-behind (passed held a) s goal p r (false-past held s a unheld) (omega arith) v i k
 
-pub flags-kept : (s : State) (goal : Assignment) (p : List Action) (m : Reduction) → length m ≡ length p → valid s goal (kept m p) ≡ true → Contains m (landmarks s goal p)
+-- every valid reduction keeps every flagged step
+pub flags-kept : (s : State) (goal : Assignment) (p : List Action) (m : Reduction) → length m ≡ length p → valid s goal (kept m p) ≡ true
+    → Contains m (landmarks s goal p)
+unfolding landmarks
 flags-kept s goal p m = kept-behind (holds s) s goal p m (λ f unheld. unheld)

@@ -1,6 +1,6 @@
--- ValidLaws: what a valid list does, by its first step.
+-- ValidLaws: what a valid list does, by its first step, and that of a task's actions it is a plan.
 pub mod ValidLaws
--- ReductionLaws: reductions of reductions, and what a strike does to the number of steps and the cost.
+-- ReductionLaws: what a reduction leaves, reductions of reductions, and that a strike raises neither the number of steps nor the cost.
 pub mod ReductionLaws
 -- MemberLaws: which facts an assignment has.
 pub mod MemberLaws
@@ -10,3 +10,13 @@ pub mod WantedLaws
 pub mod LandmarksKept
 -- LandmarkTheorem: the steps flagged are the landmarks, and every valid reduction keeps them.
 pub mod LandmarkTheorem
+-- TrialLaws: what a walk and a successful trial leave, and that a trial walks along the rest from the state before its step.
+pub mod TrialLaws
+-- LowerLaws: the order of lists by cost, then length.
+pub mod LowerLaws
+-- GreedyChoice: what a round of greedy elimination takes.
+pub mod GreedyChoice
+-- EliminationTheorem: what the eliminations leave is valid, and no trial succeeds on what greedy elimination leaves.
+pub mod EliminationTheorem
+-- Worked: the definitions on the worked lists of document 01.
+pub mod Worked

@@ -1,17 +1,18 @@
--- Reductions of reductions, and that a strike raises neither the number of steps nor the cost. By one walk along the
+-- What a reduction leaves, reductions of reductions, and that a strike raises neither the number of steps nor the cost. By one walk along the
 -- reductions; where a Boolean is missing its step counts as struck, so that few laws ask for the length. Assumes nothing.
 use Prim.Native.Nat.{ℕ, zero, suc, _≤_, _<_}
 use native.Mathlib.Omega.{arith}
 use mathlib.Core.Path.{_≡_, refl, sym, _∙_, ap}
 use mathlib.Core.Bool.{Bool, true, false, true≢false, false≢true}
-use mathlib.Core.List.{List, [], _∷_}
+use mathlib.Core.List.{List, [], _∷_, List·Memᴰ, List·Memᴰ·head, List·Memᴰ·tail, List·Memᴰ·not-nil}
 use lib.ListN.{length, getD, set, getD-replicate, List·getD-eq-default}
 use lib.Seq.{getD-set-other}
 use lib.Dec.{ltb, eqb}
 use borrow.Author.Tests.{ltb-true, ltb-false, eqb-true, eqb-false}
-use Rattle.sas.specs.Task.{Assignment, State, Action}
-use Rattle.sas.specs.Plan.{cost}
+use Rattle.sas.specs.Task.{Assignment, State, Action, Task}
+use Rattle.sas.specs.Plan.{cost, Plan}
 use Rattle.reduction.specs.Reduction.{Reduction, keeps, kept, count, whole, Valid-reduction}
+use Rattle.reduction.proofs.ValidLaws.{valid-plan}
 
 pub kept-whole : {A : Type 0} (p : List A) → kept (whole p) p ≡ p
 unfolding kept
@@ -22,6 +23,19 @@ kept-none : {A : Type 0} (p : List A) → kept [] p ≡ []
 unfolding kept
 kept-none [] = refl
 kept-none (a ∷ p) = refl
+
+-- what is left was lodged
+kept-lodged : {A : Type 0} {a : A} (m : Reduction) (p : List A) → List·Memᴰ a (kept m p) → List·Memᴰ a p
+unfolding kept
+kept-lodged m [] left = left
+kept-lodged [] (b ∷ p) left = absurd (List·Memᴰ·not-nil left)
+kept-lodged (false ∷ m) (b ∷ p) left = List·Memᴰ·tail (kept-lodged m p left)
+kept-lodged (true ∷ m) (b ∷ p) (List·Memᴰ·head same) = List·Memᴰ·head same
+kept-lodged (true ∷ m) (b ∷ p) (List·Memᴰ·tail later) = List·Memᴰ·tail (kept-lodged m p later)
+
+-- a valid reduction of a plan leaves a plan
+pub reduced-plan : (T : Task) (p : List Action) (m : Reduction) → Plan T p → Valid-reduction (T .initial) (T .goal) p m → Plan T (kept m p)
+reduced-plan T p m plan v = valid-plan T (kept m p) (λ a left. plan .known a (kept-lodged m p left)) (v .valid-left)
 
 -- of what a reduction leaves, a further one strikes: the two as one
 unfoldable pub compose : Reduction → Reduction → Reduction

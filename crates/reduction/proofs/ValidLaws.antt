@@ -1,11 +1,11 @@
--- What a valid list does: it runs to a state in which the goal holds, and what its first step leaves behind is valid from that step's result. By the
--- laws of `run`. Assumes nothing.
+-- What a valid list does: it runs to a state in which the goal holds, and what stands behind its first step is valid from that step's result; of a
+-- task's actions it is a plan of SAS+. By the laws of `run`. Assumes nothing.
 use mathlib.Core.Path.{_≡_, refl, sym, _∙_}
 use mathlib.Core.Bool.{true, false≢true}
 use mathlib.Core.Option.{Option, none, some}
-use mathlib.Core.List.{List, [], _∷_}
-use Rattle.sas.specs.Task.{Assignment, State, Action}
-use Rattle.sas.specs.Plan.{satisfies, result, run}
+use mathlib.Core.List.{List, [], _∷_, List·Memᴰ}
+use Rattle.sas.specs.Task.{Assignment, State, Action, Task}
+use Rattle.sas.specs.Plan.{satisfies, result, run, Plan}
 use Rattle.sas.proofs.RunLaws.{run-nothing, run-first}
 use Rattle.reduction.specs.Reduction.{valid}
 
@@ -32,3 +32,12 @@ valid-first s goal a p h =
     let (u, reached, met) = valid-runs s goal (a ∷ p) h in
     let (t, first, rest) = run-first s a p reached in
     (t, first, runs-valid t u goal p rest ∙ met)
+
+module _ (T : Task) (p : List Action) where
+  -- a plan is valid
+  pub plan-valid : Plan T p → valid (T .initial) (T .goal) p ≡ true
+  plan-valid plan = runs-valid (T .initial) (plan .end) (T .goal) p (plan .reached) ∙ plan .goal
+
+  -- and a valid list of the task's actions is a plan
+  pub valid-plan : ((a : Action) → List·Memᴰ a p → List·Memᴰ a (T .actions)) → valid (T .initial) (T .goal) p ≡ true → Plan T p
+  valid-plan known h = let (t, reached, met) = valid-runs (T .initial) (T .goal) p h in record { known = known; end = t; reached = reached; goal = met }

@@ -5,11 +5,12 @@ use native.Mathlib.Omega.{arith}
 use mathlib.Core.Path.{_≡_, refl, _∙_}
 use mathlib.Core.Logic.{_⊎_, inl, inr, ⊎-elim}
 use mathlib.Core.Bool.{true, false, false≢true, not, _&&_, and-eq-true-iff, or-true}
+use mathlib.Core.Option.{some}
 use mathlib.Core.List.{List, [], _∷_, List·Memᴰ, List·Memᴰ·not-nil}
 use lib.ListN.{length, getD, drop}
 use borrow.Author.Tests.{not-true}
 use Rattle.sas.specs.Task.{Fact, Assignment, State, Action}
-use Rattle.sas.specs.Plan.{holds}
+use Rattle.sas.specs.Plan.{holds, result}
 use Rattle.sas.proofs.FactLaws.{satisfied-holds}
 use Rattle.sas.proofs.ActionLaws.{may-write, needs, result-applicable, needed-holds, written-or-held}
 use Rattle.reduction.specs.Reduction.{Reduction, keeps, kept, valid}
@@ -27,12 +28,19 @@ keeps-later (b ∷ m) i = refl
 pub wanted-cases : (goal : Assignment) (a : Action) (p : List Action) (m : Reduction) (f : Fact) → wanted goal (a ∷ p) m f ≡ true
     → (keeps m 0 × needs a f) ⊎ ((may-write a f → ⊥) × (wanted goal p (drop 1 m) f ≡ true))
 unfolding wanted
-wanted-cases goal a p m f h =
-    ⊎-elim
-    (λ x. let (flagged, need) = and-eq-true-iff (getD m 0 false) (has (a .precondition) f) .0 x in inl (flagged, has-member (a .precondition) f need))
-    (λ x. let (unwritten, behind) = and-eq-true-iff (not (has (a .effect) f)) (wanted goal p (drop 1 m) f) .0 x in
-    inr (has-no-member (a .effect) f (not-true _ unwritten), behind))
-    (or-cases (getD m 0 false && has (a .precondition) f) (not (has (a .effect) f) && wanted goal p (drop 1 m) f) h)
+wanted-cases goal a p m f h = ⊎-elim (λ x. inl (here x)) (λ x. inr (later x)) (or-cases (getD m 0 false && has (a .precondition) f) _ h)
+  where
+    here : (getD m 0 false && has (a .precondition) f) ≡ true → keeps m 0 × needs a f
+    here x = let (flagged, need) = and-eq-true-iff (getD m 0 false) (has (a .precondition) f) .0 x in (flagged, has-member (a .precondition) f need)
+
+    later : (not (has (a .effect) f) && wanted goal p (drop 1 m) f) ≡ true → (may-write a f → ⊥) × (wanted goal p (drop 1 m) f ≡ true)
+    later x =
+        let (unwritten, behind) = and-eq-true-iff (not (has (a .effect) f)) (wanted goal p (drop 1 m) f) .0 x in
+        (has-no-member (a .effect) f (not-true _ unwritten), behind)
+
+-- a fact that holds after a step that may not write it held before
+held-before : {t : State} (s : State) (a : Action) → result s a ≡ some t → (f : Fact) → (may-write a f → ⊥) → holds t f ≡ true → holds s f ≡ true
+held-before s a done f unwritten h = ⊎-elim (λ written. absurd (unwritten written)) (λ held. held) (written-or-held s a done f h)
 
 -- in a valid reduction that keeps the flagged steps a wanted fact holds
 pub wanted-holds : (s : State) (goal : Assignment) (p : List Action) (r m : Reduction) (f : Fact) → length r ≡ length p → valid s goal (kept r p) ≡ true
@@ -46,14 +54,11 @@ wanted-holds s goal (a ∷ p) (false ∷ r) m f fits v c w =
     (λ (unwritten, behind). wanted-holds s goal p r (drop 1 m) f (omega arith) v (λ i k. c (suc i) (rw keeps-later at k)) behind)
     (wanted-cases goal a p m f w)
 wanted-holds s goal (a ∷ p) (true ∷ r) m f fits v c w =
-    let (t, first, rest) = valid-first s goal a (kept r p) v in
+    let (t, done, rest) = valid-first s goal a (kept r p) v in
     ⊎-elim
-    (λ (flagged, need). needed-holds s a (result-applicable s a first) need)
+    (λ (flagged, need). needed-holds s a (result-applicable s a done) need)
     (λ (unwritten, behind).
-    ⊎-elim
-    (λ written. absurd (unwritten written))
-    (λ held. held)
-    (written-or-held s a first f (wanted-holds t goal p r (drop 1 m) f (omega arith) rest (λ i k. c (suc i) (rw keeps-later at k)) behind)))
+    held-before s a done f unwritten (wanted-holds t goal p r (drop 1 m) f (omega arith) rest (λ i k. c (suc i) (rw keeps-later at k)) behind))
     (wanted-cases goal a p m f w)
 
 -- none of the steps before index n may write f
@@ -69,7 +74,8 @@ pub data Wanted-by (goal : Assignment) (p : List Action) (m : Reduction) (f : Fa
   by-goal : List·Memᴰ f goal → Unwritten p (length p) f → Wanted-by goal p m f
   by-step : (j : ℕ) → keeps m j → needs (step p j) f → Unwritten p j f → Wanted-by goal p m f
 
-wanted-later : {goal : Assignment} {f : Fact} (a : Action) (p : List Action) (m : Reduction) → (may-write a f → ⊥) → Wanted-by goal p (drop 1 m) f → Wanted-by goal (a ∷ p) m f
+wanted-later : {goal : Assignment} {f : Fact} (a : Action) (p : List Action) (m : Reduction) → (may-write a f → ⊥)
+    → Wanted-by goal p (drop 1 m) f → Wanted-by goal (a ∷ p) m f
 wanted-later a p m first (by-goal g u) = by-goal g (unwritten-more a p first u)
 wanted-later a p m first (by-step j k need u) = by-step (suc j) (rw keeps-later at k) need (unwritten-more a p first u)
 

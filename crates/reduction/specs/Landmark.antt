@@ -1,5 +1,5 @@
--- Which steps of a plan are landmarks (document 01, "Marks", from source document 001, propositions 3 and 4): those that no valid reduction strikes.
--- Steps stand at indices from 0, one less than document 01's positions. Assumes nothing.
+-- Which steps of a plan are marked, as landmarks (document 01, "Marks", from source document 001, propositions 3 and 4). That every valid reduction keeps
+-- them is `landmark-kept` of proofs/LandmarkTheorem. Steps stand at indices from 0, one less than document 01's positions. Assumes nothing.
 use Prim.Native.Nat.{ℕ, _<_}
 use mathlib.Core.Path.{_≡_}
 use mathlib.Core.Logic.{_≢_}

@@ -1,5 +1,6 @@
--- Document 01's ways of striking steps from a plan, over SAS+. Reduction: what is struck, what is left, and when that is valid. Landmark: the steps
--- that no valid reduction strikes. Wanted: those steps, computed.
+-- Document 01's ways of striking steps from a plan, over SAS+. Reduction: what is struck, what is left, and when that is valid. Landmark: the marked
+-- steps, which every valid reduction keeps. Wanted: the same steps, computed. Elimination: trials, elimination and greedy elimination.
 pub mod Reduction
 pub mod Landmark
 pub mod Wanted
+pub mod Elimination

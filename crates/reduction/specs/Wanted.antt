@@ -1,5 +1,5 @@
--- The landmarks of a plan as flags, computed from its last step to its first by the facts that are wanted behind each step. The theorem that these are the
--- steps of `Landmark` stands in proofs/LandmarkTheorem. Assumes nothing.
+-- The landmarks of a plan as flags, computed from its last step to its first by the facts that are wanted behind each step. That they are the marked
+-- steps of `Landmark` is `flagged-just-marked` of proofs/LandmarkTheorem. Assumes nothing.
 use mathlib.Core.Bool.{Bool, false, not, _&&_, _||_}
 use mathlib.Core.List.{List, [], _∷_}
 use lib.ListN.{getD, drop}
@@ -25,12 +25,13 @@ unfoldable pub wanted : Assignment → List Action → Reduction → Fact → Bo
 wanted goal [] m f = has goal f
 wanted goal (a ∷ p) m f = getD m 0 false && has (a .precondition) f || not (has (a .effect) f) && wanted goal p (drop 1 m) f
 
--- a step is flagged when some fact of its effect neither is held before it nor was written, and is wanted behind it: `held` tells those that are or were
+-- the flags of the steps p, where `held` tells the facts that hold at the start or that a step before p writes: a step is flagged when some fact of its
+-- effect is none of those and is wanted behind the step
 unfoldable pub landmarks-behind : (Fact → Bool) → Assignment → List Action → Reduction
 landmarks-behind held goal [] = []
 landmarks-behind held goal (a ∷ p) =
     let m : Reduction = landmarks-behind (λ f. held f || has (a .effect) f) goal p in
     some-fact (λ f. not (held f) && wanted goal p m f) (a .effect) ∷ m
 
-abbrev pub landmarks : State → Assignment → List Action → Reduction
+unfoldable pub landmarks : State → Assignment → List Action → Reduction
 landmarks s goal p = landmarks-behind (holds s) goal p
