@@ -1,4 +1,5 @@
 // A reduction of a plan as a mask of four words: made from flags, counted, and written out.
+use common::access::flag;
 use common::access::put;
 use common::access::word;
 ghost use mathlib.Core.Path.{_≡_};
@@ -40,11 +41,7 @@ fn ones(word: u64) -> u32
 fn digit(flags: &[bool], i: usize) -> u64
     ensures { λ r. ⌜ r ≡ digit-of (getD (now (flags .entry)) i false) ⌝ }
 {
-    if i < flags.len() {
-        if flags[i] { 1 } else { 0 }
-    } else {
-        0
-    }
+    if flag(flags, i) { 1 } else { 0 }
 }
 
 // The word of the flags from index `from` on.

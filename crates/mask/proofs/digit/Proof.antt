@@ -1,21 +1,18 @@
--- `digit` meets its contract: the flag read, or the library's default past the end, by cases. Assumes nothing.
-use lib.ListN.{List·getD-eq-default}
-use mathlib.Core.Bool.{false}
+-- `digit` meets its contract: one where the flag read is up, else zero. Assumes nothing.
+use mathlib.Core.Path.{sym, ap, _∙_}
 use borrow.Author.Needs.{needs}
+use Rattle.mask.specs.Mask.{digit}
 use Rattle.mask.proofs.digit.Statement.{statement}
 use Rattle.mask.proofs.digit.Tie as tie
 
-shared-slice-read-if2 : tie.Need-shared-slice-read-if2
-shared-slice-read-if2 c = search needs
+flag-requires : tie.Need-flag-requires
+flag-requires c κs = search needs
 
 returns : tie.Need-returns
-returns c = rw (c .if2 .taken)
+returns c = ap digit (sym (c .if1 .taken) ∙ c .before .flag .ensures)
 
 returns-2 : tie.Need-returns-2
-returns-2 c = rw (c .if2 .left)
-
-returns-3 : tie.Need-returns-3
-returns-3 c = rw (List·getD-eq-default (c .before .args .flags .now) false (c .if1 .left))
+returns-2 c = ap digit (sym (c .if1 .left) ∙ c .before .flag .ensures)
 
 pub digit-spec : {M : Type 1} → statement M
-digit-spec = tie.close (tie.spec shared-slice-read-if2 returns returns-2 returns-3)
+digit-spec = tie.close (tie.spec flag-requires returns returns-2)
