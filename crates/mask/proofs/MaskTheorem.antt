@@ -1,0 +1,60 @@
+-- A mask tells a reduction: bit i of its words is flag i, its ones are the kept steps, and what is written out by it is the list that the reduction leaves.
+-- Assumes nothing.
+use Prim.Native.Nat.{ℕ, _+_, _*_, _/_, _%_, _^_, _≤_, _<_}
+use native.Mathlib.Nat.{zero-add}
+use native.Mathlib.Omega.{arith}
+use mathlib.Core.Path.{_≡_, refl, _∙_}
+use mathlib.Core.Bool.{true, false}
+use mathlib.Core.List.{List, [], _∷_, _++_}
+use lib.ListN.{length, getD, drop}
+use lib.Seq.{sets, sets-eq, getD-take, getD-drop}
+use Rattle.reduction.specs.Reduction.{Reduction, kept, count}
+use Rattle.reduction.proofs.ReductionLaws.{kept-length}
+use Rattle.mask.specs.Mask.{mask-length, word-bits, mask-bits, digit, binary, words-of, mask-words, ones-of, kept-by-words}
+use Rattle.mask.proofs.WordLaws.{binary-bit}
+use Rattle.mask.proofs.MaskLaws.{words-at, words-fit, words-ones}
+use Rattle.mask.proofs.KeptLaws.{words-keep}
+
+module _ (m : Reduction) where
+  -- "bit (i − 1) mod 64 of word (i − 1) div 64 is one when step i is kept; all other bits are zero", at each bit of the mask
+  pub bit-is-flag : (i : ℕ) → i < mask-bits → getD (mask-words m) (i / word-bits) 0 / 2 ^ (i % word-bits) % 2 ≡ digit (getD m i false)
+  unfolding mask-words
+  bit-is-flag i h =
+      let word : i / word-bits < mask-length = omega arith in
+      let bit : i % word-bits < word-bits = omega arith in
+      let whole : word-bits * (i / word-bits) + i % word-bits ≡ i = omega arith in
+      rw (words-at mask-length (i / word-bits) m word, binary-bit, getD-take word-bits _ (i % word-bits) false bit, getD-drop, whole)
+
+  -- each word fits its type
+  pub word-fits : (k : ℕ) → getD (mask-words m) k 0 < 2 ^ word-bits
+  unfolding mask-words
+  word-fits k = words-fit mask-length k m
+
+  -- "The number of kept steps is the number of ones in the mask."
+  pub ones-are-kept : length m ≤ mask-bits → ones-of (mask-words m) ≡ count m
+  unfolding mask-words
+  ones-are-kept few = words-ones mask-length m few
+
+module _ (m : Reduction) (plan : List ℕ) (few : length m ≤ mask-bits) (fits : length m ≡ length plan) where
+  -- what the words of a reduction of a plan keep is the list that it leaves
+  pub mask-keeps : kept-by-words (mask-words m) plan ≡ kept m plan
+  unfolding kept-by-words mask-words
+  mask-keeps = words-keep plan mask-length 0 m few (omega arith)
+
+  -- as `write_kept` promises of a mask's words: the list left goes over the output from its first word on, and its length is the number of kept steps
+  pub mask-writes : (words before after : List ℕ) (r : ℕ) → words ≡ mask-words m → after ≡ sets before 0 (kept-by-words words plan)
+      → r ≡ length (kept-by-words words plan) → (after ≡ sets before 0 (kept m plan)) × (r ≡ count m)
+  mask-writes words before after r told writes counts =
+      let list : kept-by-words words plan ≡ kept m plan = rw told mask-keeps in
+      (writes ∙ rw list, counts ∙ rw list (kept-length m plan fits))
+
+  -- where it has room: "The kept action numbers go to the front of the lent output", and every other word is as it was
+  pub front-and-rest : (before : List ℕ) → count m ≤ length before → sets before 0 (kept m plan) ≡ kept m plan ++ drop (count m) before
+  front-and-rest before room =
+      let long : length (kept m plan) ≡ count m = kept-length m plan fits in
+      sets-eq (kept m plan) before 0 (omega arith) ∙ rw (long, zero-add)
+
+-- document 01's second example: of six steps 4, 5 and 6 are kept, and the first mask word is 56
+pub second-example : mask-words (false ∷ false ∷ false ∷ true ∷ true ∷ true ∷ []) ≡ 56 ∷ 0 ∷ 0 ∷ 0 ∷ []
+unfolding mask-words words-of binary
+second-example = refl
