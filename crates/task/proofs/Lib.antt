@@ -6,7 +6,7 @@ pub mod FactLaws
 pub mod CauseLaws
 -- Parts: in an accepted task every part lies inside the words.
 pub mod Parts
--- TableLaws: the length, the elements and the members of a table, and the facts among a task's words by the cases of a loop over them.
+-- TableLaws: the length, the elements, the parts and the members of a table, and the facts among a task's words by the cases of a loop over them.
 pub mod TableLaws
 -- Accepted: an accepted task means a well-formed SAS+ task.
 pub mod Accepted

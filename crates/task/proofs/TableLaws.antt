@@ -1,4 +1,4 @@
--- A table's length, its element at an index, and its members, by induction on its length; and the facts among a task's words, which are a table,
+-- A table's length, its element at an index, its parts and its members, by induction on its length; and the facts among a task's words, which are a table,
 -- by the cases of a loop over them, and so a run of stores of a table. Assumes nothing.
 use Prim.Native.Nat.{ℕ, zero, suc, _+_, _-_, _≤_, _<_}
 use native.Mathlib.Numerals.{add-one}
@@ -7,7 +7,7 @@ use mathlib.Core.Path.{_≡_, refl, _∙_, ap}
 use mathlib.Core.Logic.{⊎-elim}
 use mathlib.Core.Bool.{Bool, true, false}
 use mathlib.Core.List.{List, [], _∷_, List·Memᴰ, List·Memᴰ·head, List·Memᴰ·tail, List·Memᴰ·not-nil, List·Memᴰ·cases-cons, append-nil}
-use lib.ListN.{length, getD, set, drop, drop-of-length-le}
+use lib.ListN.{length, getD, set, take, drop, drop-of-length-le}
 use lib.Seq.{sets, sets-eq}
 use lib.Dec.{eqb}
 use borrow.Author.Tests.{eqb-true, eqb-false}
@@ -35,6 +35,25 @@ module _ {A : Type 0} (f : ℕ → A) where
   table-at i zero k j d h e = absurd (omega arith)
   table-at i (suc n) zero j d h e = ap f (omega arith)
   table-at i (suc n) (suc k) j d h e = table-at (i + 1) n k j d (omega arith) (omega arith)
+
+  -- the first m elements, and m elements from index k on, at number j = i + k
+  pub table-take : (i m n : ℕ) → m ≤ n → take m (table f i n) ≡ table f i m
+  unfolding table
+  table-take i zero n h = refl
+  table-take i (suc m) zero h = absurd (omega arith)
+  table-take i (suc m) (suc n) h = ap (λ l. f i ∷ l) (table-take (i + 1) m n (omega arith))
+
+  pub table-part : (i k m n j : ℕ) → k + m ≤ n → j ≡ i + k → take m (drop k (table f i n)) ≡ table f j m
+  unfolding table
+  table-part i zero m n j h e = let same : j ≡ i = omega arith in rw same (table-take i m n (omega arith))
+  table-part i (suc k) m zero j h e = absurd (omega arith)
+  table-part i (suc k) m (suc n) j h e = table-part (i + 1) k m n j (omega arith) (omega arith)
+
+  -- a function that agrees with f at each number of the table makes the same table
+  pub table-same : (g : ℕ → A) (i n : ℕ) → ((k : ℕ) → i ≤ k → k < i + n → f k ≡ g k) → table f i n ≡ table g i n
+  unfolding table
+  table-same g i zero same = refl
+  table-same g i (suc n) same = rw (same i (omega arith) (omega arith), table-same g (i + 1) n (λ k low high. same k (omega arith) (omega arith)))
 
   -- each value at a number of the table is one of its members
   pub table-member : (i n k : ℕ) → i ≤ k → k < i + n → List·Memᴰ (f k) (table f i n)

@@ -11,9 +11,9 @@ pub(crate) const VARIABLES_AT: usize = 1;
 
 pub(crate) const ACTIONS_AT: usize = 2;
 
-pub(crate) const LENGTH_AT: usize = 3;
+pub const LENGTH_AT: usize = 3;
 
-pub(crate) const PAIRS_AT: usize = 4;
+pub const PAIRS_AT: usize = 4;
 
 pub(crate) const PAIR: usize = 2;
 

@@ -1,0 +1,3 @@
+-- Form: little-endian words, the form of input, and how much of it must be read to tell. Long: the refusal of a plan that is too long to be read.
+pub mod Form
+pub mod Long

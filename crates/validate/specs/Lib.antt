@@ -1,0 +1,2 @@
+-- Validate: what the program answers to the bytes of its input.
+pub mod Validate

@@ -1,0 +1,30 @@
+// What the program answers to the bytes of its input.
+use common::refusal::Refusal;
+use form::frame::Frame;
+use form::framing::WORDS;
+use form::framing::frame;
+use form::long::refuse_long;
+use form::unpack::unpack;
+use plan::check::Answer;
+use plan::check::check_plan;
+ghost use mathlib.Core.Path.{_≡_};
+ghost use Rattle.validate.specs.Validate.{outcome-of, outcome};
+
+// The input's form goes before every other check.
+pub(crate) fn check_input(bytes: &[u8]) -> Answer
+    ensures { λ r. ⌜ outcome-of r ≡ outcome (now (bytes .entry)) ⌝ }
+{
+    let mut space = [0u32; WORDS];
+    unpack(bytes, &mut space);
+    let words = &space[..];
+    let framed = frame(bytes);
+    match framed {
+        Frame::Broken => Answer::Refused(Refusal::Length),
+        Frame::Long { task } => Answer::Refused(refuse_long(&words[..task])),
+        Frame::Whole { task, plan } => {
+            let start = task + 1;
+            let checked = check_plan(&words[..task], &words[start..start + plan]);
+            checked.answer
+        }
+    }
+}
