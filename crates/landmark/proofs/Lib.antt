@@ -1,0 +1,2 @@
+-- StampLaws: a table stamped with the facts among a task's words, by the cases of a loop over them, and what it holds at a fact.
+pub mod StampLaws

@@ -1,0 +1,3 @@
+// The landmarks of a plan (document 01: marks).
+// tables: one word for each fact, stamped by the facts of a task.
+mod tables;
