@@ -2,3 +2,9 @@
 pub mod StampLaws
 -- WalkLaws: the walks along a plan from its last step, by the cases of their loops.
 pub mod WalkLaws
+-- FlagTheorem: the flags of the walks are the landmarks.
+pub mod FlagTheorem
+-- MarkLaws: what the landmarks and the service answer, on each of their ways.
+pub mod MarkLaws
+-- MarkTheorem: the marks are those of the rule of document 01.
+pub mod MarkTheorem
