@@ -11,6 +11,7 @@ use Rattle.common.specs.Refusal.{told}
 use Rattle.common.specs.Check.{answer}
 use Rattle.reduction.specs.Reduction.{Reduction}
 use Rattle.reduction.specs.Wanted.{landmarks}
+use Rattle.mask.specs.Mask.{mask-words}
 use Rattle.task.specs.Decode.{initial, goal}
 use Rattle.plan.specs.Limits.{most-steps}
 use Rattle.plan.specs.Valid.{steps}
@@ -32,3 +33,8 @@ marks-of w l = elim (answer (plan-checks w l)) [ none ↦ flags-of w l | some t 
 pub record Marks (w l : List ℕ) (verdict : Verdict) (flags : Reduction) : Type 0 where
   pub refusal : told verdict ≡ answer (plan-checks w l)
   pub marked : flags ≡ marks-of w l
+
+-- the same as a mask: bit i of the words is the mark of step i + 1, and all other bits are zero
+pub record Masks (w l : List ℕ) (verdict : Verdict) (mask : List ℕ) : Type 0 where
+  pub refusal : told verdict ≡ answer (plan-checks w l)
+  pub marked : mask ≡ mask-words (marks-of w l)
