@@ -224,7 +224,7 @@ module _ (w l : List ℕ) (v v′ : Verdict) (start : State) (place : Place)
   padded : start ≡ pad (limits .variables) (initial w)
   padded = starts ∙ start-padded w accepted
 
-  walked-fault : fault (goal w) (initial w) 1 (steps w l) ≡ place
+  pub walked-fault : fault (goal w) (initial w) 1 (steps w l) ≡ place
   walked-fault = sym (walks ∙ rw padded (padded-fault w l accepted (listed-entries w l listed .1) (limits .variables) 1))
 
   pub checks-not-valid : (k : ℕ) → place ≡ At k → Checks w l (Refused (NotAPlan k)) (replicate (limits .variables) 0)
