@@ -18,7 +18,7 @@ use Rattle.tally.specs.Tally.{nothing, comparison}
 use Rattle.plan.specs.declared.check.Answer.the-variants.{Valid, Refused}
 use Rattle.plan.proofs.PlanTheorem.{Readable}
 use Rattle.reduction.specs.Reduction.{Reduction}
-use Rattle.mask.specs.Mask.{mask-length, mask-words, ones-of, kept-by-words}
+use Rattle.mask.specs.Mask.{mask-length, mask-bits, mask-words, ones-of, kept-by-words}
 use Rattle.mask.proofs.MaskTheorem.{ones-are-kept, mask-keeps}
 use Rattle.elimination.specs.Round.{tallied}
 use Rattle.elimination.specs.Reduced.{reduction-checks, Reduces, elimination-of, greedy-elimination-of, Reduces-both, cheaper-part}
@@ -28,7 +28,7 @@ use Rattle.elimination.proofs.TalliedLaws.{plainly}
 pub keeps : (w l : List ℕ) (m : Reduction) (before after words : List ℕ) (tally : Tally) (ones : ℕ) → Readable w l → length m ≡ length l → words ≡ mask-words m
     → tally ≡ tallied w l m → ones ≡ ones-of words → after ≡ sets before 0 (kept-by-words words l) → Keeps w l m before (record { cost = tally .cost; steps = ones }) words after
 keeps w l m before after words tally ones readable fits told-by counts counted writes =
-    let few : length m ≤ 256 = omega (arith, readable .few) in
+    let few : length m ≤ mask-bits = omega (arith, readable .few) in
     record {
       counted = rw (counts ∙ plainly w l m readable fits, counted, told-by, ones-are-kept m few);
       told-by = told-by;

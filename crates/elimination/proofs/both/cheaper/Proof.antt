@@ -1,5 +1,5 @@
-use mathlib.Core.Path.{sym}
 -- `cheaper` meets its contract: a list that passes is valid where the eliminations begin, and each leaves what its definition says. Assumes nothing.
+use mathlib.Core.Path.{sym}
 use Rattle.elimination.proofs.ChecksLaws.{readable, valid-start, elimination-leaves, greedy-leaves}
 use Rattle.elimination.proofs.ServiceLaws.{both-refused, both-kept}
 use borrow.Author.Needs.{needs}

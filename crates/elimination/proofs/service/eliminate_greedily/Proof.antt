@@ -1,5 +1,5 @@
-use mathlib.Core.Path.{sym}
 -- `eliminate_greedily` meets its contract: a list that passes is valid where greedy elimination begins, and it leaves what the definition says. Assumes nothing.
+use mathlib.Core.Path.{sym}
 use Rattle.elimination.proofs.ChecksLaws.{readable, valid-start, greedy-leaves}
 use Rattle.elimination.proofs.ServiceLaws.{reduces-refused, reduces-kept}
 use borrow.Author.Needs.{needs}
