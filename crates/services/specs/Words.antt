@@ -1,11 +1,19 @@
 -- What answers, tallies, orders and states are as words. Assumes nothing.
-use Prim.Native.Nat.{ℕ}
+use Prim.Native.Nat.{ℕ, min}
+use mathlib.Core.Path.{_≡_}
 use mathlib.Core.Option.{Option, none, some}
-use mathlib.Core.List.{List, [], _∷_}
+use mathlib.Core.List.{List, [], _∷_, _++_}
+use lib.ListN.{length, replicate}
+use lib.Seq.{sets}
 use Rattle.common.specs.Refusal.{Told}
+use Rattle.common.specs.Check.{answer}
 use Rattle.tally.specs.declared.Tally.{Tally}
 use Rattle.tally.specs.declared.Order.{Order}
 use Rattle.tally.specs.declared.Order.the-variants.{Less, Equal, Greater}
+use Rattle.tally.specs.Tally.{nothing}
+use Rattle.reduction.specs.Reduction.{Reduction}
+use Rattle.mask.specs.Mask.{mask-length, mask-words}
+use Rattle.elimination.specs.Reduced.{reduction-checks, unless-refused, elimination-of, greedy-elimination-of, tally-left, output-left}
 use Rattle.task.specs.Limits.{limits}
 use Rattle.task.specs.Layout.{word}
 use Rattle.task.specs.Decode.{table}
@@ -31,3 +39,18 @@ order-number Greater = 2
 -- the state that lent words are: the first 64 of them, 0 past their end
 unfoldable pub lent-state : List ℕ → List ℕ
 lent-state words = table (word words) 0 (limits .variables)
+
+-- the reduction m of the list l over lent words: the list left over `output`, the mask over `mask`, the answer and the tally over `out`
+pub record Reduces-lent (w l : List ℕ) (m : Reduction) (output output′ mask mask′ out out′ : List ℕ) : Type 0 where
+  pub list-left : output′ ≡ unless-refused (answer (reduction-checks w l (length output))) (output-left l m output) output
+  pub told-by : mask′ ≡ sets mask 0 (unless-refused (answer (reduction-checks w l (length output))) (mask-words m) (replicate mask-length 0))
+  pub answered : out′ ≡ sets out 0 (answer-words (answer (reduction-checks w l (length output)))
+      ++ tally-words (unless-refused (answer (reduction-checks w l (length output))) (tally-left w l m) nothing))
+
+-- both eliminations over lent words
+pub record Reduces-both-lent (w l first first′ second second′ out out′ : List ℕ) : Type 0 where
+  pub first-left : first′ ≡ unless-refused (answer (reduction-checks w l (min (length first) (length second)))) (output-left l (elimination-of w l) first) first
+  pub second-left : second′ ≡ unless-refused (answer (reduction-checks w l (min (length first) (length second)))) (output-left l (greedy-elimination-of w l) second) second
+  pub answered : out′ ≡ sets out 0 (answer-words (answer (reduction-checks w l (min (length first) (length second))))
+      ++ (tally-words (unless-refused (answer (reduction-checks w l (min (length first) (length second)))) (tally-left w l (elimination-of w l)) nothing)
+      ++ tally-words (unless-refused (answer (reduction-checks w l (min (length first) (length second)))) (tally-left w l (greedy-elimination-of w l)) nothing)))

@@ -5,6 +5,7 @@ use common::access::word;
 use common::refusal::Verdict;
 use plan::check::Answer;
 use step::one::State;
+use tally::Tally;
 use task::limits::Task;
 ghost use mathlib.Core.Path.{_≡_};
 ghost use Prim.Native.Nat.{_<_, _^_};
@@ -16,6 +17,9 @@ ghost use Rattle.services.specs.Words.{answer-words, tally-words, lent-s
 
 // Where the tally of a plan stands, after the refusal's number and place.
 const TALLY_AT: usize = 2;
+
+// Where a second tally stands.
+const OTHER_AT: usize = 4;
 
 // Writes two numbers, the first at index `at`.
 pub(crate) fn write_pair(out: &mut [u64], at: usize, first: u64, second: u64)
@@ -55,6 +59,15 @@ pub(crate) fn write_answer(out: &mut [u64], given: Answer)
             write_pair(out, TALLY_AT, 0, 0);
         }
     }
+}
+
+// Writes the answer of both eliminations: the number and the place of a refusal, or 0 and 0, then the two tallies.
+pub(crate) fn write_both(out: &mut [u64], verdict: Verdict, first: Tally, second: Tally)
+    ensures { λ _. ⌜ now (out .exit) ≡ sets (now (out .entry)) 0 (answer-words (told verdict) ++ (tally-words first ++ tally-words second)) ⌝ }
+{
+    write_verdict(out, verdict);
+    write_pair(out, TALLY_AT, first.cost as u64, first.steps as u64);
+    write_pair(out, OTHER_AT, second.cost as u64, second.steps as u64);
 }
 
 // Writes wide values from the first word on.

@@ -5,10 +5,15 @@ mod lent;
 
 use crate::lent::read_state;
 use crate::lent::write_answer;
+use crate::lent::write_both;
 use crate::lent::write_pair;
 use crate::lent::write_values;
 use crate::lent::write_verdict;
 use crate::lent::write_wide;
+use elimination::both::cheaper;
+use elimination::both::kept_part;
+use elimination::service::eliminate_greedily;
+use elimination::service::eliminate_plan;
 use landmark::masked::marks_mask;
 use plan::check::check_plan;
 use step::one::step;
@@ -17,6 +22,7 @@ use tally::Tally;
 use task::sheet::check_sheet;
 ghost use mathlib.Core.Path.{_≡_};
 ghost use mathlib.Core.List.{_++_};
+ghost use lib.ListN.{length};
 ghost use lib.Seq.{sets};
 ghost use Rattle.common.specs.Check.{answer};
 ghost use Rattle.tally.specs.Tally.{one-more, comparison};
@@ -25,7 +31,8 @@ ghost use Rattle.step.specs.Step.{step-checks, state-after};
 ghost use Rattle.plan.specs.Checked.{plan-checks, tally-of as plan-tally, end-state};
 ghost use Rattle.mask.specs.Mask.{mask-words};
 ghost use Rattle.landmark.specs.Marks.{marks-of};
-ghost use Rattle.services.specs.Words.{answer-words, tally-of, tally-words, order-number, lent-state};
+ghost use Rattle.elimination.specs.Reduced.{elimination-of, greedy-elimination-of, cheaper-part};
+ghost use Rattle.services.specs.Words.{answer-words, tally-of, tally-words, order-number, lent-state, Reduces-lent, Reduces-both-lent};
 
 // Checks a task: the number and the place of its refusal go to `out`, or 0 and 0.
 #[no_mangle]
@@ -114,4 +121,87 @@ pub extern "C" fn hollchiku_marks(words: &[u32], plan: &[u32], mask: &mut [u64],
     let bits = marks.words;
     write_wide(mask, &bits);
     write_verdict(out, verdict);
+}
+
+// Elimination: the kept action numbers go to the front of `output`, the four words of their mask to `mask`, and the number and the place of a refusal, or 0 and 0, then the cost and the steps to `out`.
+#[no_mangle]
+pub extern "C" fn hollchiku_eliminate(
+    words: &[u32],
+    plan: &[u32],
+    output: &mut [u32],
+    mask: &mut [u64],
+    out: &mut [u64],
+)
+    ensures { λ _. ⌜ Reduces-lent (now (words .entry)) (now (plan .entry)) (elimination-of (now (words .entry)) (now (plan .entry))) (now (output .entry)) (now (output .exit)) (now (mask .entry)) (now (mask .exit)) (now (out .entry)) (now (out .exit)) ⌝ }
+{
+    let reduced = eliminate_plan(words, plan, output);
+    let given = reduced.answer;
+    let kept = reduced.mask;
+    let bits = kept.words;
+    write_wide(mask, &bits);
+    write_answer(out, given);
+}
+
+// Greedy elimination, in the same form.
+#[no_mangle]
+pub extern "C" fn hollchiku_greedy(
+    words: &[u32],
+    plan: &[u32],
+    output: &mut [u32],
+    mask: &mut [u64],
+    out: &mut [u64],
+)
+    ensures { λ _. ⌜ Reduces-lent (now (words .entry)) (now (plan .entry)) (greedy-elimination-of (now (words .entry)) (now (plan .entry))) (now (output .entry)) (now (output .exit)) (now (mask .entry)) (now (mask .exit)) (now (out .entry)) (now (out .exit)) ⌝ }
+{
+    let reduced = eliminate_greedily(words, plan, output);
+    let given = reduced.answer;
+    let kept = reduced.mask;
+    let bits = kept.words;
+    write_wide(mask, &bits);
+    write_answer(out, given);
+}
+
+// Both eliminations: the list that each leaves goes to the front of its output, elimination's to `first`; the number and the place of a refusal, or 0 and 0, then both tallies go to `out`.
+#[no_mangle]
+pub extern "C" fn hollchiku_cheaper(
+    words: &[u32],
+    plan: &[u32],
+    first: &mut [u32],
+    second: &mut [u32],
+    out: &mut [u64],
+)
+    ensures { λ _. ⌜ Reduces-both-lent (now (words .entry)) (now (plan .entry)) (now (first .entry)) (now (first .exit)) (now (second .entry)) (now (second .exit)) (now (out .entry)) (now (out .exit)) ⌝ }
+{
+    let both = cheaper(words, plan, first, second);
+    let verdict = both.verdict;
+    let of_first = both.first;
+    let of_second = both.second;
+    write_both(out, verdict, of_first, of_second);
+}
+
+// The kept part of the cheaper of two lists goes to the front of `part`; its length is returned.
+#[no_mangle]
+pub extern "C" fn hollchiku_kept_part<'a>(
+    first: &'a [u32],
+    second: &'a [u32],
+    cost: u32,
+    steps: u32,
+    other: u32,
+    others: u32,
+    part: &mut [u32],
+) -> u64
+    ensures part { λ _. ⌜ now (part .exit) ≡ sets (now (part .entry)) 0 (cheaper-part (now (first .entry)) (now (second .entry)) (tally-of cost steps) (tally-of other others)) ⌝ }
+    ensures length { λ r. ⌜ r ≡ length (cheaper-part (now (first .entry)) (now (second .entry)) (tally-of cost steps) (tally-of other others)) ⌝ }
+{
+    let kept = kept_part(
+        first,
+        second,
+        Tally { cost, steps },
+        Tally {
+            cost: other,
+            steps: others,
+        },
+    );
+    write_values(part, kept);
+    kept.len() as u64
 }
