@@ -3,6 +3,7 @@
 //! of memory that is lent.
 
 mod cases;
+mod cycles;
 mod faults;
 mod kinds;
 mod layout;

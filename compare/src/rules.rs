@@ -159,7 +159,8 @@ pub type Mask = [u64; MASK_WORDS];
 
 pub const MASK_WORDS: usize = 4;
 
-fn mask_of(indices: impl Iterator<Item = usize>) -> Mask {
+/// The mask of the steps with these indices.
+pub fn mask_of(indices: impl Iterator<Item = usize>) -> Mask {
     let word_bits = u64::BITS as usize;
     let mut mask = [0; MASK_WORDS];
     for index in indices {
