@@ -129,6 +129,20 @@ fn random_plan_call(random: &mut Random) -> Call {
     ])
 }
 
+/// The steps of a plan that greedy elimination doesn't take long over.
+const QUICK_STEPS: usize = 40;
+
+/// Long plans seldom go to greedy elimination.
+fn valid_plan_call(random: &mut Random, steps: usize) -> Call {
+    let call = random_plan_call(random);
+    let takes_long = steps > QUICK_STEPS && matches!(call, Call::Greedy | Call::Cheaper);
+    if takes_long && !random.once_in(32) {
+        Call::Eliminate
+    } else {
+        call
+    }
+}
+
 fn fillers(random: &mut Random, length: usize) -> Vec<u32> {
     (0..length).map(|_| random.filler() as u32).collect()
 }

@@ -2,6 +2,7 @@
 //! random cases and on the document's own worked lists. A case compares the answer and every word
 //! of memory that is lent.
 
+mod answered;
 mod cases;
 mod cycles;
 mod faults;

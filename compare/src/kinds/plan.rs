@@ -1,7 +1,7 @@
 //! Plans: valid ones by walks, for the checker of plans, and each way for a plan to be refused, for
 //! every service that takes a plan.
 
-use super::{plan_case, random_plan_call, Make};
+use super::{plan_case, random_plan_call, valid_plan_call, Make};
 use crate::cases::{Call, Case};
 use crate::plans::{random_step, Walk};
 use crate::random::Random;
@@ -94,7 +94,9 @@ fn earlier_goal(random: &mut Random) -> Option<Case> {
     let last_but_one = walk.states.len().saturating_sub(2);
     let state = walk.states[random.pick(&[steps_before, last_but_one])];
     walk.task.set_goal_from(&state);
-    Some(case_of(random, &walk))
+    let call = valid_plan_call(random, walk.plan.len());
+    let (words, plan) = (walk.task.words(), walk.plan);
+    Some(plan_case(random, call, words, plan))
 }
 
 /// A walk of at least one step, and the index of one of them.

@@ -1,16 +1,17 @@
 //! Marks, both eliminations and the cheaper of their results, on plans that hold much to strike and
 //! on plans that hold little.
 
-use super::{plan_case, plan_case_with, Make};
+use super::{plan_case, plan_case_with, valid_plan_call, Make, QUICK_STEPS};
+use crate::answered::{self, Answered};
 use crate::cases::{accepted_out, Call, Case, Due};
-use crate::cycles::{self, Mixture, Shape};
+use crate::cycles::{self, Shape};
 use crate::plans::{random_step, Walk};
 use crate::random::Random;
 use crate::rules::{self, Cause};
 
 pub const KINDS: &[(&str, Make)] = &[
     ("reduction: cycles", of_cycles),
-    ("reduction: cycles, up to 60 steps", of_long_cycles),
+    ("reduction: cycles, many steps", of_long_cycles),
     ("reduction: repeated actions", of_few_actions),
     ("reduction: free actions", of_free_actions),
     ("reduction: tied costs", of_tied_costs),
@@ -19,8 +20,9 @@ pub const KINDS: &[(&str, Make)] = &[
     ("reduction: 0 or 1 steps", of_shortest),
     ("reduction: steps beside mask words", of_edge_length),
     ("reduction: task of any shape", of_any_task),
-    ("reduction: needed steps and lamps", of_mixture),
-    ("reduction: needed steps, few lamps", of_long_mixture),
+    ("reduction: needed steps and lamps", with_lamps),
+    ("reduction: needed steps, few lamps", with_few_lamps),
+    ("reduction: ways to one goal", with_ways),
     ("reduction: output short", with_short_output),
     (
         "reduction: output short, plan not valid",
@@ -34,22 +36,10 @@ pub const KINDS: &[(&str, Make)] = &[
 
 /// The numbers of steps at which a word of a mask ends, or the longest plan.
 const EDGE_LENGTHS: [usize; 9] = [63, 64, 65, 127, 128, 129, 254, 255, 256];
-/// A plan that greedy elimination takes no long time over.
 const SHORT: usize = 14;
 
-/// Long plans seldom go to greedy elimination, which takes long over them.
-fn random_call(random: &mut Random, steps: usize) -> Call {
-    let with_greedy = steps <= 4 * SHORT || random.once_in(16);
-    match random.index(if with_greedy { 4 } else { 2 }) {
-        0 => Call::Marks,
-        1 => Call::Eliminate,
-        2 => Call::Greedy,
-        _ => Call::Cheaper,
-    }
-}
-
 fn case_of(random: &mut Random, walk: &Walk) -> Case {
-    let call = random_call(random, walk.plan.len());
+    let call = valid_plan_call(random, walk.plan.len());
     plan_case(random, call, walk.task.words(), walk.plan.clone())
 }
 
@@ -64,7 +54,7 @@ fn of_cycles(random: &mut Random) -> Option<Case> {
 }
 
 fn of_long_cycles(random: &mut Random) -> Option<Case> {
-    of_shape(random, cycles::USUAL, 60)
+    of_shape(random, cycles::USUAL, QUICK_STEPS)
 }
 
 fn of_few_actions(random: &mut Random) -> Option<Case> {
@@ -114,48 +104,80 @@ fn of_any_task(random: &mut Random) -> Option<Case> {
     Some(case_of(random, &walk))
 }
 
-fn of_mixture(random: &mut Random) -> Option<Case> {
+fn with_lamps(random: &mut Random) -> Option<Case> {
     let needed = random.size(0..=SHORT);
     let lamps = random.size(0..=SHORT);
-    let mixture = cycles::mixture(random, needed, lamps);
-    Some(mixture_case(random, &mixture))
+    let answered = answered::with_lamps(random, needed, lamps);
+    Some(answered_case(random, &answered))
 }
 
-fn of_long_mixture(random: &mut Random) -> Option<Case> {
-    let lamps = random.size(0..=4);
-    let steps = random.pick(&EDGE_LENGTHS[..EDGE_LENGTHS.len() - 1]);
-    let mixture = cycles::mixture(random, steps - lamps, lamps);
-    Some(mixture_case(random, &mixture))
+fn with_few_lamps(random: &mut Random) -> Option<Case> {
+    let lamps = random.size(0..=3);
+    let steps = random.pick(&EDGE_LENGTHS).min(rules::MAX_STEPS);
+    let answered = answered::with_lamps(random, steps - lamps, lamps);
+    Some(answered_case(random, &answered))
 }
 
-/// The needed steps are marked, and they are what is kept.
-fn mixture_case(random: &mut Random, mixture: &Mixture) -> Case {
-    let Mixture { task, plan, needed } = mixture;
-    let call = random_call(random, plan.len());
-    let kept: Vec<u32> = needed.iter().map(|&step| plan[step]).collect();
-    let cost_of = |&action: &u32| task.actions[action as usize].cost as usize;
-    let counts = [kept.iter().map(cost_of).sum(), kept.len()];
+fn with_ways(random: &mut Random) -> Option<Case> {
+    let answered = answered::with_ways(random);
+    Some(answered_case(random, &answered))
+}
+
+fn answered_case(random: &mut Random, answered: &Answered) -> Case {
+    let Answered { task, plan, .. } = answered;
+    let call = valid_plan_call(random, plan.len());
     let case = plan_case(random, call, task.words(), plan.clone());
     let due = match call {
         Call::Marks => Due {
             out: accepted_out(&[]),
-            mask: rules::mask_of(needed.iter().copied()).into(),
+            mask: mask_of(&answered.marked),
             ..Due::default()
         },
-        Call::Cheaper => Due {
-            out: accepted_out(&[counts, counts].concat()),
-            first: in_front(&kept, &case.first),
-            second: in_front(&kept, &case.second),
-            ..Due::default()
-        },
+        Call::Eliminate => reduction_due(answered, &answered.eliminated, &case),
+        Call::Greedy => reduction_due(answered, &answered.greedy, &case),
+        Call::Cheaper => cheaper_due(answered, &case),
         _ => Due {
-            out: accepted_out(&counts),
-            mask: rules::mask_of(needed.iter().copied()).into(),
-            first: in_front(&kept, &case.first),
+            out: accepted_out(&counts(answered, plan)),
             ..Due::default()
         },
     };
     case.due(due)
+}
+
+fn reduction_due(answered: &Answered, steps: &[usize], case: &Case) -> Due {
+    let kept = actions_of(answered, steps);
+    Due {
+        out: accepted_out(&counts(answered, &kept)),
+        mask: mask_of(steps),
+        first: in_front(&kept, &case.first),
+        ..Due::default()
+    }
+}
+
+fn cheaper_due(answered: &Answered, case: &Case) -> Due {
+    let first = actions_of(answered, &answered.eliminated);
+    let second = actions_of(answered, &answered.greedy);
+    let both = [counts(answered, &first), counts(answered, &second)];
+    Due {
+        out: accepted_out(&both.concat()),
+        first: in_front(&first, &case.first),
+        second: in_front(&second, &case.second),
+        ..Due::default()
+    }
+}
+
+fn actions_of(answered: &Answered, steps: &[usize]) -> Vec<u32> {
+    steps.iter().map(|&step| answered.plan[step]).collect()
+}
+
+/// The cost and the number of these steps.
+fn counts(answered: &Answered, plan: &[u32]) -> [usize; 2] {
+    let cost_of = |&action: &u32| answered.task.actions[action as usize].cost as usize;
+    [plan.iter().map(cost_of).sum(), plan.len()]
+}
+
+fn mask_of(steps: &[usize]) -> Vec<u64> {
+    rules::mask_of(steps.iter().copied()).to_vec()
 }
 
 /// An output with the words in its front and the others as they were.
