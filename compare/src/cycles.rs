@@ -132,7 +132,7 @@ fn add_move(random: &mut Random, task: &mut Task, costs: Costs) {
     }
 }
 
-fn random_applicable(random: &mut Random, task: &Task, state: &State) -> u32 {
+pub fn random_applicable(random: &mut Random, task: &Task, state: &State) -> u32 {
     let actions = 0..task.actions.len() as u32;
     let applicable: Vec<u32> = actions
         .filter(|&action| task.actions[action as usize].is_applicable(state))
