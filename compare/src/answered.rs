@@ -2,6 +2,7 @@
 
 use crate::random::Random;
 use crate::sheets::{Action, Fact, Task};
+use std::cmp::Reverse;
 
 const COSTS: [u32; 4] = [0, 1, 2, 3];
 
@@ -64,75 +65,90 @@ pub fn with_lamps(random: &mut Random, needed: usize, lamps: usize) -> Answered 
     }
 }
 
-/// One of several ways to the goal: how many steps it has, and what they cost.
+/// One of several ways to the goal.
 struct Way {
-    length: usize,
-    cost: u32,
+    actions: Vec<Action>,
     /// The indices of its steps in the plan.
     steps: Vec<usize>,
 }
 
-/// Several ways to one goal, each of steps that make the next one possible, laid into each other.
-/// A trial succeeds while two ways are left, and the one at a way's first step strikes the most of
-/// it: so elimination is left with the way that begins last, and greedy elimination with the
-/// cheapest, of those with the fewest steps, of those with the one that begins last.
-pub fn with_ways(random: &mut Random) -> Answered {
-    let goal = counted(0, 1);
-    let (mut ways, mut actions) = (Vec::new(), Vec::new());
-    for variable in 1..=random.size(1..=4) {
-        let length = random.size(1..=4);
-        let mut cost = 0;
-        for step in 0..length {
-            let mut action = Action {
+/// The fact that every way ends in; a way's own variable stands behind it.
+const WAYS_GOAL: Fact = Fact {
+    variable: 0,
+    value: 1,
+};
+
+impl Way {
+    /// Steps that each make the next one possible.
+    fn random(random: &mut Random, variable: usize) -> Self {
+        let last = random.size(0..=3);
+        let action = |step| {
+            let next = counted(variable, step + 1);
+            Action {
                 cost: random.pick(&COSTS),
                 preconditions: vec![counted(variable, step)],
-                effects: vec![counted(variable, step + 1)],
-            };
-            if step + 1 == length {
-                action.effects.insert(0, goal);
+                effects: match step == last {
+                    true => vec![WAYS_GOAL, next],
+                    false => vec![next],
+                },
             }
-            cost += action.cost;
-            actions.push(action);
+        };
+        Way {
+            actions: (0..=last).map(action).collect(),
+            steps: Vec::new(),
         }
-        let steps = Vec::new();
-        ways.push(Way {
-            length,
-            cost,
-            steps,
-        });
     }
-    let plan = laid_into_each_other(random, &mut ways);
-    let sizes = ways.iter().map(|way| way.length as u32 + 1);
-    let beginning_last = ways.iter().max_by_key(|way| way.steps[0]);
-    let cheapest = ways
-        .iter()
-        .min_by_key(|way| (way.cost, way.length, usize::MAX - way.steps[0]));
-    let steps_of = |way: Option<&Way>| way.map_or(Vec::new(), |way| way.steps.clone());
-    Answered {
-        task: Task {
-            sizes: [2].into_iter().chain(sizes).collect(),
-            start: vec![0; 1 + ways.len()],
-            goal: vec![goal],
-            actions,
-        },
-        plan,
-        marked: steps_of(ways.first().filter(|_| ways.len() == 1)),
-        eliminated: steps_of(beginning_last),
-        greedy: steps_of(cheapest),
+
+    fn cost(&self) -> u32 {
+        self.actions.iter().map(|action| action.cost).sum()
     }
 }
 
-/// The plan of all the ways, whose actions stand in the task one way after the other.
+/// Several ways to one goal. A trial succeeds while two of them are left, and the one at a way's
+/// first step strikes the most of it: so elimination is left with the way that begins last, and
+/// greedy elimination with the cheapest, of those the shortest, of those the one that begins last.
+/// Steps are marked where there is only one way.
+pub fn with_ways(random: &mut Random) -> Answered {
+    let variables = 1..=random.size(1..=4);
+    let mut ways: Vec<Way> = variables.map(|v| Way::random(random, v)).collect();
+    let plan = laid_into_each_other(random, &mut ways);
+    let price = |way: &&Way| (way.cost(), way.steps.len(), Reverse(way.steps[0]));
+    let beginning_last = ways.iter().max_by_key(|way| way.steps[0]);
+    let cheapest = ways.iter().min_by_key(price);
+    let only = ways.first().filter(|_| ways.len() == 1);
+    let steps_of = |way: Option<&Way>| way.map_or(Vec::new(), |way| way.steps.clone());
+    Answered {
+        plan,
+        marked: steps_of(only),
+        eliminated: steps_of(beginning_last),
+        greedy: steps_of(cheapest),
+        task: task_of(&ways),
+    }
+}
+
+/// The actions stand in the task one way after the other.
+fn task_of(ways: &[Way]) -> Task {
+    let sizes = ways.iter().map(|way| way.actions.len() as u32 + 1);
+    Task {
+        sizes: [WAYS_GOAL.value + 1].into_iter().chain(sizes).collect(),
+        start: vec![0; 1 + ways.len()],
+        goal: vec![WAYS_GOAL],
+        actions: ways.iter().flat_map(|way| way.actions.clone()).collect(),
+    }
+}
+
+/// The plan of all the ways, each of whose steps stand in their order.
 fn laid_into_each_other(random: &mut Random, ways: &mut [Way]) -> Vec<u32> {
-    let all = ways.iter().map(|way| way.length).sum();
+    let all = ways.iter().map(|way| way.actions.len()).sum();
     let mut plan = Vec::new();
     while plan.len() < all {
         let chosen = random.index(ways.len());
-        let before: usize = ways[..chosen].iter().map(|way| way.length).sum();
+        let before: usize = ways[..chosen].iter().map(|way| way.actions.len()).sum();
         let way = &mut ways[chosen];
-        if way.steps.len() < way.length {
+        let done = way.steps.len();
+        if done < way.actions.len() {
             way.steps.push(plan.len());
-            plan.push((before + way.steps.len() - 1) as u32);
+            plan.push((before + done) as u32);
         }
     }
     plan

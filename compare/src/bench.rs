@@ -12,6 +12,8 @@ use std::time::{Duration, Instant};
 
 const SEED: u64 = 1;
 const GATES: usize = 10;
+/// Each gate has a basin.
+const VARIABLES: usize = 2 * GATES;
 /// A basin is drained from full through these steps.
 const LEVELS: u32 = 3;
 /// The facts that a large action has among its preconditions, and as many among its effects.
@@ -112,7 +114,7 @@ fn gates_walk(random: &mut Random) -> Walk {
     let basins = [LEVELS; GATES];
     let mut walk = Walk::within(Task {
         sizes: [&[2; GATES][..], &basins[..]].concat(),
-        start: vec![0; 2 * GATES],
+        start: vec![0; VARIABLES],
         goal: Vec::new(),
         actions,
     });
@@ -121,7 +123,7 @@ fn gates_walk(random: &mut Random) -> Walk {
         walk.insert(walk.plan.len(), &[next]);
     }
     let end = *walk.end();
-    let goal = end.into_iter().enumerate().take(2 * GATES);
+    let goal = end.into_iter().enumerate().take(VARIABLES);
     walk.task.goal = goal
         .map(|(variable, value)| Fact { variable, value })
         .collect();

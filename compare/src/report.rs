@@ -7,8 +7,7 @@ use std::collections::BTreeSet;
 use std::fmt::Display;
 
 /// The lent slices that a service may write to, in the order that they are printed in.
-const WRITTEN_WORDS: [&str; 4] = ["state", "first", "second", "part"];
-const WRITTEN_WIDE_WORDS: [&str; 2] = ["mask", "out"];
+const WRITTEN: [&str; 6] = ["state", "first", "second", "part", "mask", "out"];
 
 pub fn print_difference(case: &Case, by_rules: &Memory, by_library: Option<&Memory>) {
     println!("call: {}", described(case.call));
@@ -73,11 +72,10 @@ fn print_memory(case: &Case, memory: &Memory) {
     let untouched = Memory::of(case);
     print_if_changed("words", memory.words == untouched.words);
     print_if_changed("plan", memory.plan == untouched.plan);
-    for (name, slice) in WRITTEN_WORDS.iter().zip(words) {
-        print_if_changed(&format!("memory beside {name}"), slice.guards_stand());
-    }
-    for (name, slice) in WRITTEN_WIDE_WORDS.iter().zip(wide_words) {
-        print_if_changed(&format!("memory beside {name}"), slice.guards_stand());
+    let stand = words.map(Lent::guards_stand).into_iter();
+    let stand = stand.chain(wide_words.map(Lent::guards_stand));
+    for (name, stands) in WRITTEN.iter().zip(stand) {
+        print_if_changed(&format!("memory beside {name}"), stands);
     }
 }
 
@@ -87,19 +85,15 @@ fn print_if_changed(name: &str, is_as_before: bool) {
     }
 }
 
-fn print_written(words: [&[u32]; 4], wide_words: [&[u64]; 2]) {
-    for (name, slice) in WRITTEN_WORDS.iter().zip(words) {
-        print_slice(name, slice);
-    }
-    for (name, slice) in WRITTEN_WIDE_WORDS.iter().zip(wide_words) {
-        print_slice(name, slice);
-    }
-}
-
 /// A slice that the service doesn't take is empty, and not printed.
-fn print_slice<T: Display>(name: &str, slice: &[T]) {
-    if !slice.is_empty() {
-        println!("  {name} ({}): {}", slice.len(), listed(slice));
+fn print_written(words: [&[u32]; 4], wide_words: [&[u64]; 2]) {
+    let lengths = words.map(<[u32]>::len).into_iter();
+    let lengths = lengths.chain(wide_words.map(<[u64]>::len));
+    let texts = words.map(listed).into_iter().chain(wide_words.map(listed));
+    for (name, (length, text)) in WRITTEN.iter().zip(lengths.zip(texts)) {
+        if length > 0 {
+            println!("  {name} ({length}): {text}");
+        }
     }
 }
 

@@ -34,8 +34,18 @@ pub const KINDS: &[(&str, Make)] = &[
     ),
 ];
 
-/// The numbers of steps at which a word of a mask ends, or the longest plan.
-const EDGE_LENGTHS: [usize; 9] = [63, 64, 65, 127, 128, 129, 254, 255, 256];
+/// Numbers of steps at which a word of a mask ends, and beside them; the last one is too many.
+const EDGE_LENGTHS: [usize; 9] = [
+    63,
+    64,
+    65,
+    127,
+    128,
+    129,
+    rules::MAX_STEPS - 1,
+    rules::MAX_STEPS,
+    rules::MAX_STEPS + 1,
+];
 const SHORT: usize = 14;
 
 fn case_of(random: &mut Random, walk: &Walk) -> Case {
