@@ -2,7 +2,7 @@
 use Prim.Native.Nat.{ℕ}
 use mathlib.Core.Option.{Option, none, some}
 use Rattle.common.specs.declared.refusal.Refusal.{Refusal}
-use Rattle.common.specs.declared.refusal.Refusal.the-variants.{Length, Edition, Counts, Pair, Variable, Fact, Cost, PlanLength, UnknownAction, NotAPlan}
+use Rattle.common.specs.declared.refusal.Refusal.the-variants.{Length, Edition, Counts, Pair, Variable, Fact, Cost, PlanLength, UnknownAction, ShortOutput, NotAPlan}
 use Rattle.common.specs.declared.refusal.Verdict.{Verdict}
 use Rattle.common.specs.declared.refusal.Verdict.the-variants.{Passed, Refused}
 
@@ -21,6 +21,7 @@ told-refusal (Fact i) = record { number = 6; place = i }
 told-refusal (Cost a) = record { number = 7; place = a }
 told-refusal (PlanLength n) = record { number = 8; place = n }
 told-refusal (UnknownAction i) = record { number = 9; place = i }
+told-refusal (ShortOutput n) = record { number = 10; place = n }
 told-refusal (NotAPlan i) = record { number = 11; place = i }
 
 -- a verdict's refusal, if it is one

@@ -13,6 +13,7 @@ pub enum Refusal {
     Cost(usize),
     PlanLength(usize),
     UnknownAction(usize),
+    ShortOutput(usize),
     NotAPlan(usize),
 }
 
@@ -31,6 +32,7 @@ impl Refusal {
             Refusal::Cost(_) => 7,
             Refusal::PlanLength(_) => 8,
             Refusal::UnknownAction(_) => 9,
+            Refusal::ShortOutput(_) => 10,
             Refusal::NotAPlan(_) => 11,
         }
     }
@@ -49,6 +51,7 @@ impl Refusal {
             Refusal::Cost(a) => a,
             Refusal::PlanLength(n) => n,
             Refusal::UnknownAction(i) => i,
+            Refusal::ShortOutput(n) => n,
             Refusal::NotAPlan(i) => i,
         }
     }

@@ -16,3 +16,7 @@ pub mod RoundLaws
 pub mod PickLaws
 -- GreedyLaws: greedy elimination, round by round.
 pub mod GreedyLaws
+-- ChecksLaws: what the checks of the services answer, and what holds of a list that passes.
+pub mod ChecksLaws
+-- ServiceLaws: what is told and written of a reduction, and what each service answers.
+pub mod ServiceLaws

@@ -48,7 +48,7 @@ abbrev pub Entries-known : List ℕ → List ℕ → Type 0
 Entries-known w l = (a : ℕ) → List·Memᴰ a l → a < actions w
 
 -- what is left of equal elements
-drop-replicate : (k n x : ℕ) → k ≤ n → drop k (replicate n x) ≡ replicate (n - k) x
+pub drop-replicate : {A : Type 0} (k n : ℕ) (x : A) → k ≤ n → drop k (replicate n x) ≡ replicate (n - k) x
 drop-replicate k n x h =
     let whole : k + (n - k) ≡ n = omega arith in
     let parts : replicate k x ++ replicate (n - k) x ≡ replicate n x = replicate-append-replicate k (n - k) x ∙ rw whole in
@@ -61,7 +61,7 @@ sets-padded n s h =
     let zeros : State = replicate n 0 in
     let room : 0 + length s ≤ length zeros = rw length-replicate (omega arith) in
     let past : 0 + length s ≡ length s = omega arith in
-    sets-eq s zeros 0 room ∙ rw (past, drop-replicate (length s) n 0 h)
+    sets-eq s zeros 0 room ∙ rw (past, drop-replicate {A = ℕ} (length s) n 0 h)
 
 -- zeros at the end of a state change nothing for a sequence of actions over its own variables
 pub pad-fault : {domains : List ℕ} {goal : Assignment} (n : ℕ) (s : State) (i : ℕ) (p : List Action) → length s ≡ length domains
@@ -121,7 +121,7 @@ unfolding unknown-place
 known-nowhere w l known = nowhere-first-of _ (length l) 0 (length l) (omega arith) (λ i low below. rw (lt-leb (actions w) (getD l i 0) (known-at w l known i below)))
 
 module _ (w : List ℕ) (accepted : Accepted w) where
-  initial-complete : length (initial w) ≡ length (domains w)
+  pub initial-complete : length (initial w) ≡ length (domains w)
   unfolding task
   initial-complete = accepted-well-formed w accepted .initial .complete
 
@@ -129,7 +129,7 @@ module _ (w : List ℕ) (accepted : Accepted w) where
   pub start-padded : sets (replicate (limits .variables) 0) 0 (initial w) ≡ pad (limits .variables) (initial w)
   start-padded = sets-padded (limits .variables) (initial w) (omega (arith, initial-complete, domains-length w, accepted-measured w accepted .variables))
 
-  goal-rising : Rising (domains w) 0 (goal w)
+  pub goal-rising : Rising (domains w) 0 (goal w)
   unfolding task
   goal-rising = accepted-well-formed w accepted .goal
 
@@ -138,7 +138,7 @@ module _ (w l : List ℕ) (accepted : Accepted w) (known : Entries-known w l) wh
   pub steps-known : (a : Action) → List·Memᴰ a (steps w l) → List·Memᴰ a (task w .actions)
   steps-known a m = let (k, in-list, same) = Memᴰ·of-map (action w) l m in rw (← same) (action-known w k (known k in-list))
 
-  steps-formed : Actions-formed (domains w) (steps w l)
+  pub steps-formed : Actions-formed (domains w) (steps w l)
   unfolding task
   steps-formed a m = accepted-well-formed w accepted .actions a (steps-known a m)
 
@@ -224,7 +224,7 @@ module _ (w l : List ℕ) (v v′ : Verdict) (start : State) (place : Place)
   padded : start ≡ pad (limits .variables) (initial w)
   padded = starts ∙ start-padded w accepted
 
-  walked-fault : fault (goal w) (initial w) 1 (steps w l) ≡ place
+  pub walked-fault : fault (goal w) (initial w) 1 (steps w l) ≡ place
   walked-fault = sym (walks ∙ rw padded (padded-fault w l accepted (listed-entries w l listed .1) (limits .variables) 1))
 
   pub checks-not-valid : (k : ℕ) → place ≡ At k → Checks w l (Refused (NotAPlan k)) (replicate (limits .variables) 0)

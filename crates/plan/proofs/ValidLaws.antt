@@ -62,34 +62,35 @@ after-next : (t : Tally) (c : ℕ) (costs : List ℕ) → after t (c ∷ costs) 
 unfolding after
 after-next t c costs = refl
 
+-- the entry at index i comes next
+pub drop-next : (l : List ℕ) (i : ℕ) → i < length l → drop i l ≡ getD l i 0 ∷ drop (i + 1) l
+drop-next l i h = rw (add-one i) (drop-cons l i 0 h)
+
 -- a loop over a list of action numbers, at index i, where the step at position i + 1 comes next
 module _ (w l : List ℕ) where
-  next : (i : ℕ) → i < length l → drop i l ≡ getD l i 0 ∷ drop (i + 1) l
-  next i h = rw (add-one i) (drop-cons l i 0 h)
-
   -- the step can't be done
   pub fault-here : (goal : Assignment) (s : State) (i : ℕ) → i < length l → applicable s (action w (getD l i 0)) ≡ false
       → fault goal s (i + 1) (steps w (drop i l)) ≡ At (i + 1)
-  fault-here goal s i h e = rw (next i h) (fault-stuck goal s (i + 1) (action w (getD l i 0)) (steps w (drop (i + 1) l)) e)
+  fault-here goal s i h e = rw (drop-next l i h) (fault-stuck goal s (i + 1) (action w (getD l i 0)) (steps w (drop (i + 1) l)) e)
 
   -- the step is done
   pub fault-more : (goal : Assignment) (s : State) (i : ℕ) → i < length l → applicable s (action w (getD l i 0)) ≡ true
       → fault goal s (i + 1) (steps w (drop i l)) ≡ fault goal (apply s (action w (getD l i 0))) (i + 1 + 1) (steps w (drop (i + 1) l))
-  fault-more goal s i h e = rw (next i h) (fault-applied goal s (i + 1) (action w (getD l i 0)) (steps w (drop (i + 1) l)) e)
+  fault-more goal s i h e = rw (drop-next l i h) (fault-applied goal s (i + 1) (action w (getD l i 0)) (steps w (drop (i + 1) l)) e)
 
   -- no step is left, and the goal is looked at
   pub fault-goal : (goal : Assignment) (s : State) (i : ℕ) → length l ≤ i → fault goal s (i + 1) (steps w (drop i l)) ≡ when (not (satisfies s goal)) (i + 1)
   fault-goal goal s i h = rw (drop-of-length-le l h) (fault-end goal s (i + 1))
 
   pub final-more : (s : State) (i : ℕ) → i < length l → final s (steps w (drop i l)) ≡ final (apply s (action w (getD l i 0))) (steps w (drop (i + 1) l))
-  final-more s i h = rw (next i h) (final-applied s (action w (getD l i 0)) (steps w (drop (i + 1) l)))
+  final-more s i h = rw (drop-next l i h) (final-applied s (action w (getD l i 0)) (steps w (drop (i + 1) l)))
 
   pub final-over : (s : State) (i : ℕ) → length l ≤ i → final s (steps w (drop i l)) ≡ s
   final-over s i h = rw (drop-of-length-le l h) (final-end s)
 
   pub after-more : (t : Tally) (i : ℕ) → i < length l
       → after t (map (cost-word w) (drop i l)) ≡ after (one-more t (cost-word w (getD l i 0))) (map (cost-word w) (drop (i + 1) l))
-  after-more t i h = rw (next i h) (after-next t (cost-word w (getD l i 0)) (map (cost-word w) (drop (i + 1) l)))
+  after-more t i h = rw (drop-next l i h) (after-next t (cost-word w (getD l i 0)) (map (cost-word w) (drop (i + 1) l)))
 
   pub after-over : (t : Tally) (i : ℕ) → length l ≤ i → after t (map (cost-word w) (drop i l)) ≡ t
   after-over t i h = rw (drop-of-length-le l h) (after-end t)

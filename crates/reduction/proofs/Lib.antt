@@ -22,3 +22,5 @@ pub mod EliminationTheorem
 pub mod Worked
 -- BeforeLaws: the state before an index of a valid reduction, step by step, and flags past the end of a plan.
 pub mod BeforeLaws
+-- PaddedLaws: zeros at the end of a state change nothing for trials and eliminations.
+pub mod PaddedLaws

@@ -37,13 +37,13 @@ found-passes test (g ∷ q) h =
     (λ later. let (f, m, passes) = found-passes test q later in (f, List·Memᴰ·tail m, passes))
     (or-cases (test g) (some-fact test q) h)
 
-same-fact-true : (f g : Fact) → same-fact f g ≡ true → f ≡ g
+pub same-fact-true : (f g : Fact) → same-fact f g ≡ true → f ≡ g
 unfolding same-fact
 same-fact-true f g h =
     let (variable, value) = and-eq-true-iff (eqb (f .variable) (g .variable)) (eqb (f .value) (g .value)) .0 h in
     λ i. record { variable = eqb-true (f .variable) (g .variable) variable i; value = eqb-true (f .value) (g .value) value i }
 
-same-fact-refl : (f : Fact) → same-fact f f ≡ true
+pub same-fact-refl : (f : Fact) → same-fact f f ≡ true
 unfolding same-fact
 same-fact-refl f = rw (eq-eqb (f .variable) (f .variable) refl, eq-eqb (f .value) (f .value) refl)
 

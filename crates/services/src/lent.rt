@@ -57,6 +57,17 @@ pub(crate) fn write_answer(out: &mut [u64], given: Answer)
     }
 }
 
+// Writes wide values from the first word on.
+pub(crate) fn write_wide(out: &mut [u64], values: &[u64])
+    ensures { λ _. ⌜ now (out .exit) ≡ sets (now (out .entry)) 0 (now (values .entry)) ⌝ }
+{
+    let mut i = 0;
+    while i < values.len() {
+        put64(out, i, values[i]);
+        i += 1;
+    }
+}
+
 // The state that the first words are.
 pub(crate) fn read_state(words: &[u32]) -> State
     ensures { λ r. ⌜ r .values ≡ lent-state (now (words .entry)) ⌝ }

@@ -8,6 +8,8 @@ use crate::lent::write_answer;
 use crate::lent::write_pair;
 use crate::lent::write_values;
 use crate::lent::write_verdict;
+use crate::lent::write_wide;
+use landmark::masked::marks_mask;
 use plan::check::check_plan;
 use step::one::step;
 use tally::Order;
@@ -21,6 +23,8 @@ ghost use Rattle.tally.specs.Tally.{one-more, comparison};
 ghost use Rattle.task.specs.Causes.{sheet-checks};
 ghost use Rattle.step.specs.Step.{step-checks, state-after};
 ghost use Rattle.plan.specs.Checked.{plan-checks, tally-of as plan-tally, end-state};
+ghost use Rattle.mask.specs.Mask.{mask-words};
+ghost use Rattle.landmark.specs.Marks.{marks-of};
 ghost use Rattle.services.specs.Words.{answer-words, tally-of, tally-words, order-number, lent-state};
 
 // Checks a task: the number and the place of its refusal go to `out`, or 0 and 0.
@@ -96,4 +100,18 @@ pub extern "C" fn hollchiku_check_plan(
     let given = checked.answer;
     write_values(state, &values);
     write_answer(out, given);
+}
+
+// Marks the landmarks of a plan: the four words of their mask go to the lent mask, the number and the place of a refusal, or 0 and 0, to `out`.
+#[no_mangle]
+pub extern "C" fn hollchiku_marks(words: &[u32], plan: &[u32], mask: &mut [u64], out: &mut [u64])
+    ensures mask { λ _. ⌜ now (mask .exit) ≡ sets (now (mask .entry)) 0 (mask-words (marks-of (now (words .entry)) (now (plan .entry)))) ⌝ }
+    ensures out { λ _. ⌜ now (out .exit) ≡ sets (now (out .entry)) 0 (answer-words (answer (plan-checks (now (words .entry)) (now (plan .entry))))) ⌝ }
+{
+    let marked = marks_mask(words, plan);
+    let verdict = marked.verdict;
+    let marks = marked.mask;
+    let bits = marks.words;
+    write_wide(mask, &bits);
+    write_verdict(out, verdict);
 }

@@ -1,0 +1,71 @@
+// Both eliminations as one service, and the part of the cheaper list.
+use crate::checks::check_reduction;
+use crate::eliminate::eliminate;
+use crate::finish::finish;
+use crate::greedy::greedy;
+use common::refusal::Verdict;
+use tally::Order;
+use tally::Tally;
+ghost use mathlib.Core.Path.{_≡_};
+ghost use Prim.Native.Nat.{min};
+ghost use lib.ListN.{take};
+ghost use Rattle.elimination.specs.Reduced.{Reduces-both, cheaper-part};
+
+// Both tallies, elimination's first, or a refusal, with its tallies zero.
+pub struct Both {
+    pub verdict: Verdict,
+    pub first: Tally,
+    pub second: Tally,
+}
+
+// The lower of two lengths.
+fn shorter(a: usize, b: usize) -> usize
+    ensures { λ r. ⌜ r ≡ min a b ⌝ }
+{
+    if b < a { b } else { a }
+}
+
+// Writes what elimination leaves of a plan to `first`, and what greedy elimination leaves to `second`.
+pub fn cheaper(words: &[u32], plan: &[u32], first: &mut [u32], second: &mut [u32]) -> Both
+    ensures { λ r. ⌜ Reduces-both (now (words .entry)) (now (plan .entry)) (now (first .entry)) (now (second .entry)) (r .verdict) (r .first) (r .second) (now (first .exit)) (now (second .exit)) ⌝ }
+{
+    let verdict = check_reduction(words, plan, shorter(first.len(), second.len()));
+    if let Verdict::Refused(refusal) = verdict {
+        return Both {
+            verdict: Verdict::Refused(refusal),
+            first: Tally::new(),
+            second: Tally::new(),
+        };
+    }
+    let n = plan.len();
+    let eliminated = eliminate(words, plan);
+    let by_elimination = finish(words, plan, &eliminated[..n], first);
+    let greedily = greedy(words, plan);
+    let by_greed = finish(words, plan, &greedily[..n], second);
+    let of_first = by_elimination.tally;
+    let of_second = by_greed.tally;
+    Both {
+        verdict: Verdict::Passed,
+        first: of_first,
+        second: of_second,
+    }
+}
+
+// The first n words, or all where there are fewer.
+fn front(words: &[u32], n: usize) -> &[u32]
+    ensures { λ r. ⌜ now r ≡ take n (now (words .entry)) ⌝ }
+{
+    if n < words.len() { &words[..n] } else { words }
+}
+
+// The kept part of whichever list is cheaper: lower cost, then fewer steps, then the first. `tally` is that of the first.
+pub fn kept_part<'a>(first: &'a [u32], second: &'a [u32], tally: Tally, other: Tally) -> &'a [u32]
+    ensures { λ r. ⌜ now r ≡ cheaper-part (now (first .entry)) (now (second .entry)) tally other ⌝ }
+{
+    let order = other.compare(tally);
+    match order {
+        Order::Less => front(second, other.steps as usize),
+        Order::Equal => front(first, tally.steps as usize),
+        Order::Greater => front(first, tally.steps as usize),
+    }
+}

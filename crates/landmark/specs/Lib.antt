@@ -1,0 +1,3 @@
+-- The landmarks of a plan (document 01, "Marks"), as a service. Marks: what it answers. Tables: what the walks along a plan keep, between the code and Marks.
+pub mod Marks
+pub mod Tables

@@ -1,0 +1,70 @@
+-- What the walks along a plan keep in tables, at each fact's word. Not to be believed: proofs/FlagTheorem ties it to the landmarks. Assumes nothing.
+use Prim.Native.Nat.{ℕ, _+_, _*_}
+use mathlib.Core.Path.{_≡_}
+use mathlib.Core.Bool.{Bool, cond, not, _&&_}
+use mathlib.Core.List.{List, [], _∷_}
+use lib.ListN.{getD, set}
+use lib.Dec.{leb, eqb}
+use Rattle.sas.specs.Task.{Fact, Assignment, State, Action}
+use Rattle.sas.specs.Plan.{holds}
+use Rattle.reduction.specs.Reduction.{Reduction}
+use Rattle.reduction.specs.Wanted.{some-fact}
+use Rattle.task.specs.Limits.{limits}
+use Rattle.plan.specs.Valid.{steps}
+use Rattle.landmark.specs.Marks.{filled}
+
+-- the word that a fact is
+abbrev pub fact-word : Fact → ℕ
+fact-word f = f .variable * limits .values + f .value
+
+-- what stands at a fact that is wanted, and at one that is not
+abbrev pub is-wanted : ℕ
+is-wanted = 1
+
+abbrev pub not-wanted : ℕ
+not-wanted = 0
+
+-- a table with x at each fact of an assignment
+unfoldable pub stamped : List ℕ → Assignment → ℕ → List ℕ
+stamped t [] x = t
+stamped t (f ∷ q) x = stamped (set t (fact-word f) x) q x
+
+-- a table with, at each fact, the index of the first step that writes it, of the steps p, which begin at index i
+unfoldable pub written-first : List ℕ → ℕ → List Action → List ℕ
+written-first t i [] = t
+written-first t i (a ∷ p) = stamped (written-first t (i + 1) p) (a .effect) i
+
+-- a fact that the step at index i is to write: the start does not hold it, no step before i writes it, and it is wanted behind the step
+unfoldable pub sought : State → List ℕ → List ℕ → ℕ → Fact → Bool
+sought s first wanted i f = not (holds s f) && leb i (getD first (fact-word f) 0) && eqb (getD wanted (fact-word f) 0) is-wanted
+
+-- the step at index i is a landmark
+unfoldable pub flagged : State → List ℕ → List ℕ → ℕ → Action → Bool
+flagged s first wanted i a = some-fact (sought s first wanted i) (a .effect)
+
+-- the wanted facts before a step, from those behind it
+unfoldable pub wanted-before : List ℕ → Action → Bool → List ℕ
+wanted-before wanted a landmark =
+    let behind : List ℕ = stamped wanted (a .effect) not-wanted in
+    cond landmark (stamped behind (a .precondition) is-wanted) behind
+
+-- the wanted facts before the steps p, which begin at index i, from those of the goal
+unfoldable pub wanted-at : State → List ℕ → List ℕ → ℕ → List Action → List ℕ
+wanted-at s first wanted i [] = wanted
+wanted-at s first wanted i (a ∷ p) =
+    let behind : List ℕ = wanted-at s first wanted (i + 1) p in
+    wanted-before behind a (flagged s first behind i a)
+
+-- the flags of the steps p
+unfoldable pub flags-at : State → List ℕ → List ℕ → ℕ → List Action → Reduction
+flags-at s first wanted i [] = []
+flags-at s first wanted i (a ∷ p) = flagged s first (wanted-at s first wanted (i + 1) p) i a ∷ flags-at s first wanted (i + 1) p
+
+-- the flags that the walk along the list l of the task w makes
+abbrev pub flags-walked : State → List ℕ → List ℕ → List ℕ → List ℕ → Reduction
+flags-walked s first wanted w l = filled l (flags-at s first wanted 0 (steps w l))
+
+-- one step on the walk: whether it is a landmark, and the table of wanted facts after it
+pub record Marks-step (s first before : List ℕ) (i : ℕ) (a : Action) (landmark : Bool) (after : List ℕ) : Type 0 where
+  pub flag : landmark ≡ flagged s first before i a
+  pub table : after ≡ wanted-before before a landmark

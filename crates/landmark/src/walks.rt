@@ -1,0 +1,83 @@
+// The two walks along a plan, from its last step to its first: one finds the first writer of each fact, the other the landmarks.
+use crate::tables::UNWANTED;
+use crate::tables::WANTED;
+use crate::tables::some_sought;
+use crate::tables::stamp;
+use plan::limits::Plan;
+use task::layout::action_end;
+use task::layout::effect_at;
+use task::layout::precondition_at;
+ghost use mathlib.Core.Path.{_≡_};
+ghost use Prim.Native.Nat.{_≤_};
+ghost use lib.ListN.{length};
+ghost use Rattle.task.specs.Decode.{action as action-of};
+ghost use Rattle.plan.specs.Limits.{most-steps};
+ghost use Rattle.plan.specs.Valid.{steps};
+ghost use Rattle.landmark.specs.Tables.{written-first, flags-walked, Marks-step};
+
+// Stamps each fact that a plan's steps write with the index of the first step that writes it.
+pub(crate) fn write_first(words: &[u32], plan: &[u32], first: &mut [u32])
+    requires { ⌜ length (now plan) ≤ most-steps ⌝ }
+    ensures { λ _. ⌜ now (first .exit) ≡ written-first (now (first .entry)) 0 (steps (now (words .entry)) (now (plan .entry))) ⌝ }
+{
+    let mut i = plan.len();
+    while 0 < i {
+        i -= 1;
+        let action = plan[i];
+        stamp(
+            words,
+            first,
+            effect_at(words, action),
+            action_end(words, action),
+            i as u32,
+        );
+    }
+}
+
+// Whether the step at index i is a landmark; the table then has the facts that are wanted before it.
+fn mark_step(
+    words: &[u32],
+    start: &[u32],
+    first: &[u32],
+    wanted: &mut [u32],
+    i: u32,
+    action: u32,
+) -> bool
+    ensures { λ r. ⌜ Marks-step (now (start .entry)) (now (first .entry)) (now (wanted .entry)) i (action-of (now (words .entry)) action) r (now (wanted .exit)) ⌝ }
+{
+    let effect = effect_at(words, action);
+    let end = action_end(words, action);
+    let landmark = some_sought(words, start, first, wanted, i, effect, end);
+    stamp(words, wanted, effect, end, UNWANTED);
+    if landmark {
+        stamp(
+            words,
+            wanted,
+            precondition_at(words, action),
+            effect,
+            WANTED,
+        );
+        return true;
+    }
+    false
+}
+
+// The landmarks among a plan's steps, from the first writers of all facts and the wanted facts of the goal.
+pub(crate) fn mark_steps(
+    words: &[u32],
+    plan: &[u32],
+    start: &[u32],
+    first: &[u32],
+    wanted: &mut [u32],
+) -> [bool; Plan::STEPS]
+    requires { ⌜ length (now plan) ≤ most-steps ⌝ }
+    ensures { λ r. ⌜ r ≡ flags-walked (now (start .entry)) (now (first .entry)) (now (wanted .entry)) (now (words .entry)) (now (plan .entry)) ⌝ }
+{
+    let mut flags = [false; Plan::STEPS];
+    let mut i = plan.len();
+    while 0 < i {
+        i -= 1;
+        flags[i] = mark_step(words, start, first, wanted, i as u32, plan[i]);
+    }
+    flags
+}
