@@ -65,44 +65,11 @@ pub fn with_lamps(random: &mut Random, needed: usize, lamps: usize) -> Answered 
     }
 }
 
-/// One of several ways to the goal.
-struct Way {
-    actions: Vec<Action>,
-    /// The indices of its steps in the plan.
-    steps: Vec<usize>,
-}
-
 /// The fact that every way ends in; a way's own variable stands behind it.
 const WAYS_GOAL: Fact = Fact {
     variable: 0,
     value: 1,
 };
-
-impl Way {
-    /// Steps that each make the next one possible.
-    fn random(random: &mut Random, variable: usize) -> Self {
-        let last = random.size(0..=3);
-        let action = |step| {
-            let next = counted(variable, step + 1);
-            Action {
-                cost: random.pick(&COSTS),
-                preconditions: vec![counted(variable, step)],
-                effects: match step == last {
-                    true => vec![WAYS_GOAL, next],
-                    false => vec![next],
-                },
-            }
-        };
-        Way {
-            actions: (0..=last).map(action).collect(),
-            steps: Vec::new(),
-        }
-    }
-
-    fn cost(&self) -> u32 {
-        self.actions.iter().map(|action| action.cost).sum()
-    }
-}
 
 /// Several ways to one goal. A trial succeeds while two of them are left, and the one at a way's
 /// first step strikes the most of it: so elimination is left with the way that begins last, and
@@ -110,46 +77,130 @@ impl Way {
 /// Steps are marked where there is only one way.
 pub fn with_ways(random: &mut Random) -> Answered {
     let variables = 1..=random.size(1..=4);
-    let mut ways: Vec<Way> = variables.map(|v| Way::random(random, v)).collect();
-    let plan = laid_into_each_other(random, &mut ways);
-    let price = |way: &&Way| (way.cost(), way.steps.len(), Reverse(way.steps[0]));
-    let beginning_last = ways.iter().max_by_key(|way| way.steps[0]);
-    let cheapest = ways.iter().min_by_key(price);
-    let only = ways.first().filter(|_| ways.len() == 1);
-    let steps_of = |way: Option<&Way>| way.map_or(Vec::new(), |way| way.steps.clone());
+    let ways: Vec<Vec<Action>> = variables.map(|v| random_way(random, v)).collect();
+    let mut numbers = 0..;
+    let lane = |way: &Vec<Action>| numbers.by_ref().take(way.len()).collect();
+    let lanes: Vec<Vec<u32>> = ways.iter().map(lane).collect();
+    let (plan, places) = laid_into_each_other(random, &lanes);
+    let cost = |way: &[Action]| way.iter().map(|action| action.cost).sum::<u32>();
+    let ranked = places.iter().zip(&ways);
+    let cheapest = ranked.min_by_key(|(p, way)| (cost(way), way.len(), Reverse(p[0])));
+    let beginning_last = places.iter().max_by_key(|p| p[0]);
+    let only = places.first().filter(|_| ways.len() == 1);
     Answered {
         plan,
-        marked: steps_of(only),
-        eliminated: steps_of(beginning_last),
-        greedy: steps_of(cheapest),
+        marked: only.cloned().unwrap_or_default(),
+        eliminated: beginning_last.cloned().unwrap_or_default(),
+        greedy: cheapest.map_or(Vec::new(), |(p, _)| p.clone()),
         task: task_of(&ways),
     }
 }
 
+/// Steps that each make the next one possible.
+fn random_way(random: &mut Random, variable: usize) -> Vec<Action> {
+    let last = random.size(0..=3);
+    let action = |step| {
+        let next = counted(variable, step + 1);
+        Action {
+            cost: random.pick(&COSTS),
+            preconditions: vec![counted(variable, step)],
+            effects: match step == last {
+                true => vec![WAYS_GOAL, next],
+                false => vec![next],
+            },
+        }
+    };
+    (0..=last).map(action).collect()
+}
+
 /// The actions stand in the task one way after the other.
-fn task_of(ways: &[Way]) -> Task {
-    let sizes = ways.iter().map(|way| way.actions.len() as u32 + 1);
+fn task_of(ways: &[Vec<Action>]) -> Task {
+    let sizes = ways.iter().map(|way| way.len() as u32 + 1);
     Task {
         sizes: [WAYS_GOAL.value + 1].into_iter().chain(sizes).collect(),
         start: vec![0; 1 + ways.len()],
         goal: vec![WAYS_GOAL],
-        actions: ways.iter().flat_map(|way| way.actions.clone()).collect(),
+        actions: ways.concat(),
     }
 }
 
-/// The plan of all the ways, each of whose steps stand in their order.
-fn laid_into_each_other(random: &mut Random, ways: &mut [Way]) -> Vec<u32> {
-    let all = ways.iter().map(|way| way.actions.len()).sum();
+/// A plan of all the lanes, each in its order, and the indices that the steps of each lane have.
+fn laid_into_each_other(random: &mut Random, lanes: &[Vec<u32>]) -> (Vec<u32>, Vec<Vec<usize>>) {
+    let all = lanes.iter().map(Vec::len).sum();
     let mut plan = Vec::new();
+    let mut places = vec![Vec::new(); lanes.len()];
     while plan.len() < all {
-        let chosen = random.index(ways.len());
-        let before: usize = ways[..chosen].iter().map(|way| way.actions.len()).sum();
-        let way = &mut ways[chosen];
-        let done = way.steps.len();
-        if done < way.actions.len() {
-            way.steps.push(plan.len());
-            plan.push((before + done) as u32);
+        let chosen = random.index(lanes.len());
+        if let Some(&action) = lanes[chosen].get(places[chosen].len()) {
+            places[chosen].push(plan.len());
+            plan.push(action);
         }
     }
-    plan
+    (plan, places)
+}
+
+const GATE_ACTIONS: usize = 3;
+
+/// Gates that are each lifted and dropped some times, and once drained in between; the goal is all
+/// drained and dropped. Every drain is marked, and the lift before it if it is the first. What is
+/// kept is the last lift before the drain, the drain, and the last drop of all: a drop goes with
+/// the lift behind it.
+pub fn with_gates(random: &mut Random) -> Answered {
+    let gates = random.size(1..=4);
+    let turns: Vec<[usize; 2]> = (0..gates)
+        .map(|_| [random.size(0..=2), random.size(0..=2)])
+        .collect();
+    let lanes: Vec<Vec<u32>> = (0..gates).map(|gate| lane(gate, turns[gate])).collect();
+    let (plan, places) = laid_into_each_other(random, &lanes);
+    let (mut marked, mut kept) = (Vec::new(), Vec::new());
+    for (places, [before, _]) in places.iter().zip(turns) {
+        let (lift, drain) = (2 * before, 2 * before + 1);
+        let first_marked = if before == 0 { lift } else { drain };
+        marked.extend(&places[first_marked..=drain]);
+        kept.extend(&places[lift..=drain]);
+        kept.extend(places.last());
+    }
+    marked.sort();
+    kept.sort();
+    Answered {
+        task: gates_task(random, gates),
+        plan,
+        marked,
+        eliminated: kept.clone(),
+        greedy: kept,
+    }
+}
+
+/// Lifts and drops, the one lift with the drain, and lifts and drops again.
+fn lane(gate: usize, [before, after]: [usize; 2]) -> Vec<u32> {
+    let first = (GATE_ACTIONS * gate) as u32;
+    let [lift, drain, drop] = [first, first + 1, first + 2];
+    let turns = |count| [lift, drop].repeat(count);
+    [turns(before), vec![lift, drain, drop], turns(after)].concat()
+}
+
+fn gates_task(random: &mut Random, gates: usize) -> Task {
+    let position = |gate, value| counted(2 * gate, value);
+    let drained = |gate| counted(2 * gate + 1, 1);
+    let mut action = |precondition, effect| Action {
+        cost: random.pick(&COSTS),
+        preconditions: vec![precondition],
+        effects: vec![effect],
+    };
+    let actions = (0..gates).flat_map(|gate| {
+        let (shut, open) = (position(gate, 0), position(gate, 1));
+        [
+            action(shut, open),
+            action(open, drained(gate)),
+            action(open, shut),
+        ]
+    });
+    Task {
+        sizes: vec![2; 2 * gates],
+        start: vec![0; 2 * gates],
+        actions: actions.collect(),
+        goal: (0..gates)
+            .flat_map(|gate| [position(gate, 0), drained(gate)])
+            .collect(),
+    }
 }

@@ -23,6 +23,7 @@ pub const KINDS: &[(&str, Make)] = &[
     ("reduction: needed steps and lamps", with_lamps),
     ("reduction: needed steps, few lamps", with_few_lamps),
     ("reduction: ways to one goal", with_ways),
+    ("reduction: lifts, drains and drops", with_gates),
     ("reduction: output short", with_short_output),
     (
         "reduction: output short, plan not valid",
@@ -130,6 +131,11 @@ fn with_few_lamps(random: &mut Random) -> Option<Case> {
 
 fn with_ways(random: &mut Random) -> Option<Case> {
     let answered = answered::with_ways(random);
+    Some(answered_case(random, &answered))
+}
+
+fn with_gates(random: &mut Random) -> Option<Case> {
+    let answered = answered::with_gates(random);
     Some(answered_case(random, &answered))
 }
 
