@@ -1,6 +1,8 @@
 //! The kinds of cases that are tried, and what they share: calls with buffers of many lengths.
 
+mod part;
 mod plan;
+mod reduction;
 mod sheet;
 mod step;
 mod tally;
@@ -21,8 +23,16 @@ pub enum Kind {
 
 pub fn all() -> Vec<Kind> {
     let faults = FAULTS.iter().map(Kind::SheetFault);
-    let others = [sheet::KINDS, plan::KINDS, step::KINDS, tally::KINDS].concat();
+    let others = [
+        sheet::KINDS,
+        plan::KINDS,
+        step::KINDS,
+        tally::KINDS,
+        reduction::KINDS,
+        part::KINDS,
+    ];
     let others = others
+        .concat()
         .into_iter()
         .map(|(name, make)| Kind::Other(name, make));
     faults.chain(others).collect()
@@ -66,17 +76,75 @@ fn step(random: &mut Random, words: Vec<u32>, state: Vec<u32>, action: u32) -> C
     }
 }
 
-fn check_plan(random: &mut Random, words: Vec<u32>, plan: Vec<u32>) -> Case {
-    let call = Call::CheckPlan;
+/// A case of a service that takes a plan, with outputs as long as the plan, or longer.
+fn plan_case(random: &mut Random, call: Call, words: Vec<u32>, plan: Vec<u32>) -> Case {
+    let steps = plan.len();
+    let outputs = [(); 2].map(|_| match random.index(4) {
+        0 => random.size(steps..=2 * steps + 2),
+        1 => steps + 1,
+        _ => steps,
+    });
+    plan_case_with(random, call, words, plan, outputs)
+}
+
+/// The same with outputs of these lengths; those that the service doesn't have are left out.
+fn plan_case_with(
+    random: &mut Random,
+    call: Call,
+    words: Vec<u32>,
+    plan: Vec<u32>,
+    outputs: [usize; 2],
+) -> Case {
+    let service = call.service();
+    let state_length = match call {
+        Call::CheckPlan => random_length(random, rules::MAX_VARIABLES),
+        _ => 0,
+    };
+    let mask_length = match service.mask_words {
+        0 => 0,
+        needed => random_length(random, needed),
+    };
     let out = random_out(random, call);
-    let length = random_length(random, rules::MAX_VARIABLES);
-    let state = (0..length).map(|_| random.filler() as u32).collect();
+    let mut outputs = outputs.into_iter().take(service.outputs);
+    let mut next_output = |random: &mut Random| fillers(random, outputs.next().unwrap_or(0));
     Case {
         words,
         plan,
-        state,
+        state: fillers(random, state_length),
+        first: next_output(random),
+        second: next_output(random),
+        mask: (0..mask_length).map(|_| random.filler()).collect(),
         ..Case::new(call, out)
     }
+}
+
+/// Some service that takes a plan.
+fn random_plan_call(random: &mut Random) -> Call {
+    random.pick(&[
+        Call::CheckPlan,
+        Call::Marks,
+        Call::Eliminate,
+        Call::Greedy,
+        Call::Cheaper,
+    ])
+}
+
+/// The steps of a plan that greedy elimination doesn't take long over.
+const QUICK_STEPS: usize = 40;
+
+/// Long plans seldom go to greedy elimination.
+fn valid_plan_call(random: &mut Random, steps: usize) -> Call {
+    let call = random_plan_call(random);
+    let takes_long = steps > QUICK_STEPS && matches!(call, Call::Greedy | Call::Cheaper);
+    if takes_long && !random.once_in(32) {
+        Call::Eliminate
+    } else {
+        call
+    }
+}
+
+fn fillers(random: &mut Random, length: usize) -> Vec<u32> {
+    (0..length).map(|_| random.filler() as u32).collect()
 }
 
 fn random_out(random: &mut Random, call: Call) -> Vec<u64> {

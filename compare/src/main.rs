@@ -2,7 +2,10 @@
 //! random cases and on the document's own worked lists. A case compares the answer and every word
 //! of memory that is lent.
 
+mod answered;
+mod bench;
 mod cases;
+mod cycles;
 mod faults;
 mod kinds;
 mod layout;
@@ -36,13 +39,34 @@ fn main() -> ExitCode {
             return ExitCode::from(2);
         }
     };
-    let mut comparison = Comparison::default();
-    comparison.run(&options);
-    if comparison.failed {
-        ExitCode::FAILURE
-    } else {
+    let passed = match options {
+        Options::Bench => bench::run(),
+        Options::SelfTest => compare(|comparison| comparison.try_worked(false)),
+        Options::One { seed, case } => {
+            compare(|comparison| comparison.try_random(seed, case..=case))
+        }
+        Options::All { seed, cases } => compare(|comparison| {
+            comparison.try_worked(true);
+            comparison.try_random(seed, 1..=cases);
+            comparison.print_answers();
+        }),
+    };
+    if passed {
         ExitCode::SUCCESS
+    } else {
+        ExitCode::FAILURE
     }
+}
+
+/// Tries cases, and answers whether nothing failed.
+fn compare(try_cases: impl FnOnce(&mut Comparison)) -> bool {
+    let mut comparison = Comparison::default();
+    try_cases(&mut comparison);
+    let Comparison {
+        tried, differences, ..
+    } = comparison;
+    println!("compared {tried} cases, {differences} differences");
+    !comparison.failed
 }
 
 #[derive(Default)]
@@ -55,22 +79,6 @@ struct Comparison {
 }
 
 impl Comparison {
-    fn run(&mut self, options: &Options) {
-        match *options {
-            Options::SelfTest => self.try_worked(false),
-            Options::One { seed, case } => self.try_random(seed, case..=case),
-            Options::All { seed, cases } => {
-                self.try_worked(true);
-                self.try_random(seed, 1..=cases);
-                self.print_answers();
-            }
-        }
-        println!(
-            "compared {} cases, {} differences",
-            self.tried, self.differences
-        );
-    }
-
     fn try_worked(&mut self, with_library: bool) {
         let mut count = 0;
         for (name, case) in worked::cases() {

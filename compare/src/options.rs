@@ -3,7 +3,8 @@
 const USAGE: &str =
     "usage: compare [--cases N] [--seed S]   try N random cases and the worked lists
        compare --case I [--seed S]    try the one random case with this number
-       compare --self-test            try the rules alone on the worked lists";
+       compare --self-test            try the rules alone on the worked lists
+       compare --bench                time the library against the rules";
 
 const DEFAULT_SEED: u64 = 1;
 /// Takes about half a minute.
@@ -13,6 +14,7 @@ pub enum Options {
     All { seed: u64, cases: u64 },
     One { seed: u64, case: u64 },
     SelfTest,
+    Bench,
 }
 
 impl Options {
@@ -21,6 +23,7 @@ impl Options {
         while let Some(argument) = arguments.next() {
             match argument.as_str() {
                 "--self-test" => return Ok(Options::SelfTest),
+                "--bench" => return Ok(Options::Bench),
                 "--seed" => seed = number(arguments.next())?,
                 "--cases" => cases = number(arguments.next())?,
                 "--case" => case = Some(number(arguments.next())?),

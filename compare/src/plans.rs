@@ -13,6 +13,15 @@ pub struct Walk {
 }
 
 impl Walk {
+    /// The walk of no steps.
+    pub fn within(task: Task) -> Self {
+        Walk {
+            plan: Vec::new(),
+            states: vec![task.start()],
+            task,
+        }
+    }
+
     /// A walk of `length` steps, whose task has the goal of its end state.
     pub fn random(random: &mut Random, length: usize) -> Option<Self> {
         let task = Task::random(random);
@@ -20,9 +29,7 @@ impl Walk {
             return None;
         }
         let mut used = vec![false; task.actions.len()];
-        let states = vec![task.start()];
-        let plan = Vec::new();
-        let mut walk = Walk { task, plan, states };
+        let mut walk = Walk::within(task);
         for _ in 0..length {
             walk.go_on(random, &mut used);
         }
@@ -48,12 +55,21 @@ impl Walk {
     }
 
     fn go_on(&mut self, random: &mut Random, used: &mut [bool]) {
-        let mut state = *self.end();
+        let state = *self.end();
         let action = self.next_action(random, used, &state);
         used[action] = true;
-        self.plan.push(action as u32);
-        self.task.actions[action].apply(&mut state);
-        self.states.push(state);
+        self.insert(self.plan.len(), &[action as u32]);
+    }
+
+    /// Inserts steps that can be done at a place and, unless it is the end, lead back to its state.
+    pub fn insert(&mut self, place: usize, steps: &[u32]) {
+        let mut state = self.states[place];
+        let reached = steps.iter().map(|&action| {
+            self.task.actions[action as usize].apply(&mut state);
+            state
+        });
+        self.states.splice(place + 1..place + 1, reached);
+        self.plan.splice(place..place, steps.iter().copied());
     }
 
     /// An action that was not used yet has its preconditions fitted to the state, so that they

@@ -1,12 +1,18 @@
 //! The services of document 01, written from its text alone. Checks stand in the order of the table
 //! of refusals, and each runs over the whole input before the next.
 
+mod cheaper;
+mod elimination;
+mod marks;
 mod task;
 
+pub use cheaper::{cheaper, kept_part};
+pub use elimination::{eliminate, greedy, Kept};
+pub use marks::marks;
 pub use task::check_sheet;
 
 use std::cmp::Ordering;
-use task::Action;
+use task::{Action, Task};
 
 pub const EDITION: usize = 1;
 pub const MAX_WORDS: usize = 8_192;
@@ -48,6 +54,7 @@ pub enum Cause {
     Cost = 7,
     PlanLength = 8,
     UnknownAction = 9,
+    ShortOutput = 10,
     NotValid = 11,
 }
 
@@ -110,22 +117,56 @@ pub struct Run {
     pub end: State,
 }
 
-/// Refusals 1 to 9 and 11. Positions in the plan count from 1.
+/// Refusals 1 to 9 and 11.
 pub fn check_plan(words: &[u32], plan: &[u32]) -> Result<Run, Refusal> {
-    let task = check_sheet(words)?;
-    let steps = plan.len();
-    let too_long = steps > MAX_STEPS;
-    refuse(Cause::PlanLength, too_long.then_some(MAX_STEPS))?;
-    let unknown = plan.iter().position(|&a| a as usize >= task.actions());
-    refuse(Cause::UnknownAction, unknown.map(|index| index + 1))?;
-    let actions = || plan.iter().map(|&a| task.action(a as usize));
-    let mut end = task.start();
-    let failing = actions().position(|action| !do_step(action, &mut end));
-    refuse(Cause::NotValid, failing.map(|index| index + 1))?;
-    let unmet = !all_hold(task.goal(), &end);
-    refuse(Cause::NotValid, unmet.then_some(steps + 1))?;
-    let cost = actions().map(|action| action.cost).sum();
+    let lodged = Lodged::check(words, plan, &[])?;
+    let cost = lodged.actions.iter().map(|action| action.cost).sum();
+    let (steps, end) = (plan.len(), lodged.end);
     Ok(Run { cost, steps, end })
+}
+
+/// A valid plan of a task, as the actions of its steps, and its end state.
+struct Lodged<'a> {
+    task: Task<'a>,
+    actions: Vec<Action<'a>>,
+    end: State,
+}
+
+impl<'a> Lodged<'a> {
+    /// Refusals 1 to 11; 10 is for services with outputs, whose lengths are passed. Positions in
+    /// the plan count from 1.
+    fn check(words: &'a [u32], plan: &[u32], outputs: &[usize]) -> Result<Self, Refusal> {
+        let task = check_sheet(words)?;
+        let steps = plan.len();
+        let too_long = steps > MAX_STEPS;
+        refuse(Cause::PlanLength, too_long.then_some(MAX_STEPS))?;
+        let unknown = plan.iter().position(|&a| a as usize >= task.actions());
+        refuse(Cause::UnknownAction, unknown.map(|index| index + 1))?;
+        let too_short = outputs.iter().any(|&length| length < steps);
+        refuse(Cause::ShortOutput, too_short.then_some(steps))?;
+        let actions: Vec<_> = plan.iter().map(|&a| task.action(a as usize)).collect();
+        let mut end = task.start();
+        let failing = actions.iter().position(|&a| !do_step(a, &mut end));
+        refuse(Cause::NotValid, failing.map(|index| index + 1))?;
+        let unmet = !all_hold(task.goal(), &end);
+        refuse(Cause::NotValid, unmet.then_some(steps + 1))?;
+        Ok(Lodged { task, actions, end })
+    }
+}
+
+/// One bit for each step of a plan, from the lowest of the first word on.
+pub type Mask = [u64; MASK_WORDS];
+
+pub const MASK_WORDS: usize = 4;
+
+/// The mask of the steps with these indices.
+pub fn mask_of(indices: impl Iterator<Item = usize>) -> Mask {
+    let word_bits = u64::BITS as usize;
+    let mut mask = [0; MASK_WORDS];
+    for index in indices {
+        mask[index / word_bits] |= 1 << (index % word_bits);
+    }
+    mask
 }
 
 /// A tally of cost and steps; it may hold any words.

@@ -1,6 +1,8 @@
 //! The worked lists of document 01 and the numbers at its limits, with the answers written out by
 //! hand from its text: they hold the independent version to the document.
 
+mod reductions;
+
 use crate::cases::{Call, Case, Due, ABOVE, BELOW, EQUAL};
 use crate::rules::{self, Cause, Tally};
 
@@ -37,6 +39,10 @@ pub fn cases() -> Vec<Worked> {
     cases.extend(limits());
     cases.extend(steps());
     cases.extend(tallies());
+    cases.extend(reductions::lists());
+    cases.extend(reductions::longest());
+    cases.extend(reductions::refusals());
+    cases.extend(reductions::kept_parts());
     cases
 }
 
@@ -149,15 +155,10 @@ fn add(before: [u32; 2], price: u32, after: [u32; 2]) -> Case {
         tally: tally(before),
         cost: price,
     };
-    let due = Due {
+    new(call).due(Due {
         out: after.map(u64::from).to_vec(),
-        state: Vec::new(),
-        returned: 0,
-    };
-    Case {
-        due: Some(due),
-        ..new(call)
-    }
+        ..Due::default()
+    })
 }
 
 fn compare(first: [u32; 2], second: [u32; 2], returned: u32) -> Case {
@@ -165,15 +166,10 @@ fn compare(first: [u32; 2], second: [u32; 2], returned: u32) -> Case {
         first: tally(first),
         second: tally(second),
     };
-    let due = Due {
-        out: Vec::new(),
-        state: Vec::new(),
-        returned,
-    };
-    Case {
-        due: Some(due),
-        ..new(call)
-    }
+    new(call).due(Due {
+        returned: u64::from(returned),
+        ..Due::default()
+    })
 }
 
 fn tally([cost, steps]: [u32; 2]) -> Tally {

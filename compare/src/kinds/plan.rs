@@ -1,7 +1,8 @@
-//! Plans: valid ones by walks, and each way for a plan to be refused.
+//! Plans: valid ones by walks, for the checker of plans, and each way for a plan to be refused, for
+//! every service that takes a plan.
 
-use super::{check_plan, Make};
-use crate::cases::Case;
+use super::{plan_case, random_plan_call, valid_plan_call, Make};
+use crate::cases::{Call, Case};
 use crate::plans::{random_step, Walk};
 use crate::random::Random;
 use crate::rules::{self, Cause};
@@ -32,14 +33,17 @@ pub const KINDS: &[(&str, Make)] = &[
 ];
 
 fn case_of(random: &mut Random, walk: &Walk) -> Case {
-    check_plan(random, walk.task.words(), walk.plan.clone())
+    let call = random_plan_call(random);
+    plan_case(random, call, walk.task.words(), walk.plan.clone())
 }
 
 fn valid_case(random: &mut Random, walk: &Walk) -> Option<Case> {
     let cost_of = |&action: &u32| walk.task.actions[action as usize].cost as usize;
     let cost = walk.plan.iter().map(cost_of).sum();
     let counts = [cost, walk.plan.len()];
-    Some(case_of(random, walk).accepted(&counts, walk.end()))
+    let (words, plan) = (walk.task.words(), walk.plan.clone());
+    let case = plan_case(random, Call::CheckPlan, words, plan);
+    Some(case.accepted(&counts, walk.end()))
 }
 
 fn valid(random: &mut Random) -> Option<Case> {
@@ -90,7 +94,9 @@ fn earlier_goal(random: &mut Random) -> Option<Case> {
     let last_but_one = walk.states.len().saturating_sub(2);
     let state = walk.states[random.pick(&[steps_before, last_but_one])];
     walk.task.set_goal_from(&state);
-    Some(case_of(random, &walk))
+    let call = valid_plan_call(random, walk.plan.len());
+    let (words, plan) = (walk.task.words(), walk.plan);
+    Some(plan_case(random, call, words, plan))
 }
 
 /// A walk of at least one step, and the index of one of them.
@@ -165,5 +171,6 @@ fn random_actions(random: &mut Random) -> Option<Case> {
     let actions = task.actions.len();
     let steps = if actions > 0 { random.size(1..=6) } else { 0 };
     let plan = (0..steps).map(|_| random.index(actions) as u32).collect();
-    Some(check_plan(random, task.words(), plan))
+    let call = random_plan_call(random);
+    Some(plan_case(random, call, task.words(), plan))
 }

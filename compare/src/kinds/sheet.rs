@@ -1,6 +1,6 @@
 //! Accepted and damaged sheets, handed to each service that takes a sheet.
 
-use super::{check_plan, check_sheet, step, Make};
+use super::{check_sheet, plan_case_with, random_plan_call, step, Make};
 use crate::cases::Case;
 use crate::faults::{Fault, FAULTS};
 use crate::layout::Sheet;
@@ -111,16 +111,18 @@ fn noise(random: &mut Random) -> Option<Case> {
 }
 
 fn on_some_service(random: &mut Random, task: &Task, words: Vec<u32>) -> Case {
-    match random.index(4) {
+    match random.index(6) {
         0 => {
             let state = random_state(random, task).to_vec();
             let action = random_action(random, task);
             step(random, words, state, action)
         }
-        1 => {
+        1..=3 => {
             let steps = random.pick(&[0, 1, 2, 3, rules::MAX_STEPS + 1]);
             let plan = (0..steps).map(|_| random_action(random, task)).collect();
-            check_plan(random, words, plan)
+            let outputs = [(); 2].map(|_| random.size(0..=2 * steps));
+            let call = random_plan_call(random);
+            plan_case_with(random, call, words, plan, outputs)
         }
         _ => check_sheet(random, words),
     }

@@ -40,7 +40,7 @@ fn near_a_limit(random: &mut Random) -> Option<Case> {
 }
 
 /// One of the words, or one beside it.
-fn near(random: &mut Random, words: &[u32]) -> u32 {
+pub fn near(random: &mut Random, words: &[u32]) -> u32 {
     let word = random.pick(words);
     random.pick(&[word.wrapping_sub(1), word, word.wrapping_add(1)])
 }
@@ -61,8 +61,14 @@ fn random_tally(random: &mut Random) -> Tally {
     }
 }
 
-/// Half of the tallies compared differ in one field by one, or not at all.
 fn comparison(random: &mut Random) -> Option<Case> {
+    let [first, second] = near_each_other(random);
+    let call = Call::TallyCompare { first, second };
+    Some(Case::new(call, Vec::new()))
+}
+
+/// Half of the tallies differ in one field by one, or not at all.
+pub fn near_each_other(random: &mut Random) -> [Tally; 2] {
     let first = random_tally(random);
     let second = match random.index(6) {
         0 => first,
@@ -76,6 +82,5 @@ fn comparison(random: &mut Random) -> Option<Case> {
         },
         _ => random_tally(random),
     };
-    let call = Call::TallyCompare { first, second };
-    Some(Case::new(call, Vec::new()))
+    [first, second]
 }

@@ -1,0 +1,114 @@
+//! Elimination and greedy elimination. Both go through the current list from the state before each
+//! step, so that a trial walks only what stands behind it.
+
+use super::{all_hold, do_step, mask_of, Lodged, Mask, Refusal, State};
+
+/// What a reduction keeps.
+pub struct Kept {
+    pub cost: usize,
+    /// The kept action numbers, in the order of the plan.
+    pub actions: Vec<u32>,
+    pub mask: Mask,
+}
+
+impl Kept {
+    fn of(lodged: &Lodged, plan: &[u32], steps: &[usize]) -> Self {
+        Kept {
+            cost: steps.iter().map(|&step| lodged.actions[step].cost).sum(),
+            actions: steps.iter().map(|&step| plan[step]).collect(),
+            mask: mask_of(steps.iter().copied()),
+        }
+    }
+}
+
+/// Refusals 1 to 11.
+pub fn eliminate(words: &[u32], plan: &[u32], output: usize) -> Result<Kept, Refusal> {
+    let lodged = Lodged::check(words, plan, &[output])?;
+    Ok(lodged.kept(plan, Lodged::eliminated))
+}
+
+/// Refusals 1 to 11.
+pub fn greedy(words: &[u32], plan: &[u32], output: usize) -> Result<Kept, Refusal> {
+    let lodged = Lodged::check(words, plan, &[output])?;
+    Ok(lodged.kept(plan, Lodged::greedily_eliminated))
+}
+
+/// A trial that succeeds: what it strikes, ordered as greedy elimination chooses, and the steps
+/// behind its own that it keeps.
+struct Success {
+    cost: usize,
+    steps: usize,
+    kept: Vec<usize>,
+}
+
+impl Lodged<'_> {
+    /// Steps are told by their index in the plan.
+    pub fn kept(&self, plan: &[u32], reduced: fn(&Self) -> Vec<usize>) -> Kept {
+        Kept::of(self, plan, &reduced(self))
+    }
+
+    pub fn eliminated(&self) -> Vec<usize> {
+        let mut steps: Vec<usize> = (0..self.actions.len()).collect();
+        let mut state = self.task.start();
+        let mut next = 0;
+        while next < steps.len() {
+            if let Some(success) = self.trial(&steps[next..], state) {
+                steps.truncate(next);
+                steps.extend(success.kept);
+            } else {
+                do_step(self.actions[steps[next]], &mut state);
+                next += 1;
+            }
+        }
+        steps
+    }
+
+    pub fn greedily_eliminated(&self) -> Vec<usize> {
+        let mut steps: Vec<usize> = (0..self.actions.len()).collect();
+        while let Some((position, success)) = self.best_trial(&steps) {
+            steps.truncate(position);
+            steps.extend(success.kept);
+        }
+        steps
+    }
+
+    /// Of the trials at every position of the list, the success that strikes the most cost, then
+    /// the most steps, then the earliest.
+    fn best_trial(&self, steps: &[usize]) -> Option<(usize, Success)> {
+        let mut best: Option<(usize, Success)> = None;
+        let mut state = self.task.start();
+        for (position, &step) in steps.iter().enumerate() {
+            if let Some(success) = self.trial(&steps[position..], state) {
+                let is_better = best.as_ref().is_none_or(|(_, best)| {
+                    (success.cost, success.steps) > (best.cost, best.steps)
+                });
+                if is_better {
+                    best = Some((position, success));
+                }
+            }
+            do_step(self.actions[step], &mut state);
+        }
+        best
+    }
+
+    /// Strikes the first of these steps, which are walked from `state`, and each later one that
+    /// can't be done. The goal is looked at once, after the walk.
+    fn trial(&self, steps: &[usize], mut state: State) -> Option<Success> {
+        let (&struck, later) = steps.split_first()?;
+        let mut success = Success {
+            cost: self.actions[struck].cost,
+            steps: 1,
+            kept: Vec::with_capacity(later.len()),
+        };
+        for &step in later {
+            let action = self.actions[step];
+            if do_step(action, &mut state) {
+                success.kept.push(step);
+            } else {
+                success.cost += action.cost;
+                success.steps += 1;
+            }
+        }
+        all_hold(self.task.goal(), &state).then_some(success)
+    }
+}
