@@ -79,7 +79,6 @@ static ELIMINATE: Service = Service {
     mask_words: rules::MASK_WORDS,
     outputs: 1,
     answers: &[0, 1, 2, 3, 4, 5, 6, 7, 8, 9, 10, 11],
-    ..PLAIN
 };
 static GREEDY: Service = Service {
     name: "greedy",

@@ -11,7 +11,7 @@ pub fn cheaper(words: &[u32], plan: &[u32], outputs: [usize; 2]) -> Result<[Kept
 }
 
 /// Which output is the cheaper one, as an index, and its kept part; ties are the first one's.
-pub fn kept_part<'a>(outputs: [&'a [u32]; 2], tallies: [Tally; 2]) -> (usize, &'a [u32]) {
+pub fn kept_part(outputs: [&[u32]; 2], tallies: [Tally; 2]) -> (usize, &[u32]) {
     let chosen = usize::from(tallies[1].compare(tallies[0]) == Ordering::Less);
     let (output, steps) = (outputs[chosen], tallies[chosen].steps as usize);
     (chosen, &output[..steps.min(output.len())])
