@@ -17,7 +17,7 @@ fn byte(bytes: &[u8], i: usize) -> u32
 }
 
 // Word i, its lowest byte first.
-pub fn word(bytes: &[u8], i: usize) -> u32
+pub(crate) fn word(bytes: &[u8], i: usize) -> u32
     requires { ⌜ i < 2 ^ 61 ⌝ }
     ensures { λ r. ⌜ (r ≡ word-at (now (bytes .entry)) i) × (r < 2 ^ 32) ⌝ }
 {

@@ -1,7 +1,7 @@
 -- `read` meets its contract. The loop's invariant: what has been read lies inside the bytes that are lent, whose length does not change. The measure is how many bytes
 -- may still be wanted: it falls, since a turn that goes on has read all that it wanted, and it wanted more. Assumes nothing.
 use Prim.Native.Nat.{_≤_, _-_}
-use mathlib.Core.Path.{_≡_, sym}
+use mathlib.Core.Path.{_≡_, refl, sym}
 use borrow.Author.Needs.{needs}
 use lib.ListN.{length}
 use lib.Seq.{length-take-le}
@@ -14,6 +14,9 @@ Inv-loop bytes₀ have₀ bytes have = (have ≤ length bytes) × (length bytes 
 
 abbrev μ-loop : tie.MeasureT-loop
 μ-loop bytes₀ have₀ bytes have = most-bytes - have
+
+returns : tie.Need-returns Inv-loop μ-loop
+returns c = (search needs, refl)
 
 loop-holds : tie.Need-loop-holds Inv-loop μ-loop
 loop-holds c = search needs
@@ -30,8 +33,8 @@ wanted-requires c κs = search needs
 same-length : tie.Need-same-length Inv-loop μ-loop
 same-length c = search needs
 
-returns : tie.Need-returns Inv-loop μ-loop
-returns c = (search needs, sym (length-take-le _ _ (search needs)))
+returns-2 : tie.Need-returns-2 Inv-loop μ-loop
+returns-2 c = (search needs, sym (length-take-le _ _ (search needs)))
 
 sub-read-full : tie.Need-sub-read-full Inv-loop μ-loop
 sub-read-full c = search needs
@@ -51,8 +54,8 @@ add-have c = search needs
 same-length-2 : tie.Need-same-length-2 Inv-loop μ-loop
 same-length-2 c = search needs
 
-returns-2 : tie.Need-returns-2 Inv-loop μ-loop
-returns-2 c = (search needs, sym (length-take-le _ _ (search needs)))
+returns-3 : tie.Need-returns-3 Inv-loop μ-loop
+returns-3 c = (search needs, sym (length-take-le _ _ (search needs)))
 
 loop-less : tie.Need-loop-less Inv-loop μ-loop
 loop-less c = search needs
@@ -66,18 +69,19 @@ read-spec =
     (tie.spec
     Inv-loop
     μ-loop
+    returns
     loop-holds
     slice-reshare-prefix-wanted
     slice-aggregate-wanted
     wanted-requires
     same-length
-    returns
+    returns-2
     sub-read-full
     part-read-full-start
     part-read-full-end
     read-full-requires
     add-have
     same-length-2
-    returns-2
+    returns-3
     loop-less
     loop-again)
