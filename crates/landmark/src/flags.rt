@@ -17,7 +17,7 @@ ghost use Rattle.plan.specs.Checked.{list-checks};
 ghost use Rattle.landmark.specs.Marks.{flags-of};
 
 // The landmarks of a plan that is not too long, of known actions of an accepted task.
-pub fn landmarks(words: &[u32], plan: &[u32]) -> [bool; Plan::STEPS]
+pub(crate) fn landmarks(words: &[u32], plan: &[u32]) -> [bool; Plan::STEPS]
     ensures { λ r. ⌜ (Accepted (now (words .entry)) → answer (list-checks (now (words .entry)) (now (plan .entry))) ≡ none → r ≡ flags-of (now (words .entry)) (now (plan .entry))) ⌝ }
 {
     if Plan::STEPS < plan.len() {
