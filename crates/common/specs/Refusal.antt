@@ -2,7 +2,7 @@
 use Prim.Native.Nat.{ℕ}
 use mathlib.Core.Option.{Option, none, some}
 use Rattle.common.specs.declared.refusal.Refusal.{Refusal}
-use Rattle.common.specs.declared.refusal.Refusal.the-variants.{Length, Edition, Counts, Pair, Variable, Fact, Cost, PlanLength, UnknownAction, ShortOutput, NotAPlan}
+use Rattle.common.specs.declared.refusal.Refusal.the-variants.{Length, Edition, Counts, Pair, Variable, Fact, Cost, PlanLength, UnknownAction, ShortOutput, NotAPlan, Unmarked}
 use Rattle.common.specs.declared.refusal.Verdict.{Verdict}
 use Rattle.common.specs.declared.refusal.Verdict.the-variants.{Passed, Refused}
 
@@ -23,6 +23,7 @@ told-refusal (PlanLength n) = record { number = 8; place = n }
 told-refusal (UnknownAction i) = record { number = 9; place = i }
 told-refusal (ShortOutput n) = record { number = 10; place = n }
 told-refusal (NotAPlan i) = record { number = 11; place = i }
+told-refusal (Unmarked n) = record { number = 12; place = n }
 
 -- a verdict's refusal, if it is one
 abbrev pub told : Verdict → Option Told

@@ -15,6 +15,7 @@ pub enum Refusal {
     UnknownAction(usize),
     ShortOutput(usize),
     NotAPlan(usize),
+    Unmarked(usize),
 }
 
 impl Refusal {
@@ -34,6 +35,7 @@ impl Refusal {
             Refusal::UnknownAction(_) => 9,
             Refusal::ShortOutput(_) => 10,
             Refusal::NotAPlan(_) => 11,
+            Refusal::Unmarked(_) => 12,
         }
     }
 
@@ -53,6 +55,7 @@ impl Refusal {
             Refusal::UnknownAction(i) => i,
             Refusal::ShortOutput(n) => n,
             Refusal::NotAPlan(i) => i,
+            Refusal::Unmarked(n) => n,
         }
     }
 }
