@@ -35,10 +35,10 @@ binary-next n zero (b ∷ m) = refl
 binary-next n (suc j) [] = rw (drop-nil, take-nil)
 binary-next n (suc j) (b ∷ m) = rw add-one (rw add-one at (binary-next n j m))
 
-lowest-digit : (n : ℕ) (b : Bool) → (2 * n + digit b) % 2 ≡ digit b
+pub lowest-digit : (n : ℕ) (b : Bool) → (2 * n + digit b) % 2 ≡ digit b
 lowest-digit n b = omega (arith, digit-low b)
 
-other-digits : (n : ℕ) (b : Bool) → (2 * n + digit b) / 2 ≡ n
+pub other-digits : (n : ℕ) (b : Bool) → (2 * n + digit b) / 2 ≡ n
 other-digits n b = omega (arith, digit-low b)
 
 -- bit i of a word is its digit i

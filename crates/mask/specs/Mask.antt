@@ -1,10 +1,11 @@
 -- A mask of four words (document 01, "Doing a step, and a valid list"): how it tells a reduction, and what is kept by it. Assumes nothing.
-use Prim.Native.Nat.{ℕ, zero, suc, _+_, _*_, _/_, _%_}
+use Prim.Native.Nat.{ℕ, zero, suc, _+_, _*_, _/_, _%_, _^_}
 use mathlib.Core.Bool.{Bool, true, false}
 use mathlib.Core.List.{List, [], _∷_, _++_, map}
-use lib.ListN.{getD, take, drop}
+use lib.ListN.{getD, set, take, drop}
 use lib.Dec.{eqb}
 use lib.Count.{ones}
+use lib.Bits.{bitOr}
 use Rattle.reduction.specs.Reduction.{Reduction}
 
 -- the words of a mask, and the bits of a word, stated here and nowhere else in the definitions
@@ -41,6 +42,10 @@ mask-words m = words-of mask-length m
 unfoldable pub ones-of : List ℕ → ℕ
 ones-of [] = 0
 ones-of (w ∷ ws) = ones w + ones-of ws
+
+-- the words with bit i of them one
+unfoldable pub with-bit : List ℕ → ℕ → List ℕ
+with-bit ws i = set ws (i / word-bits) (bitOr (getD ws (i / word-bits) 0) (2 ^ (i % word-bits)))
 
 -- the places of the ones among the n lowest binary digits of a word, the lowest digit at place i
 unfoldable pub ones-at : ℕ → ℕ → ℕ → List ℕ

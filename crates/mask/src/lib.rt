@@ -8,7 +8,7 @@ ghost use mathlib.Core.Bool.{false};
 ghost use lib.ListN.{length, getD, take, drop};
 ghost use lib.Seq.{sets};
 ghost use lib.Count.{ones as ones-in};
-ghost use Rattle.mask.specs.Mask.{word-bits, mask-bits, digit as digit-of, binary, mask-words, ones-of, ones-at, at-places, kept-by-words};
+ghost use Rattle.mask.specs.Mask.{word-bits, mask-bits, digit as digit-of, binary, mask-words, ones-of, with-bit, ones-at, at-places, kept-by-words};
 
 // Document 01's mask. Its words may hold any values.
 pub struct Mask {
@@ -27,6 +27,18 @@ impl Mask {
     {
         let words = self.words;
         ones(words[0]) + ones(words[1]) + ones(words[2]) + ones(words[3])
+    }
+
+    // The mask with the step at index i kept too.
+    pub fn with(self, i: usize) -> Mask
+        ensures { λ r. ⌜ r .words ≡ with-bit (self .words) i ⌝ }
+    {
+        let mut words = self.words;
+        let k = i / Mask::BITS;
+        if k < Mask::WORDS {
+            words[k] = words[k] | (1 << (i % Mask::BITS));
+        }
+        Mask { words }
     }
 }
 
