@@ -104,15 +104,15 @@ module _ (domains : List ℕ) (room : ℕ) (fits : (f : Fact) → Known domains 
       rw (further, or-assoc (held f) (has (a .effect) f) (written (take k p) f)) (tells f known (suc k) (omega arith))
 
   -- the table tells the facts that are wanted before the steps p, of which m flags the landmarks
-  abbrev Wants : Assignment → List Action → Reduction → List ℕ → Type 0
+  abbrev pub Wants : Assignment → List Action → Reduction → List ℕ → Type 0
   Wants goal p m t = (f : Fact) → Known domains f → eqb (getD t (fact-word f) 0) is-wanted ≡ wanted goal p m f
 
-  before-length : (t : List ℕ) (a : Action) (b : Bool) → length t ≡ room → length (wanted-before t a b) ≡ room
+  pub before-length : (t : List ℕ) (a : Action) (b : Bool) → length t ≡ room → length (wanted-before t a b) ≡ room
   unfolding wanted-before
   before-length t a true sized = stamped-length (stamped t (a .effect) not-wanted) (a .precondition) is-wanted ∙ stamped-length t (a .effect) not-wanted ∙ sized
   before-length t a false sized = stamped-length t (a .effect) not-wanted ∙ sized
 
-  wants-next : (goal : Assignment) (a : Action) (p : List Action) (m : Reduction) (t : List ℕ) (b : Bool) → length t ≡ room → Action-formed domains a
+  pub wants-next : (goal : Assignment) (a : Action) (p : List Action) (m : Reduction) (t : List ℕ) (b : Bool) → length t ≡ room → Action-formed domains a
       → Wants goal p m t → Wants goal (a ∷ p) (b ∷ m) (wanted-before t a b)
   unfolding wanted wanted-before
   wants-next goal a p m t true sized formed wants f known =
@@ -152,7 +152,7 @@ module _ (domains : List ℕ) (room : ℕ) (fits : (f : Fact) → Known domains 
         rw (flag-right i held a p _ here tells wants, flags) (refl, wants-next goal a p _ _ _ (wanted-length (i + 1) p) here wants)
 
   -- an empty table stamped with the goal tells the facts that the goal wants
-  goal-wants : (goal : Assignment) → Rising domains 0 goal → Wants goal [] [] (stamped (replicate room not-wanted) goal is-wanted)
+  pub goal-wants : (goal : Assignment) → Rising domains 0 goal → Wants goal [] [] (stamped (replicate room not-wanted) goal is-wanted)
   unfolding wanted
   goal-wants goal rising f known =
       rw (stamped-known (replicate room not-wanted) goal is-wanted f (length-replicate room not-wanted) rising known, getD-replicate room (fact-word f) not-wanted 0 (fits f known .1))

@@ -38,12 +38,12 @@ use Rattle.landmark.proofs.StampLaws.{Small}
 use Rattle.landmark.proofs.FlagTheorem.{walks-flag}
 
 -- the facts for which a table has room
-abbrev most-facts : ℕ
+abbrev pub most-facts : ℕ
 most-facts = limits .variables * limits .values
 
 module _ (w : List ℕ) (accepted : Accepted w) where
   -- a known fact has a word of its own in a table
-  fits : (f : Fact) → Known (domains w) f → Small f × (fact-word f < most-facts)
+  pub fits : (f : Fact) → Known (domains w) f → Small f × (fact-word f < most-facts)
   fits f known =
       let below : f .variable < variables w = omega (arith, known .variable, domains-length w) in
       let value : f .value < limits .values = omega (arith, known .value, domain-limits w accepted (f .variable) below .1) in

@@ -22,7 +22,7 @@ use Rattle.task.proofs.TableLaws.{facts-over, facts-next}
 use Rattle.landmark.specs.Tables.{fact-word, is-wanted, stamped, sought}
 
 -- a word is that of the fact that it is
-word-of-fact : (x : ℕ) → fact-word (fact-of x) ≡ x
+pub word-of-fact : (x : ℕ) → fact-word (fact-of x) ≡ x
 word-of-fact x = div-add-mod' x (limits .values)
 
 -- from the end on nothing is stamped

@@ -37,10 +37,10 @@ module _ (w s first before behind : List ℕ) (i a to end : ℕ) (landmark : Boo
 
 -- a list whose step at index i − 1 comes next, behind it those from i on
 module _ (w l : List ℕ) (i : ℕ) (some-left : 0 < i) (reached : i ≤ length l) where
-  further : i - 1 + 1 ≡ i
+  pub further : i - 1 + 1 ≡ i
   further = omega arith
 
-  steps-next : steps w (drop (i - 1) l) ≡ action w (getD l (i - 1) 0) ∷ steps w (drop i l)
+  pub steps-next : steps w (drop (i - 1) l) ≡ action w (getD l (i - 1) 0) ∷ steps w (drop i l)
   steps-next = rw (drop-next l (i - 1) (omega arith), further)
 
 -- where the first walk stands before index i, with the table of first writers that it has there

@@ -4,5 +4,5 @@
 mod flags;
 pub mod marks;
 pub mod masked;
-mod tables;
+pub mod tables;
 mod walks;

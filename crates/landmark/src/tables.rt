@@ -9,14 +9,14 @@ ghost use Rattle.task.specs.Decode.{fact-of, facts};
 ghost use Rattle.landmark.specs.Tables.{stamped, sought as sought-fact};
 
 // The size of a table: an accepted task has no fact past it.
-pub(crate) const FACTS: usize = Task::VARIABLES * Task::VALUES;
+pub const FACTS: usize = Task::VARIABLES * Task::VALUES;
 // What stands at a fact that is wanted, and at one that is not.
-pub(crate) const WANTED: u32 = 1;
+pub const WANTED: u32 = 1;
 
-pub(crate) const UNWANTED: u32 = 0;
+pub const UNWANTED: u32 = 0;
 
 // Writes x at each fact from word i up to end.
-pub(crate) fn stamp(words: &[u32], table: &mut [u32], i: usize, end: usize, x: u32)
+pub fn stamp(words: &[u32], table: &mut [u32], i: usize, end: usize, x: u32)
     ensures { λ _. ⌜ now (table .exit) ≡ stamped (now (table .entry)) (facts (now (words .entry)) i end) x ⌝ }
 {
     let mut at = i;

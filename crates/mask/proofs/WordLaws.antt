@@ -27,6 +27,12 @@ binary-below zero m = omega arith
 binary-below (suc n) [] = pow-pos (suc n)
 binary-below (suc n) (b ∷ m) = rw pow-suc (omega (arith, binary-below n m, digit-low b))
 
+pub binary-fits : (n : ℕ) (m : Reduction) → length m ≤ n → binary m < 2 ^ n
+unfolding binary
+binary-fits n [] few = pow-pos n
+binary-fits zero (b ∷ m) few = absurd (omega arith)
+binary-fits (suc n) (b ∷ m) few = rw pow-suc (omega (arith, binary-fits n m (omega arith), digit-low b))
+
 -- one digit more, below the others
 pub binary-next : (n j : ℕ) (m : Reduction) → binary (take (suc n) (drop j m)) ≡ 2 * binary (take n (drop (j + 1) m)) + digit (getD m j false)
 unfolding binary

@@ -1,0 +1,2 @@
+-- Bits: the facts that are wanted behind each step, as bits. Not to be believed: proofs/BitTheorem ties them to `wanted` of `reduction`.
+pub mod Bits
