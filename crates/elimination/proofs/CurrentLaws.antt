@@ -20,7 +20,8 @@ use Rattle.reduction.specs.Elimination.{walk, after, trial}
 use Rattle.reduction.proofs.TrialLaws.{From-before, trial-from-before, trial-succeeds, success-valid, walk-length, unkept-fails}
 use Rattle.reduction.proofs.BeforeLaws.{Before, Passes, before-next, walk-past}
 use Rattle.elimination.specs.Trial.{Tries}
-use Rattle.elimination.specs.Current.{start, mask, Current, Eliminates}
+use Rattle.reduced.specs.Held.{start, mask}
+use Rattle.elimination.specs.Current.{Current, Eliminates}
 
 steps-drop : (w l : List ℕ) (n : ℕ) → steps w (drop n l) ≡ drop n (steps w l)
 steps-drop w l zero = refl

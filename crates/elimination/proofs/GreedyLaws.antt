@@ -13,7 +13,8 @@ use Rattle.reduction.specs.Reduction.{Reduction, valid}
 use Rattle.reduction.specs.Elimination.{best, rounds, greedy}
 use Rattle.reduction.proofs.BeforeLaws.{before-first}
 use Rattle.elimination.specs.declared.greedy.Best.{Best}
-use Rattle.elimination.specs.Current.{start, mask, held, Current}
+use Rattle.reduced.specs.Held.{start, mask, held}
+use Rattle.elimination.specs.Current.{Current}
 use Rattle.elimination.specs.Round.{Picks, Looks}
 use Rattle.elimination.proofs.EliminateLaws.{all-current, all-mask}
 

@@ -19,10 +19,12 @@ use Rattle.reduction.proofs.BeforeLaws.{Before}
 use Rattle.elimination.specs.declared.greedy.Best.{Best}
 use Rattle.elimination.specs.declared.trial.Tried.{Tried}
 use Rattle.elimination.specs.Trial.{Tries}
-use Rattle.elimination.specs.Current.{start, mask, Current}
-use Rattle.elimination.specs.Round.{tallied, is-less, replaces, better-of, Betters, Picks, Looks}
+use Rattle.reduced.specs.Held.{start, mask}
+use Rattle.elimination.specs.Current.{Current}
+use Rattle.reduced.specs.Tallied.{tallied, is-less}
+use Rattle.elimination.specs.Round.{replaces, better-of, Betters, Picks, Looks}
 use Rattle.elimination.proofs.CurrentLaws.{mask-length, mask-flag, trial-met, trial-unmet, left-mask, left-current, advanced, eliminates-nothing}
-use Rattle.elimination.proofs.RoundLaws.{tallied-mask, tally-lower}
+use Rattle.reduced.proofs.LowerLaws.{tallied-mask, tally-lower}
 
 module _ (w l : List ℕ) (m : Reduction) (i : ℕ) where
   -- a trial that fails changes nothing

@@ -1,63 +1,25 @@
--- What is told and written of a reduction, and with it what each service answers, refused or not. The mask tells the reduction by the laws of masks, and
--- the tally is plain by those of tallies. Assumes nothing.
-use Prim.Native.Nat.{ℕ, min, _≤_}
-use native.Mathlib.Omega.{arith}
+-- What the service of both eliminations answers, refused or not, and the part that is shown of the cheaper. Assumes nothing.
+use Prim.Native.Nat.{ℕ, min}
 use mathlib.Core.Path.{_≡_, refl, sym, _∙_, ap}
 use mathlib.Core.List.{List}
-use lib.ListN.{length, take, replicate}
-use lib.Seq.{sets}
+use lib.ListN.{length, take}
 use Rattle.common.specs.declared.refusal.Refusal.{Refusal}
 use Rattle.common.specs.declared.refusal.Verdict.{Verdict}
-use Rattle.common.specs.declared.refusal.Verdict.the-variants.{Passed, Refused as Refused-verdict}
+use Rattle.common.specs.declared.refusal.Verdict.the-variants.{Passed, Refused}
 use Rattle.common.specs.Refusal.{told}
 use Rattle.common.specs.Check.{answer}
 use Rattle.tally.specs.declared.Tally.{Tally}
 use Rattle.tally.specs.declared.Order.{Order}
 use Rattle.tally.specs.declared.Order.the-variants.{Less, Equal, Greater}
 use Rattle.tally.specs.Tally.{nothing, comparison}
-use Rattle.plan.specs.declared.check.Answer.the-variants.{Valid, Refused}
-use Rattle.plan.proofs.PlanTheorem.{Readable}
 use Rattle.reduction.specs.Reduction.{Reduction}
-use Rattle.mask.specs.Mask.{mask-length, mask-bits, mask-words, ones-of, kept-by-words}
-use Rattle.mask.proofs.MaskTheorem.{ones-are-kept, mask-keeps}
-use Rattle.elimination.specs.Round.{tallied}
-use Rattle.elimination.specs.Reduced.{reduction-checks, Reduces, elimination-of, greedy-elimination-of, Reduces-both, cheaper-part}
-use Rattle.elimination.specs.Kept.{Keeps}
-use Rattle.elimination.proofs.TalliedLaws.{plainly}
+use Rattle.reduced.specs.Reduced.{reduction-checks}
+use Rattle.reduced.specs.Kept.{Keeps}
+use Rattle.elimination.specs.Eliminations.{elimination-of, greedy-elimination-of, Reduces-both, cheaper-part}
 
-pub keeps : (w l : List ℕ) (m : Reduction) (before after words : List ℕ) (tally : Tally) (ones : ℕ) → Readable w l → length m ≡ length l → words ≡ mask-words m
-    → tally ≡ tallied w l m → ones ≡ ones-of words → after ≡ sets before 0 (kept-by-words words l) → Keeps w l m before (record { cost = tally .cost; steps = ones }) words after
-keeps w l m before after words tally ones readable fits told-by counts counted writes =
-    let few : length m ≤ mask-bits = omega (arith, readable .few) in
-    record {
-      counted = rw (counts ∙ plainly w l m readable fits, counted, told-by, ones-are-kept m few);
-      told-by = told-by;
-      written = writes ∙ rw (told-by, mask-keeps m l few fits);
-    }
-
--- a service refuses, with zeros, and touches nothing
-pub reduces-refused : (w l : List ℕ) (m : Reduction) (before : List ℕ) (v : Verdict) (r : Refusal) → told v ≡ answer (reduction-checks w l (length before)) → v ≡ Refused-verdict r
-    → Reduces w l m before (Refused r) (replicate mask-length 0) before
-reduces-refused w l m before v r checked refuses =
-    let refused : told (Refused-verdict r) ≡ answer (reduction-checks w l (length before)) = sym (ap told refuses) ∙ checked in
-    record { refusal = refused; tally = rw (← refused); told-by = rw (← refused); output = rw (← refused) }
-
--- or hands on what is told and written of its reduction
-pub reduces-kept : (w l : List ℕ) (m left : Reduction) (before after words : List ℕ) (v : Verdict) (tally : Tally) → told v ≡ answer (reduction-checks w l (length before)) → v ≡ Passed
-    → left ≡ m → Keeps w l left before tally words after → Reduces w l m before (Valid tally) words after
-reduces-kept w l m left before after words v tally checked passes same keeps =
-    let passed : told Passed ≡ answer (reduction-checks w l (length before)) = sym (ap told passes) ∙ checked in
-    record {
-      refusal = passed;
-      tally = rw (← passed, ← same) (keeps .counted);
-      told-by = rw (← passed, ← same) (keeps .told-by);
-      output = rw (← passed, ← same) (keeps .written);
-    }
-
--- the service of both, likewise
 module _ (w l before before′ : List ℕ) (room : ℕ) (v : Verdict) (shorter : room ≡ min (length before) (length before′)) (checked : told v ≡ answer (reduction-checks w l room)) where
-  pub both-refused : (r : Refusal) (first second : Tally) → v ≡ Refused-verdict r → first ≡ nothing → second ≡ nothing
-      → Reduces-both w l before before′ (Refused-verdict r) first second before before′
+  pub both-refused : (r : Refusal) (first second : Tally) → v ≡ Refused r → first ≡ nothing → second ≡ nothing
+      → Reduces-both w l before before′ (Refused r) first second before before′
   both-refused r first second refuses none-first none-second =
       record { refusal = sym (ap told refuses) ∙ rw shorter at checked; first-tally = none-first; second-tally = none-second; first-output = refl; second-output = refl }
 

@@ -1,30 +1,17 @@
 -- The current list as the code holds it: flags for the most steps that a plan may have, none up past the plan's last. Assumes nothing.
-use Prim.Native.Nat.{ℕ, _+_, _-_, _≤_}
+use Prim.Native.Nat.{ℕ, _+_, _≤_}
 use mathlib.Core.Path.{_≡_}
-use mathlib.Core.Bool.{true, false}
+use mathlib.Core.Bool.{true}
 use mathlib.Core.Option.{Option·getD}
-use mathlib.Core.List.{List, _++_}
-use lib.ListN.{length, take, replicate}
-use lib.Seq.{sets}
-use Rattle.task.specs.Limits.{limits}
-use Rattle.task.specs.Decode.{goal, initial}
+use mathlib.Core.List.{List}
+use lib.ListN.{length}
+use Rattle.task.specs.Decode.{goal}
 use Rattle.plan.specs.Limits.{most-steps}
 use Rattle.plan.specs.Valid.{steps}
 use Rattle.reduction.specs.Reduction.{Reduction, kept, valid}
 use Rattle.reduction.specs.Elimination.{trial}
 use Rattle.reduction.proofs.BeforeLaws.{Before}
-
--- the starting values as a state of 64
-abbrev pub start : List ℕ → List ℕ
-start w = sets (replicate (limits .variables) 0) 0 (initial w)
-
--- the reduction of the plan l that flags are
-abbrev pub mask : List ℕ → Reduction → Reduction
-mask l flags = take (length l) flags
-
--- the flags that a reduction of the plan l is
-abbrev pub held : List ℕ → Reduction → Reduction
-held l m = m ++ replicate (most-steps - length l) false
+use Rattle.reduced.specs.Held.{start, mask, held}
 
 -- flags that are a valid reduction of the plan l
 pub record Current (w l : List ℕ) (flags : Reduction) : Type 0 where

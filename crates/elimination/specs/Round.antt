@@ -3,30 +3,18 @@ use Prim.Native.Nat.{ℕ}
 use mathlib.Core.Path.{_≡_}
 use mathlib.Core.Bool.{Bool, true, false, cond, _&&_}
 use mathlib.Core.Option.{none, some}
-use mathlib.Core.List.{List, map}
-use Rattle.tally.specs.declared.Tally.{Tally}
-use Rattle.tally.specs.declared.Order.{Order}
-use Rattle.tally.specs.declared.Order.the-variants.{Less, Equal, Greater}
-use Rattle.tally.specs.Tally.{nothing, after, comparison}
-use Rattle.task.specs.Layout.{cost-word}
+use mathlib.Core.List.{List}
+use Rattle.tally.specs.Tally.{comparison}
 use Rattle.task.specs.Decode.{goal}
 use Rattle.plan.specs.Valid.{steps}
-use Rattle.reduction.specs.Reduction.{Reduction, kept}
+use Rattle.reduction.specs.Reduction.{Reduction}
 use Rattle.reduction.specs.Elimination.{best}
 use Rattle.reduction.proofs.BeforeLaws.{Before}
+use Rattle.reduced.specs.Held.{start, mask}
+use Rattle.reduced.specs.Tallied.{tallied, is-less}
 use Rattle.elimination.specs.declared.greedy.Best.{Best}
 use Rattle.elimination.specs.declared.trial.Tried.{Tried}
-use Rattle.elimination.specs.Current.{start, mask, Current}
-
--- the tally of the kept steps
-unfoldable pub tallied : List ℕ → List ℕ → Reduction → Tally
-tallied w l m = after nothing (map (cost-word w) (kept m l))
-
--- the first of two tallies is the lower
-abbrev pub is-less : Order → Bool
-is-less Less = true
-is-less Equal = false
-is-less Greater = false
+use Rattle.elimination.specs.Current.{Current}
 
 -- a success that is the lower, or the first, takes the place of the best so far
 unfoldable pub replaces : List ℕ → List ℕ → Best → Tried → Bool

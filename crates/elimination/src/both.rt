@@ -1,15 +1,15 @@
 // Both eliminations as one service, and the part of the cheaper list.
-use crate::checks::check_reduction;
 use crate::eliminate::eliminate;
-use crate::finish::finish;
 use crate::greedy::greedy;
 use common::refusal::Verdict;
+use reduced::checks::check_reduction;
+use reduced::finish::finish;
 use tally::Order;
 use tally::Tally;
 ghost use mathlib.Core.Path.{_≡_};
 ghost use Prim.Native.Nat.{min};
 ghost use lib.ListN.{take};
-ghost use Rattle.elimination.specs.Reduced.{Reduces-both, cheaper-part};
+ghost use Rattle.elimination.specs.Eliminations.{Reduces-both, cheaper-part};
 
 // Both tallies, elimination's first, or a refusal, with its tallies zero.
 pub struct Both {

@@ -1,10 +1,10 @@
 // Elimination (document 01): a trial at each position in turn.
-use crate::current::all_kept;
 use crate::trial::trial;
 use common::access::flag;
 use common::access::word;
 use plan::limits::Plan;
 use plan::start::initial;
+use reduced::held::all_kept;
 use step::advance::advance;
 use task::limits::Task;
 ghost use mathlib.Core.Path.{_≡_};
@@ -16,7 +16,8 @@ ghost use Rattle.reduction.specs.Elimination.{eliminate as eliminate-of};
 ghost use Rattle.reduction.proofs.BeforeLaws.{Before};
 ghost use Rattle.task.specs.Decode.{goal};
 ghost use Rattle.plan.specs.Valid.{steps};
-ghost use Rattle.elimination.specs.Current.{start, mask, held, Current, Eliminates};
+ghost use Rattle.reduced.specs.Held.{start, mask, held};
+ghost use Rattle.elimination.specs.Current.{Current, Eliminates};
 
 // The current list, and the state before the next step.
 pub(crate) struct Progress {

@@ -1,12 +1,12 @@
 // Greedy elimination (document 01): rounds of trials, of which each takes the best success.
-use crate::current::all_kept;
-use crate::tallied::tally_of;
 use crate::trial::Tried;
 use crate::trial::trial;
 use common::access::flag;
 use common::access::word;
 use plan::limits::Plan;
 use plan::start::initial;
+use reduced::held::all_kept;
+use reduced::tallied::tally_of;
 use step::advance::advance;
 use tally::Order;
 use tally::Tally;
@@ -20,7 +20,8 @@ ghost use Rattle.reduction.specs.Elimination.{greedy as greedy-of};
 ghost use Rattle.task.specs.Decode.{goal};
 ghost use Rattle.plan.specs.Valid.{steps};
 ghost use Rattle.plan.proofs.PlanTheorem.{Readable};
-ghost use Rattle.elimination.specs.Current.{start, mask, held, Current};
+ghost use Rattle.reduced.specs.Held.{start, mask, held};
+ghost use Rattle.elimination.specs.Current.{Current};
 ghost use Rattle.elimination.specs.Round.{Picks, Looks, Betters};
 
 // The best success of a round so far, if there is one, with its tally.

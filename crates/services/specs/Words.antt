@@ -13,7 +13,8 @@ use Rattle.tally.specs.declared.Order.the-variants.{Less, Equal, Greater}
 use Rattle.tally.specs.Tally.{nothing}
 use Rattle.reduction.specs.Reduction.{Reduction}
 use Rattle.mask.specs.Mask.{mask-length, mask-words}
-use Rattle.elimination.specs.Reduced.{reduction-checks, unless-refused, elimination-of, greedy-elimination-of, tally-left, output-left}
+use Rattle.reduced.specs.Reduced.{reduction-checks, unless-refused, tally-left, output-left}
+use Rattle.elimination.specs.Eliminations.{elimination-of, greedy-elimination-of}
 use Rattle.task.specs.Limits.{limits}
 use Rattle.task.specs.Layout.{word}
 use Rattle.task.specs.Decode.{table}

@@ -31,7 +31,7 @@ ghost use Rattle.step.specs.Step.{step-checks, state-after};
 ghost use Rattle.plan.specs.Checked.{plan-checks, tally-of as plan-tally, end-state};
 ghost use Rattle.mask.specs.Mask.{mask-words};
 ghost use Rattle.landmark.specs.Marks.{marks-of};
-ghost use Rattle.elimination.specs.Reduced.{elimination-of, greedy-elimination-of, cheaper-part};
+ghost use Rattle.elimination.specs.Eliminations.{elimination-of, greedy-elimination-of, cheaper-part};
 ghost use Rattle.services.specs.Words.{answer-words, tally-of, tally-words, order-number, lent-state, Reduces-lent, Reduces-both-lent};
 
 // Checks a task: the number and the place of its refusal go to `out`, or 0 and 0.

@@ -1,6 +1,6 @@
 -- `better` meets its contract: a trial that fails, a first success, a lower one, or one that is not. Assumes nothing.
 use mathlib.Core.Path.{ap}
-use Rattle.elimination.specs.Round.{is-less}
+use Rattle.reduced.specs.Tallied.{is-less}
 use Rattle.elimination.proofs.RoundLaws.{fails, first-success, lower-success, no-lower-success}
 use borrow.Author.Needs.{needs}
 use Rattle.elimination.proofs.greedy.better.Statement.{statement}

@@ -4,7 +4,7 @@ use borrow.Author.Needs.{needs}
 use mathlib.Core.Path.{refl}
 use Prim.Native.Nat.{_-_, _≤_}
 use lib.ListN.{length}
-use Rattle.elimination.specs.Current.{mask}
+use Rattle.reduced.specs.Held.{mask}
 use Rattle.elimination.specs.Round.{Looks}
 use Rattle.elimination.proofs.greedy.round.Statement.{statement}
 use Rattle.elimination.proofs.greedy.round.Tie as tie

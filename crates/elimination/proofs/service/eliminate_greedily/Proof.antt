@@ -1,7 +1,8 @@
 -- `eliminate_greedily` meets its contract: a list that passes is valid where greedy elimination begins, and it leaves what the definition says. Assumes nothing.
 use mathlib.Core.Path.{sym}
-use Rattle.elimination.proofs.ChecksLaws.{readable, valid-start, greedy-leaves}
-use Rattle.elimination.proofs.ServiceLaws.{reduces-refused, reduces-kept}
+use Rattle.reduced.proofs.ChecksLaws.{readable, valid-start}
+use Rattle.elimination.proofs.LeavesLaws.{greedy-leaves}
+use Rattle.reduced.proofs.AnswerLaws.{reduces-refused, reduces-kept}
 use borrow.Author.Needs.{needs}
 use Rattle.elimination.proofs.service.eliminate_greedily.Statement.{statement}
 use Rattle.elimination.proofs.service.eliminate_greedily.Tie as tie

@@ -1,7 +1,8 @@
 -- `eliminate_plan` meets its contract: a list that passes is valid where elimination begins, and it leaves what the definition says. Assumes nothing.
 use mathlib.Core.Path.{sym}
-use Rattle.elimination.proofs.ChecksLaws.{readable, valid-start, elimination-leaves}
-use Rattle.elimination.proofs.ServiceLaws.{reduces-refused, reduces-kept}
+use Rattle.reduced.proofs.ChecksLaws.{readable, valid-start}
+use Rattle.elimination.proofs.LeavesLaws.{elimination-leaves}
+use Rattle.reduced.proofs.AnswerLaws.{reduces-refused, reduces-kept}
 use borrow.Author.Needs.{needs}
 use Rattle.elimination.proofs.service.eliminate_plan.Statement.{statement}
 use Rattle.elimination.proofs.service.eliminate_plan.Tie as tie

@@ -3,10 +3,10 @@ use common::access::flag;
 use tally::Tally;
 use task::layout::cost;
 ghost use mathlib.Core.Path.{_≡_};
-ghost use Rattle.elimination.specs.Round.{tallied};
+ghost use Rattle.reduced.specs.Tallied.{tallied};
 
 // The tally of the kept steps of a plan.
-pub(crate) fn tally_of(words: &[u32], plan: &[u32], flags: &[bool]) -> Tally
+pub fn tally_of(words: &[u32], plan: &[u32], flags: &[bool]) -> Tally
     ensures { λ r. ⌜ r ≡ tallied (now (words .entry)) (now (plan .entry)) (now (flags .entry)) ⌝ }
 {
     let mut tally = Tally::new();

@@ -9,10 +9,10 @@ use task::sheet::check_sheet;
 ghost use mathlib.Core.Path.{_≡_};
 ghost use Rattle.common.specs.Refusal.{told};
 ghost use Rattle.common.specs.Check.{answer};
-ghost use Rattle.elimination.specs.Reduced.{reduction-checks};
+ghost use Rattle.reduced.specs.Reduced.{reduction-checks};
 
 // Checks a plan of a task, and that an output has room for it.
-pub(crate) fn check_reduction(words: &[u32], plan: &[u32], room: usize) -> Verdict
+pub fn check_reduction(words: &[u32], plan: &[u32], room: usize) -> Verdict
     ensures { λ r. ⌜ told r ≡ answer (reduction-checks (now (words .entry)) (now (plan .entry)) room) ⌝ }
 {
     let sheet = check_sheet(words);

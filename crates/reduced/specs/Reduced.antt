@@ -1,26 +1,22 @@
--- What the two eliminations of document 01 answer as services. Assumes nothing.
-use Prim.Native.Nat.{ℕ, min}
+-- What a service that answers with a reduction of a list answers. Assumes nothing.
+use Prim.Native.Nat.{ℕ}
 use mathlib.Core.Path.{_≡_}
 use mathlib.Core.Option.{Option, none, some}
 use mathlib.Core.List.{List, _∷_, _++_}
-use lib.ListN.{length, take, replicate}
+use lib.ListN.{length, replicate}
 use lib.Seq.{sets}
 use lib.Dec.{ltb}
-use Rattle.common.specs.declared.refusal.Verdict.{Verdict}
 use Rattle.common.specs.Place.{when}
-use Rattle.common.specs.Refusal.{Told, told}
+use Rattle.common.specs.Refusal.{Told}
 use Rattle.common.specs.Check.{Check, answer}
 use Rattle.sas.specs.Plan.{cost}
 use Rattle.tally.specs.declared.Tally.{Tally}
-use Rattle.tally.specs.declared.Order.the-variants.{Less, Equal, Greater}
-use Rattle.tally.specs.Tally.{nothing, comparison}
-use Rattle.task.specs.Decode.{goal, initial}
+use Rattle.tally.specs.Tally.{nothing}
 use Rattle.task.specs.Causes.{sheet-checks}
 use Rattle.plan.specs.declared.check.Answer.{Answer}
 use Rattle.plan.specs.Valid.{steps}
 use Rattle.plan.specs.Checked.{list-checks, valid-checks, told-answer, told-tally}
 use Rattle.reduction.specs.Reduction.{Reduction, kept, count}
-use Rattle.reduction.specs.Elimination.{eliminate, greedy}
 use Rattle.mask.specs.Mask.{mask-length, mask-words}
 
 -- 10: an output of `room` words is shorter than the list
@@ -35,13 +31,6 @@ reduction-checks w l room = sheet-checks w ++ (list-checks w l ++ (room-check l 
 abbrev pub unless-refused : {A : Type 0} → Option Told → A → A → A
 unless-refused none x y = x
 unless-refused (some t) x y = y
-
--- what elimination leaves of the list l of the task w, and what greedy elimination leaves
-abbrev pub elimination-of : List ℕ → List ℕ → Reduction
-elimination-of w l = eliminate (initial w) (goal w) (steps w l)
-
-abbrev pub greedy-elimination-of : List ℕ → List ℕ → Reduction
-greedy-elimination-of w l = greedy (initial w) (goal w) (steps w l)
 
 -- the tally of a reduction: the sum of the prices of its kept steps, and their number
 abbrev pub tally-left : List ℕ → List ℕ → Reduction → Tally
@@ -58,17 +47,3 @@ pub record Reduces (w l : List ℕ) (m : Reduction) (before : List ℕ) (given :
   pub tally : told-tally given ≡ unless-refused (answer (reduction-checks w l (length before))) (tally-left w l m) nothing
   pub told-by : mask ≡ unless-refused (answer (reduction-checks w l (length before))) (mask-words m) (replicate mask-length 0)
   pub output : after ≡ unless-refused (answer (reduction-checks w l (length before))) (output-left l m before) before
-
--- "The cheaper-of-both service fills two lent outputs, elimination's first, and returns both tallies or a refusal"; both outputs must have room
-pub record Reduces-both (w l before before′ : List ℕ) (verdict : Verdict) (first second : Tally) (after after′ : List ℕ) : Type 0 where
-  pub refusal : told verdict ≡ answer (reduction-checks w l (min (length before) (length before′)))
-  pub first-tally : first ≡ unless-refused (told verdict) (tally-left w l (elimination-of w l)) nothing
-  pub second-tally : second ≡ unless-refused (told verdict) (tally-left w l (greedy-elimination-of w l)) nothing
-  pub first-output : after ≡ unless-refused (told verdict) (output-left l (elimination-of w l) before) before
-  pub second-output : after′ ≡ unless-refused (told verdict) (output-left l (greedy-elimination-of w l) before′) before′
-
--- "the kept part of whichever lent list is cheaper: lower price, then fewer steps, then elimination's. That part begins at the output's first word and has
--- as many words as the tally has steps, or the whole output if that is shorter."
-unfoldable pub cheaper-part : List ℕ → List ℕ → Tally → Tally → List ℕ
-cheaper-part first second of-first of-second =
-    elim (comparison of-second of-first) [ Less ↦ take (of-second .steps) second | Equal ↦ take (of-first .steps) first | Greater ↦ take (of-first .steps) first ]

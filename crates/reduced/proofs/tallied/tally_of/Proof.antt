@@ -3,10 +3,10 @@ use borrow.Author.Needs.{needs}
 use mathlib.Core.Path.{_≡_, sym, _∙_}
 use Prim.Native.Nat.{_-_}
 use lib.ListN.{length}
-use Rattle.elimination.specs.Round.{tallied}
-use Rattle.elimination.proofs.TalliedLaws.{tallied-from, tallied-start, tallied-kept, tallied-skip, tallied-over}
-use Rattle.elimination.proofs.tallied.tally_of.Statement.{statement}
-use Rattle.elimination.proofs.tallied.tally_of.Tie as tie
+use Rattle.reduced.specs.Tallied.{tallied}
+use Rattle.reduced.proofs.TalliedLaws.{tallied-from, tallied-start, tallied-kept, tallied-skip, tallied-over}
+use Rattle.reduced.proofs.tallied.tally_of.Statement.{statement}
+use Rattle.reduced.proofs.tallied.tally_of.Tie as tie
 
 abbrev Inv-loop : tie.InvT-loop
 Inv-loop words plan flags tally₀ i₀ tally i = tallied-from words plan flags i tally ≡ tallied words plan flags

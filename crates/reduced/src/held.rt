@@ -1,4 +1,4 @@
-// The current list as flags: one for each step that a plan may have, none up past its last.
+// A reduction as flags: one for each step that a plan may have, none up past its last.
 use plan::limits::Plan;
 ghost use mathlib.Core.Path.{_≡_};
 ghost use mathlib.Core.Bool.{true, false};
@@ -8,7 +8,7 @@ ghost use lib.ListN.{replicate};
 ghost use Rattle.plan.specs.Limits.{most-steps};
 
 // The flags of a plan of n steps of which none is struck.
-pub(crate) fn all_kept(n: usize) -> [bool; Plan::STEPS]
+pub fn all_kept(n: usize) -> [bool; Plan::STEPS]
     requires { ⌜ n ≤ most-steps ⌝ }
     ensures { λ r. ⌜ r ≡ replicate n true ++ replicate (most-steps - n) false ⌝ }
 {

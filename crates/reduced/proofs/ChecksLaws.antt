@@ -1,14 +1,11 @@
 -- What the checks of a service that writes a reduction answer on each of their ways, and what holds of a list that passes them: it is a plan, from the
--- starting values as the code holds them too, and what an elimination leaves of it there is what it leaves by the definitions. By the laws of a list of
--- checks, those of the check of a plan, and those of padding. Assumes nothing.
+-- starting values as the code holds them too. By the laws of a list of checks, those of the check of a plan, and those of padding. Assumes nothing.
 use Prim.Native.Nat.{ℕ, _≤_, _<_}
-use native.Mathlib.Omega.{arith}
 use mathlib.Core.Path.{_≡_, refl, sym, _∙_, ap}
 use mathlib.Core.Bool.{true}
 use mathlib.Core.Option.{none}
 use mathlib.Core.List.{List, _∷_, _++_}
-use lib.ListN.{length, length-append, length-map}
-use lib.Seq.{take-at}
+use lib.ListN.{length}
 use borrow.Author.Tests.{lt-ltb, le-ltb}
 use Rattle.common.specs.declared.place.Place.{Place}
 use Rattle.common.specs.declared.place.Place.the-variants.{Nowhere, At}
@@ -24,19 +21,17 @@ use Rattle.sas.specs.Pad.{pad}
 use Rattle.sas.specs.WellFormed.{Rising}
 use Rattle.sas.proofs.WellFormedLaws.{Actions-formed}
 use Rattle.task.specs.Limits.{limits}
-use Rattle.task.specs.Decode.{domains, initial, goal, action, task}
+use Rattle.task.specs.Decode.{domains, initial, goal, task}
 use Rattle.task.specs.Causes.{sheet-checks, Accepted}
 use Rattle.plan.specs.Valid.{steps, fault}
 use Rattle.plan.specs.Checked.{list-checks, valid-checks, plan-checks}
 use Rattle.plan.proofs.PlanLaws.{initial-complete, start-padded, goal-rising, steps-formed, walked-fault}
 use Rattle.plan.proofs.PlanTheorem.{Readable, passed-readable, plan-theorem}
-use Rattle.reduction.specs.Reduction.{Reduction, valid}
-use Rattle.reduction.specs.Elimination.{eliminate, greedy}
+use Rattle.reduction.specs.Reduction.{valid}
 use Rattle.reduction.proofs.ValidLaws.{plan-valid}
-use Rattle.reduction.proofs.EliminationTheorem.{eliminate-shortens, greedy-shortens}
-use Rattle.reduction.proofs.PaddedLaws.{pad-valid, pad-eliminate, pad-greedy}
-use Rattle.elimination.specs.Current.{start, mask, held}
-use Rattle.elimination.specs.Reduced.{room-check, reduction-checks, elimination-of, greedy-elimination-of}
+use Rattle.reduction.proofs.PaddedLaws.{pad-valid}
+use Rattle.reduced.specs.Held.{start}
+use Rattle.reduced.specs.Reduced.{room-check, reduction-checks}
 
 module _ (w l : List ℕ) (room : ℕ) where
   -- the sheet is refused
@@ -77,11 +72,12 @@ module _ (w l : List ℕ) (room : ℕ) where
         unfolding valid-checks
         all-pass found = sym (only-valid ∙ answer-passes _ _ (same-fault ∙ found) ∙ answer-nothing)
 
--- flags that are the reduction m of the plan l
-pub record Leaves (l : List ℕ) (m flags : Reduction) : Type 0 where
-  pub within : length l ≤ length flags
-  pub fits : length (mask l flags) ≡ length l
-  pub same : mask l flags ≡ m
+-- what the laws of padding ask of a task and a list
+pub record Padding (w l : List ℕ) : Type 0 where
+  pub padded : start w ≡ pad (limits .variables) (initial w)
+  pub complete : length (initial w) ≡ length (domains w)
+  pub rising : Rising (domains w) 0 (goal w)
+  pub formed : Actions-formed (domains w) (steps w l)
 
 -- a list that passes
 module _ (w l : List ℕ) (room : ℕ) (v : Verdict) (checked : told v ≡ answer (reduction-checks w l room)) (passed : v ≡ Passed) where
@@ -100,36 +96,17 @@ module _ (w l : List ℕ) (room : ℕ) (v : Verdict) (checked : told v ≡ answe
   pub readable : Readable w l
   readable = passed-readable w l plan-passes
 
-  padded : start w ≡ pad (limits .variables) (initial w)
-  padded = start-padded w (readable .accepted)
-
-  complete : length (initial w) ≡ length (domains w)
-  complete = initial-complete w (readable .accepted)
-
-  rising : Rising (domains w) 0 (goal w)
-  rising = goal-rising w (readable .accepted)
-
-  formed : Actions-formed (domains w) (steps w l)
-  formed = steps-formed w l (readable .accepted) (readable .known)
+  pub padding : Padding w l
+  padding =
+      record {
+        padded = start-padded w (readable .accepted);
+        complete = initial-complete w (readable .accepted);
+        rising = goal-rising w (readable .accepted);
+        formed = steps-formed w l (readable .accepted) (readable .known);
+      }
 
   pub valid-start : valid (start w) (goal w) (steps w l) ≡ true
   unfolding task
   valid-start =
-      rw padded (pad-valid (limits .variables) (initial w) (steps w l) complete rising formed ∙ plan-valid (task w) (steps w l) (plan-theorem w l readable .passed-plan plan-passes))
-
-  -- the flags that an elimination leaves from the starting values as the code holds them
-  leaves : (m left flags : Reduction) → length left ≡ length (steps w l) → left ≡ m → flags ≡ held l left → Leaves l m flags
-  leaves m left flags fits same is =
-      let as-long : length left ≡ length l = fits ∙ length-map l (action w) in
-      let front : mask l flags ≡ left = rw is (take-at left _ (length l) as-long) in
-      record { within = rw is (simp length-append (omega (arith, as-long))); fits = ap length front ∙ as-long; same = front ∙ same }
-
-  pub elimination-leaves : (flags : Reduction) → flags ≡ held l (eliminate (start w) (goal w) (steps w l)) → Leaves l (elimination-of w l) flags
-  elimination-leaves flags is =
-      leaves (elimination-of w l) (eliminate (start w) (goal w) (steps w l)) flags (eliminate-shortens (start w) (goal w) (steps w l) valid-start .reduction .fits)
-      (rw padded (pad-eliminate (limits .variables) (initial w) (steps w l) complete rising formed)) is
-
-  pub greedy-leaves : (flags : Reduction) → flags ≡ held l (greedy (start w) (goal w) (steps w l)) → Leaves l (greedy-elimination-of w l) flags
-  greedy-leaves flags is =
-      leaves (greedy-elimination-of w l) (greedy (start w) (goal w) (steps w l)) flags (greedy-shortens (start w) (goal w) (steps w l) valid-start .reduction .fits)
-      (rw padded (pad-greedy (limits .variables) (initial w) (steps w l) complete rising formed)) is
+      rw (padding .padded)
+      (pad-valid (limits .variables) (initial w) (steps w l) (padding .complete) (padding .rising) (padding .formed) ∙ plan-valid (task w) (steps w l) (plan-theorem w l readable .passed-plan plan-passes))

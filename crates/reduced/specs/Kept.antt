@@ -5,7 +5,7 @@ use mathlib.Core.List.{List}
 use Rattle.tally.specs.declared.Tally.{Tally}
 use Rattle.reduction.specs.Reduction.{Reduction}
 use Rattle.mask.specs.Mask.{mask-words}
-use Rattle.elimination.specs.Reduced.{tally-left, output-left}
+use Rattle.reduced.specs.Reduced.{tally-left, output-left}
 
 pub record Keeps (w l : List ℕ) (m : Reduction) (before : List ℕ) (tally : Tally) (mask after : List ℕ) : Type 0 where
   pub counted : tally ≡ tally-left w l m

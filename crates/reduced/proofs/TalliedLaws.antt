@@ -16,7 +16,7 @@ use Rattle.plan.proofs.PlanLaws.{walked-tally}
 use Rattle.plan.proofs.PlanTheorem.{Readable}
 use Rattle.reduction.specs.Reduction.{Reduction, kept}
 use Rattle.reduction.proofs.ReductionLaws.{kept-none, kept-lodged, left-length}
-use Rattle.elimination.specs.Round.{tallied}
+use Rattle.reduced.specs.Tallied.{tallied}
 
 kept-here : (m : Reduction) (l : List ℕ) (i : ℕ) → i < length l → getD m i false ≡ true → kept (drop i m) (drop i l) ≡ getD l i 0 ∷ kept (drop (suc i) m) (drop (suc i) l)
 unfolding kept

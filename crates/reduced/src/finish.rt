@@ -7,16 +7,16 @@ use tally::Tally;
 ghost use mathlib.Core.Path.{_≡_};
 ghost use lib.ListN.{length};
 ghost use Rattle.plan.proofs.PlanTheorem.{Readable};
-ghost use Rattle.elimination.specs.Kept.{Keeps};
+ghost use Rattle.reduced.specs.Kept.{Keeps};
 
 // The tally and the mask of a reduction.
-pub(crate) struct Kept {
+pub struct Kept {
     pub tally: Tally,
     pub mask: Mask,
 }
 
 // Writes the kept steps of a plan to the front of `out`. Their number is that of the ones in the mask.
-pub(crate) fn finish(words: &[u32], plan: &[u32], flags: &[bool], out: &mut [u32]) -> Kept
+pub fn finish(words: &[u32], plan: &[u32], flags: &[bool], out: &mut [u32]) -> Kept
     requires { ⌜ Readable (now words) (now plan) ⌝ }
     requires { ⌜ length (now flags) ≡ length (now plan) ⌝ }
     ensures { λ r. ⌜ Keeps (now (words .entry)) (now (plan .entry)) (now (flags .entry)) (now (out .entry)) (r .tally) (r .mask .words) (now (out .exit)) ⌝ }

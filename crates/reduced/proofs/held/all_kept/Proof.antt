@@ -3,9 +3,9 @@ use Prim.Native.Nat.{_<_, _-_, _≤_}
 use borrow.Author.Needs.{needs}
 use native.Mathlib.Omega.{arith}
 use mathlib.Core.Path.{_≡_, refl, _∙_}
-use Rattle.elimination.proofs.KeptLaws.{raised, raised-more}
-use Rattle.elimination.proofs.current.all_kept.Statement.{statement}
-use Rattle.elimination.proofs.current.all_kept.Tie as tie
+use Rattle.reduced.proofs.HeldLaws.{raised, raised-more}
+use Rattle.reduced.proofs.held.all_kept.Statement.{statement}
+use Rattle.reduced.proofs.held.all_kept.Tie as tie
 
 abbrev Inv-loop : tie.InvT-loop
 Inv-loop n flags₀ i₀ flags i = (i ≤ n) × (flags ≡ raised 255 i)

@@ -1,8 +1,8 @@
 -- `finish` meets its contract: what it calls is what the law of a kept reduction asks. Assumes nothing.
-use Rattle.elimination.proofs.ServiceLaws.{keeps}
+use Rattle.reduced.proofs.AnswerLaws.{keeps}
 use borrow.Author.Needs.{needs}
-use Rattle.elimination.proofs.finish.finish.Statement.{statement}
-use Rattle.elimination.proofs.finish.finish.Tie as tie
+use Rattle.reduced.proofs.finish.finish.Statement.{statement}
+use Rattle.reduced.proofs.finish.finish.Tie as tie
 
 mask-of-requires : tie.Need-mask-of-requires
 mask-of-requires c κs = search needs

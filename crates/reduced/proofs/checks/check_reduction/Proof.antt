@@ -1,8 +1,8 @@
 -- `check_reduction` meets its contract: each way to a return is a case of what the checks answer. Assumes nothing.
-use Rattle.elimination.proofs.ChecksLaws.{sheet-refuses, list-refuses, short-refuses, fault-refuses, all-pass}
+use Rattle.reduced.proofs.ChecksLaws.{sheet-refuses, list-refuses, short-refuses, fault-refuses, all-pass}
 use borrow.Author.Needs.{needs}
-use Rattle.elimination.proofs.checks.check_reduction.Statement.{statement}
-use Rattle.elimination.proofs.checks.check_reduction.Tie as tie
+use Rattle.reduced.proofs.checks.check_reduction.Statement.{statement}
+use Rattle.reduced.proofs.checks.check_reduction.Tie as tie
 
 check-sheet-requires : tie.Need-check-sheet-requires
 check-sheet-requires c κs = search needs

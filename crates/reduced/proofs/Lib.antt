@@ -1,0 +1,10 @@
+-- HeldLaws: the flags of a plan of which nothing is struck, and flags that hold a reduction.
+pub mod HeldLaws
+-- TalliedLaws: the tally of a reduction, step by step and plainly.
+pub mod TalliedLaws
+-- LowerLaws: of two reductions the one with the lower tally leaves the lower list.
+pub mod LowerLaws
+-- ChecksLaws: what the checks of a service answer, and what holds of a list that passes.
+pub mod ChecksLaws
+-- AnswerLaws: what is told and written of a reduction, and what a service answers with it.
+pub mod AnswerLaws
