@@ -1,0 +1,2 @@
+-- TurnLaws: what each turn of the search does, by its cases.
+pub mod TurnLaws
