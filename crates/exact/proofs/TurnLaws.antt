@@ -2,13 +2,13 @@
 -- Each by unfolding `turn` once. Assumes nothing.
 use Prim.Native.Nat.{ℕ, _+_}
 use mathlib.Core.Path.{_≡_, refl}
-use mathlib.Core.Bool.{true, false, _&&_, and-false}
+use mathlib.Core.Bool.{true, false, and-false}
 use mathlib.Core.List.{List, [], _∷_}
 use lib.ListN.{set, drop}
 use Rattle.sas.specs.Task.{Assignment, State, Action}
 use Rattle.sas.specs.Plan.{satisfies, applicable, apply}
 use Rattle.reduction.specs.Reduction.{Reduction, kept, whole, lower}
-use Rattle.exact.specs.Search.{may-strike, Turn, turn, search}
+use Rattle.exact.specs.Search.{may-strike, turn, search}
 use Rattle.exact.specs.Search.Turn.{strike, keep}
 
 -- both turns at one step: the striking turn, then the keeping turn from the best that it found
