@@ -4,3 +4,5 @@ pub mod TurnLaws
 pub mod WinsLaws
 -- ExactTheorem: every plan has just one exact reduction, it is computed, and nothing more can be struck of what it leaves.
 pub mod ExactTheorem
+-- SearchTheorem: the search returns the exact reduction.
+pub mod SearchTheorem
