@@ -6,3 +6,5 @@ pub mod WinsLaws
 pub mod ExactTheorem
 -- SearchTheorem: the search returns the exact reduction.
 pub mod SearchTheorem
+-- ExactPadded: zeros at the end of a state change nothing for the exact reduction.
+pub mod ExactPadded

@@ -14,15 +14,17 @@ use Rattle.sas.specs.Task.{Assignment, State, Action}
 use Rattle.sas.specs.Plan.{holds, satisfies, applicable, apply, cost}
 use Rattle.reduction.specs.Reduction.{Reduction, kept, whole, valid, lower, Valid-reduction}
 use Rattle.reduction.specs.Elimination.{better}
-use Rattle.reduction.specs.Wanted.{wanted}
+use Rattle.reduction.specs.Wanted.{wanted, landmarks}
 use Rattle.reduction.proofs.MemberLaws.{found-passes}
 use Rattle.reduction.proofs.ReductionLaws.{Contains, kept-length, kept-whole, strike-cost, strike-count}
 use Rattle.reduction.proofs.LowerLaws.{Lower, lower-true, true-lower, lower-through, lower-once}
 use Rattle.reduction.proofs.WantedLaws.{wanted-holds}
+use Rattle.reduction.proofs.LandmarksKept.{flags-kept}
 use Rattle.exact.specs.Exact.{Exact, found, exact}
 use Rattle.exact.specs.Search.{Sound, may-strike, turn, search}
 use Rattle.exact.specs.Search.Turn.{strike, keep}
-use Rattle.exact.proofs.TurnLaws.{turns, search-turns, strike-met, strike-unmet, strike-not-lower, keep-end, strike-barred, strike-goes-on, keep-stuck, keep-not-lower, keep-goes-on}
+use Rattle.exact.proofs.TurnLaws.{turns, search-turns, strike-met, strike-unmet, strike-not-lower, strike-barred, strike-goes-on}
+use Rattle.exact.proofs.TurnLaws.{keep-end, keep-stuck, keep-not-lower, keep-goes-on}
 use Rattle.exact.proofs.WinsLaws.{not-lower-through, lowest-whole}
 use Rattle.exact.proofs.ExactTheorem.{struck-valid, kept-valid, found-met, found-unmet, found-done, found-stuck, found-exact, exact-found}
 
@@ -209,7 +211,8 @@ turns-find goal p (a ∷ q) i d (c ∷ g) s b index fits alike sound = both-find
 turns-find goal p [] i d [] s b index fits alike sound =
     keep-end goal p i [] s (d ++ []) (turn goal p strike i [] [] s (d ++ []) b) ∙ by-case (satisfies s goal) (lower (kept (d ++ []) p) (kept b p)) refl refl
   where
-    by-case : (x y : Bool) → satisfies s goal ≡ x → lower (kept (d ++ []) p) (kept b p) ≡ y → turn goal p strike i [] [] s (d ++ []) b ≡ update p d b (found s goal [])
+    by-case : (x y : Bool) → satisfies s goal ≡ x → lower (kept (d ++ []) p) (kept b p) ≡ y
+        → turn goal p strike i [] [] s (d ++ []) b ≡ update p d b (found s goal [])
     by-case true true e f = rw (found-met s goal e, f) (strike-met goal p i [] s (d ++ []) b f e)
     by-case true false e f = rw (found-met s goal e, f) (strike-not-lower goal p i [] s (d ++ []) b f)
     by-case false y e f = rw (found-unmet s goal e) (strike-unmet goal p i [] s (d ++ []) b e)
@@ -233,3 +236,7 @@ search-finds s goal p g fits sound =
 pub search-exact : (s : State) (goal : Assignment) (p : List Action) (g : Reduction) → length g ≡ length p → valid s goal p ≡ true → Sound s goal p g
     → Exact s goal p (search s goal p g)
 search-exact s goal p g fits h sound = rw (search-finds s goal p g fits sound) (exact-found s goal p h)
+
+-- the landmarks are sound flags
+pub landmarks-sound : (s : State) (goal : Assignment) (p : List Action) → Sound s goal p (landmarks s goal p)
+landmarks-sound s goal p m v = flags-kept s goal p m (v .fits) (v .valid-left)
