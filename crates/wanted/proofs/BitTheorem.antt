@@ -2,12 +2,14 @@
 -- effect of an accepted task has no more facts than a word has bits, since its variables rise. So the test of the word in a state is whether every wanted
 -- fact holds there. Assumes nothing.
 use Prim.Native.Nat.{ℕ, zero, suc, _+_, _-_, _≤_, _<_, min}
-use native.Mathlib.Nat.{min-eq-right}
+use native.Mathlib.Nat.{add-zero, min-eq-right}
+use native.Mathlib.Numerals.{add-one}
 use native.Mathlib.Omega.{arith}
 use mathlib.Core.Path.{_≡_, refl, sym, _∙_, ap}
 use mathlib.Core.Bool.{Bool, true, false, not, _&&_}
 use mathlib.Core.List.{List, [], _∷_, _++_, map, List·Memᴰ, List·Memᴰ·head, List·Memᴰ·tail}
 use lib.ListN.{length, getD, drop, replicate, length-replicate, List·getD-append}
+use lib.Seq.{getD-drop, drop-drop}
 use Rattle.sas.specs.Task.{Fact, Assignment, State, Action}
 use Rattle.sas.specs.Plan.{holds}
 use Rattle.sas.specs.WellFormed.{Known, Rising, Action-formed}
@@ -15,6 +17,7 @@ use Rattle.sas.specs.WellFormed.Rising.{empty, fact}
 use Rattle.sas.proofs.WellFormedLaws.{Actions-formed, rising-known}
 use Rattle.reduction.specs.Reduction.{Reduction}
 use Rattle.reduction.specs.Wanted.{some-fact, wanted}
+use Rattle.exact.specs.Search.{may-strike}
 use Rattle.mask.specs.Mask.{word-bits, binary}
 use Rattle.task.specs.Layout.{effect-start, effect-end}
 use Rattle.task.specs.Decode.{facts, domains, goal, action}
@@ -27,7 +30,7 @@ use Rattle.landmark.specs.Tables.{fact-word, is-wanted, not-wanted, stamped, wa
 use Rattle.landmark.proofs.StampLaws.{stamped-length}
 use Rattle.landmark.proofs.FlagTheorem.{Wants, before-length, wants-next, goal-wants}
 use Rattle.landmark.proofs.MarkLaws.{most-facts, fits}
-use Rattle.wanted.specs.Bits.{has-wanted, flagged, packed, effect-bits, table-before, bits-before, bits-walked, goal-table, bits-hold}
+use Rattle.wanted.specs.Bits.{has-wanted, flagged, packed, effect-bits, table-before, bits-before, bits-walked, goal-table, bits-hold, strikes}
 use Rattle.wanted.proofs.PackLaws.{facts-length}
 use Rattle.wanted.proofs.HoldLaws.{bits-test}
 
@@ -107,10 +110,18 @@ bits-length w goals [] g = refl
 bits-length w goals (a ∷ l) g = ap suc (bits-length w goals l (drop 1 g))
 
 -- the test of the word of the step at index i: no fact of its effect is wanted behind it and does not hold
-pub strike-test : (w l : List ℕ) (g : Reduction) (s : State) (i : ℕ) → Accepted w → Entries-known w l → i < length l
+strike-test : (w l : List ℕ) (g : Reduction) (s : State) (i : ℕ) → Accepted w → Entries-known w l → i < length l
     → bits-hold s (getD (bits-walked w (goal-table w) l g) i 0) (facts w (effect-start w (getD l i 0)) (effect-end w (getD l i 0)))
     ≡ not (some-fact (λ f. wanted (goal w) (steps w (drop (suc i) l)) (drop (suc i) g) f && not (holds s f)) (action w (getD l i 0) .effect))
 unfolding bits-walked action
 strike-test w l g s i accepted known h =
     rw (List·getD-append (bits-before w (goal-table w) l g) (replicate _ 0) 0 i (omega (arith, bits-length w (goal-table w) l g)), word-told w accepted l g i (steps-formed w l accepted known) h)
     (bits-test s (wanted (goal w) (steps w (drop (suc i) l)) (drop (suc i) g)) (action w (getD l i 0) .effect))
+
+-- so a step may be struck just where the search may strike it
+pub strikes-right : (w l : List ℕ) (g : Reduction) (s : State) (i : ℕ) → Accepted w → Entries-known w l → i < length l
+    → strikes w l g (bits-walked w (goal-table w) l g) s i ≡ may-strike (goal w) s (action w (getD l i 0)) (steps w (drop (i + 1) l)) (drop i g)
+unfolding strikes may-strike
+strikes-right w l g s i accepted known h =
+    let flag : getD (drop i g) 0 false ≡ getD g i false = rw add-zero at (getD-drop i g 0 false) in
+    rw (flag, drop-drop 1 i g, add-one i, strike-test w l g s i accepted known h)

@@ -5,17 +5,19 @@ use native.Mathlib.Omega.{arith}
 use mathlib.Core.Path.{_≡_, refl, sym, _∙_}
 use mathlib.Core.Bool.{Bool, true, false, not, _&&_, _||_}
 use mathlib.Core.List.{List, [], _∷_, map}
+use lib.ListN.{getD}
 use lib.Dec.{eqb}
 use borrow.Author.Tests.{eq-eqb, ne-eqb}
 use Rattle.sas.specs.Task.{Fact, Assignment, State}
 use Rattle.sas.specs.Plan.{holds}
+use Rattle.reduction.specs.Reduction.{Reduction}
 use Rattle.reduction.specs.Wanted.{some-fact}
 use Rattle.mask.specs.Mask.{digit, binary}
 use Rattle.mask.proofs.WordLaws.{lowest-digit, other-digits}
-use Rattle.task.specs.Layout.{word}
+use Rattle.task.specs.Layout.{word, effect-start, effect-end}
 use Rattle.task.specs.Decode.{fact-of, facts}
 use Rattle.task.proofs.TableLaws.{facts-over, facts-next}
-use Rattle.wanted.specs.Bits.{bits-hold}
+use Rattle.wanted.specs.Bits.{bits-hold, strikes}
 
 -- where no bit is left
 none-wanted : (s : State) (q : Assignment) → bits-hold s 0 q ≡ true
@@ -60,3 +62,14 @@ bits-test s test [] = refl
 bits-test s test (f ∷ q) =
     rw (lowest-digit (binary (map test q)) (test f), other-digits (binary (map test q)) (test f), digit-test (test f), bits-test s test q)
     (neither (test f && not (holds s f)) (some-fact (λ f. test f && not (holds s f)) q))
+
+-- whether a step may be struck, by its flag
+module _ (w l : List ℕ) (g : Reduction) (bits : List ℕ) (s : State) (i : ℕ) (up : Bool) (read : up ≡ getD g i false) where
+  pub flag-stays : up ≡ true → false ≡ strikes w l g bits s i
+  unfolding strikes
+  flag-stays e = rw (← read, e)
+
+  pub bits-decide : (held : Bool) (a x from end : ℕ) → up ≡ false → a ≡ getD l i 0 → x ≡ getD bits i 0 → from ≡ effect-start w a → end ≡ effect-end w a
+      → held ≡ bits-hold s x (facts w from end) → held ≡ strikes w l g bits s i
+  unfolding strikes
+  bits-decide held a x from end e action word starts ends h = rw (← read, e, ← action, ← word, ← starts, ← ends) h

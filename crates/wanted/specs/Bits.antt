@@ -60,3 +60,7 @@ pub record Wants-step (w before : List ℕ) (landmark : Bool) (a bits : ℕ) (af
 unfoldable pub bits-hold : State → ℕ → Assignment → Bool
 bits-hold s x [] = true
 bits-hold s x (f ∷ q) = not (eqb (x % 2) 1 && not (holds s f)) && bits-hold s (x / 2) q
+
+-- the step at index i of the list l may be struck: it is no landmark of the flags g, and each fact of its effect that its word has as wanted holds
+unfoldable pub strikes : List ℕ → List ℕ → Reduction → List ℕ → State → ℕ → Bool
+strikes w l g bits s i = not (getD g i false) && bits-hold s (getD bits i 0) (facts w (effect-start w (getD l i 0)) (effect-end w (getD l i 0)))

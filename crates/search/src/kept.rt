@@ -1,0 +1,38 @@
+// A reduction on its way, told by its tally and its mask.
+use common::access::flag;
+use common::access::word;
+use reduced::finish::Kept;
+use tally::Order;
+use tally::Tally;
+use task::layout::cost;
+ghost use mathlib.Core.Path.{_≡_};
+ghost use Rattle.tally.specs.Tally.{comparison};
+ghost use Rattle.reduced.specs.Tallied.{is-less};
+ghost use Rattle.search.specs.Told.{Keeps-step};
+
+// Whether the first of two tallies is the lower.
+pub(crate) fn is_lower(tally: Tally, other: Tally) -> bool
+    ensures { λ r. ⌜ r ≡ is-less (comparison tally other) ⌝ }
+{
+    let order = tally.compare(other);
+    match order {
+        Order::Less => true,
+        Order::Equal => false,
+        Order::Greater => false,
+    }
+}
+
+// Keeps the step at index i too: a landmark is counted from the start.
+pub(crate) fn keep_step(words: &[u32], plan: &[u32], flags: &[bool], i: usize, so_far: Kept) -> Kept
+    ensures { λ r. ⌜ Keeps-step (now (words .entry)) (now (plan .entry)) (now (flags .entry)) i so_far r ⌝ }
+{
+    if flag(flags, i) {
+        return so_far;
+    }
+    let tally = so_far.tally;
+    let mask = so_far.mask;
+    Kept {
+        tally: tally.add(cost(words, word(plan, i))),
+        mask: mask.with(i),
+    }
+}

@@ -1,0 +1,69 @@
+// The two turns of the search: at each step the striking turn, then the keeping turn, each with the best reduction found before it.
+use crate::kept::is_lower;
+use crate::kept::keep_step;
+use common::access::word;
+use reduced::finish::Kept;
+use step::advance::advance;
+use step::advance::goal_holds;
+use task::limits::Task;
+use wanted::hold::may_strike;
+ghost use Rattle.exact.specs.Search.Turn.{strike as striking, keep as keeping};
+ghost use Rattle.search.specs.Told.{Turns};
+
+// Strikes the step at index i, where that may be, and goes on with both turns at the next. At the end of the plan it takes what is kept, where that is
+// lower than the best and the goal holds.
+pub(crate) fn strike(
+    words: &[u32],
+    plan: &[u32],
+    flags: &[bool],
+    bits: &[u64],
+    i: usize,
+    values: [u32; Task::VARIABLES],
+    so_far: Kept,
+    best: Kept,
+) -> Kept
+    ensures { λ r. ⌜ Turns (now (words .entry)) (now (plan .entry)) (now (flags .entry)) (now (bits .entry)) striking i values so_far best r ⌝ }
+{
+    if i < plan.len() {
+        if may_strike(words, plan, flags, bits, &values, i) {
+            let struck = strike(words, plan, flags, bits, i + 1, values, so_far, best);
+            return keep(words, plan, flags, bits, i + 1, values, so_far, struck);
+        }
+        return best;
+    }
+    if is_lower(so_far.tally, best.tally) {
+        if goal_holds(words, &values) {
+            return so_far;
+        }
+        return best;
+    }
+    best
+}
+
+// Does the step at index i, where it can be done and what is then kept is lower than the best, and goes on with both turns at the next.
+pub(crate) fn keep(
+    words: &[u32],
+    plan: &[u32],
+    flags: &[bool],
+    bits: &[u64],
+    i: usize,
+    values: [u32; Task::VARIABLES],
+    so_far: Kept,
+    best: Kept,
+) -> Kept
+    ensures { λ r. ⌜ Turns (now (words .entry)) (now (plan .entry)) (now (flags .entry)) (now (bits .entry)) keeping i values so_far best r ⌝ }
+{
+    if i < plan.len() {
+        let with = keep_step(words, plan, flags, i, so_far);
+        if is_lower(with.tally, best.tally) {
+            let mut next = values;
+            if advance(words, &mut next, word(plan, i)) {
+                let struck = strike(words, plan, flags, bits, i + 1, next, with, best);
+                return keep(words, plan, flags, bits, i + 1, next, with, struck);
+            }
+            return best;
+        }
+        return best;
+    }
+    best
+}
