@@ -1,5 +1,5 @@
--- Zeros at the end of a state change nothing for the exact reduction over its own variables: the same reductions are valid, and the same one is computed. By
--- what padding leaves of a valid list, and by list induction along the plan. Assumes nothing.
+-- Zeros at the end of a state change nothing for the exact reduction over its own variables: the same reductions are valid, and the same one is computed and
+-- searched for. By what padding leaves of a valid list, and by list induction along the plan. Assumes nothing.
 use Prim.Native.Nat.{ℕ}
 use mathlib.Core.Path.{_≡_, refl, sym, _∙_}
 use mathlib.Core.Bool.{Bool, true, false}
@@ -16,10 +16,12 @@ use Rattle.reduction.specs.Reduction.{Reduction, kept, valid}
 use Rattle.reduction.proofs.ReductionLaws.{kept-lodged}
 use Rattle.reduction.proofs.PaddedLaws.{pad-valid}
 use Rattle.exact.specs.Exact.{Exact, found, exact}
+use Rattle.exact.specs.Search.{Sound, search}
 use Rattle.exact.proofs.ExactTheorem.{found-met, found-unmet, found-done, found-stuck}
+use Rattle.exact.proofs.SearchTheorem.{search-finds}
 
-pad-found : {domains : List ℕ} {goal : Assignment} (n : ℕ) (s : State) (p : List Action) → length s ≡ length domains → Rising domains 0 goal → Actions-formed domains p
-    → found (pad n s) goal p ≡ found s goal p
+pad-found : {domains : List ℕ} {goal : Assignment} (n : ℕ) (s : State) (p : List Action) → length s ≡ length domains → Rising domains 0 goal
+    → Actions-formed domains p → found (pad n s) goal p ≡ found s goal p
 pad-found {goal = goal} n s [] complete rising formed = by-case (satisfies s goal) refl
   where
     padded : satisfies (pad n s) goal ≡ satisfies s goal
@@ -43,17 +45,31 @@ pad-found {goal = goal} n s (a ∷ p) complete rising formed =
     by-case struck done true e = rw (found-done (pad n s) goal a p (padded ∙ e), found-done s goal a p e, padded-after, struck, done)
     by-case struck done false e = rw (found-stuck (pad n s) goal a p (padded ∙ e), found-stuck s goal a p e, struck)
 
-module _ {domains : List ℕ} {goal : Assignment} (n : ℕ) (s : State) (p : List Action) (complete : length s ≡ length domains) (rising : Rising domains 0 goal) (formed : Actions-formed domains p) where
-  pub pad-exact : exact (pad n s) goal p ≡ exact s goal p
-  unfolding exact
-  pad-exact = rw (pad-found n s p complete rising formed)
+module _
+    {domains : List ℕ}
+    {goal : Assignment}
+    (n : ℕ)
+    (s : State)
+    (p : List Action)
+    (complete : length s ≡ length domains)
+    (rising : Rising domains 0 goal)
+    (formed : Actions-formed domains p)
+  where
+    pub pad-exact : exact (pad n s) goal p ≡ exact s goal p
+    unfolding exact
+    pad-exact = rw (pad-found n s p complete rising formed)
 
-  left-valid : (m : Reduction) → valid (pad n s) goal (kept m p) ≡ valid s goal (kept m p)
-  left-valid m = pad-valid n s (kept m p) complete rising (λ a left. formed a (kept-lodged m p left))
+    left-valid : (m : Reduction) → valid (pad n s) goal (kept m p) ≡ valid s goal (kept m p)
+    left-valid m = pad-valid n s (kept m p) complete rising (λ a left. formed a (kept-lodged m p left))
 
-  pub padded-exact : {m : Reduction} → Exact (pad n s) goal p m → Exact s goal p m
-  padded-exact {m} x =
-      record {
-        valid = record { fits = x .valid .fits; valid-left = sym (left-valid m) ∙ x .valid .valid-left };
-        wins = λ k v. x .wins k (record { fits = v .fits; valid-left = left-valid k ∙ v .valid-left });
-      }
+    pub padded-exact : {m : Reduction} → Exact (pad n s) goal p m → Exact s goal p m
+    padded-exact {m} x =
+        record {
+          valid = record { fits = x .valid .fits; valid-left = sym (left-valid m) ∙ x .valid .valid-left };
+          wins = λ k v. x .wins k (record { fits = v .fits; valid-left = left-valid k ∙ v .valid-left });
+        }
+
+    -- so the search from the padded state finds it too, by flags that are sound without padding
+    pub pad-search : (g : Reduction) → length g ≡ length p → Sound s goal p g → search (pad n s) goal p g ≡ exact s goal p
+    pad-search g fits sound =
+        search-finds (pad n s) goal p g fits (λ m v. sound m (record { fits = v .fits; valid-left = sym (left-valid m) ∙ v .valid-left })) ∙ pad-exact

@@ -81,12 +81,12 @@ module _ (s : State) (goal : Assignment) (a : Action) (p : List Action) where
   begun-stuck : applicable s a ≡ false → Begun s goal a p true none
   begun-stuck e n v = true≢false (sym (valid-kept s goal a p v .0) ∙ e)
 
-  -- against every reduction by how it begins
+  -- a valid reduction strikes the first step or keeps it
   by-beginning : (P : Reduction → Type 0) → ((n : Reduction) → Valid-reduction s goal (a ∷ p) (false ∷ n) → P (false ∷ n))
       → ((n : Reduction) → Valid-reduction s goal (a ∷ p) (true ∷ n) → P (true ∷ n)) → (n : Reduction) → Valid-reduction s goal (a ∷ p) n → P n
-  by-beginning P struck kept [] v = absurd (omega (arith, v .fits))
-  by-beginning P struck kept (false ∷ n) v = struck n v
-  by-beginning P struck kept (true ∷ n) v = kept n v
+  by-beginning P struck done [] v = absurd (omega (arith, v .fits))
+  by-beginning P struck done (false ∷ n) v = struck n v
+  by-beginning P struck done (true ∷ n) v = done n v
 
   -- a reduction that strikes the first step wins against one that keeps it and is not lower
   strikes-wins : (m n : Reduction) → Valid-reduction s goal (a ∷ p) (false ∷ m) → Valid-reduction s goal (a ∷ p) (true ∷ n)
@@ -177,7 +177,7 @@ found-choice s goal (a ∷ p) = by-case (found-choice s goal p) (found-choice (a
 pub found-exact : {m : Reduction} (s : State) (goal : Assignment) (p : List Action) → found s goal p ≡ some m → Exact s goal p m
 found-exact s goal p h = subst (Choice s goal p) h (found-choice s goal p)
 
--- and in a plan it is found
+-- and of a plan one is found
 pub exact-found : (s : State) (goal : Assignment) (p : List Action) → valid s goal p ≡ true → Exact s goal p (exact s goal p)
 unfolding exact
 exact-found s goal p h = by-case (found s goal p) refl

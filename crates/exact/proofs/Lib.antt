@@ -8,3 +8,5 @@ pub mod ExactTheorem
 pub mod SearchTheorem
 -- ExactPadded: zeros at the end of a state change nothing for the exact reduction.
 pub mod ExactPadded
+-- Starred: the worked lists of document 01 that carry a star.
+pub mod Starred

@@ -25,7 +25,7 @@ use Rattle.exact.specs.Search.{Sound, may-strike, turn, search}
 use Rattle.exact.specs.Search.Turn.{strike, keep}
 use Rattle.exact.proofs.TurnLaws.{turns, search-turns, strike-met, strike-unmet, strike-not-lower, strike-barred, strike-goes-on}
 use Rattle.exact.proofs.TurnLaws.{keep-end, keep-stuck, keep-not-lower, keep-goes-on}
-use Rattle.exact.proofs.WinsLaws.{not-lower-through, lowest-whole}
+use Rattle.exact.proofs.WinsLaws.{not-lower, not-lower-through, lowest-whole}
 use Rattle.exact.proofs.ExactTheorem.{struck-valid, kept-valid, found-met, found-unmet, found-done, found-stuck, found-exact, exact-found}
 
 -- the lower of the best reduction and another, the best where that is not lower
@@ -92,17 +92,13 @@ module _ (p : List Action) (d : Reduction) (a : Action) (q : List Action) (alike
       chosen true = refl
       chosen false = refl
 
--- a reduction of which another strikes nothing more is not lower than it
+-- what keeps all that another reduction keeps is not lower
 contains-not-lower : (p : List Action) (m n : Reduction) → length m ≡ length p → length n ≡ length p → Contains m n → lower (kept m p) (kept n p) ≡ false
-contains-not-lower p m n fits other-fits h = by-case (lower (kept m p) (kept n p)) refl
+contains-not-lower p m n fits other-fits h = not-lower (kept m p) (kept n p) never
   where
     never : Lower (kept m p) (kept n p) → ⊥
     never (inl less) = omega (arith, strike-cost m n p h)
     never (inr (same, less)) = omega (arith, strike-count m n h, kept-length m p fits, kept-length n p other-fits)
-
-    by-case : (b : Bool) → lower (kept m p) (kept n p) ≡ b → lower (kept m p) (kept n p) ≡ false
-    by-case true e = absurd (never (lower-true (kept m p) (kept n p) e))
-    by-case false e = e
 
 module _ (s : State) (goal : Assignment) (a : Action) (q : List Action) (c : Bool) (g : Reduction) (sound : Sound s goal (a ∷ q) (c ∷ g)) where
   struck-sound : Sound s goal q g

@@ -11,16 +11,19 @@ use Rattle.sas.specs.Task.{Action}
 use Rattle.sas.specs.Plan.{cost}
 use Rattle.reduction.specs.Reduction.{Reduction, keeps, kept, count, whole, lower}
 use Rattle.reduction.proofs.ReductionLaws.{kept-length, strike-count, contains-whole, count-whole, left-cost}
-use Rattle.reduction.proofs.LowerLaws.{Lower, lower-true, lower-false, lower-through}
+use Rattle.reduction.proofs.LowerLaws.{Lower, lower-true, true-lower, lower-false, lower-through}
 use Rattle.exact.specs.Exact.{First-difference, Wins}
+
+pub not-lower : (x y : List Action) → (Lower x y → ⊥) → lower x y ≡ false
+not-lower x y never = by-case (lower x y) refl
+  where
+    by-case : (b : Bool) → lower x y ≡ b → lower x y ≡ false
+    by-case true e = absurd (never (lower-true x y e))
+    by-case false e = e
 
 -- what is not lower than a list that is not lower than another is not lower than that one
 pub not-lower-through : (x y z : List Action) → lower x y ≡ false → lower y z ≡ false → lower x z ≡ false
-not-lower-through x y z h k = by-case (lower x z) refl
-  where
-    by-case : (b : Bool) → lower x z ≡ b → lower x z ≡ false
-    by-case true e = absurd (true≢false (sym (lower-through x z y e k) ∙ h))
-    by-case false e = e
+not-lower-through x y z h k = not-lower x z (λ less. true≢false (sym (lower-through x z y (true-lower x z less) k) ∙ h))
 
 module _ (p : List Action) (m n : Reduction) (fits : length m ≡ length p) (other-fits : length n ≡ length p) where
   steps : (length (kept m p) ≡ count m) × (length (kept n p) ≡ count n)
@@ -43,37 +46,28 @@ module _ (p : List Action) (m n : Reduction) (fits : length m ≡ length p) (oth
 
   -- and nothing is lower than what wins against it
   pub wins-not-lower : Wins p m n → lower (kept n p) (kept m p) ≡ false
-  wins-not-lower w = by-case (lower (kept n p) (kept m p)) refl
+  wins-not-lower w = not-lower (kept n p) (kept m p) never
     where
       never : Lower (kept n p) (kept m p) → ⊥
       never (inl less) = omega (arith, w .no-dearer)
       never (inr (same, less)) = omega (arith, steps, w .no-longer (sym same))
 
-      by-case : (b : Bool) → lower (kept n p) (kept m p) ≡ b → lower (kept n p) (kept m p) ≡ false
-      by-case true e = absurd (never (lower-true (kept n p) (kept m p) e))
-      by-case false e = e
-
 -- two reductions that begin alike differ first where they do behind that
-difference-behind : (b : Bool) (m n : Reduction) (i : ℕ) → First-difference (b ∷ m) (b ∷ n) (suc i) → First-difference m n i
-difference-behind b m n i h = record { before = λ k less. h .before (suc k) (omega arith); here = h .here }
+strikes-behind : (b : Bool) (m n : Reduction) → ((i : ℕ) → First-difference m n i → keeps n i) → (i : ℕ) → First-difference (b ∷ m) (b ∷ n) i → keeps (b ∷ n) i
+strikes-behind b m n first zero h = absurd (h .here refl)
+strikes-behind b m n first (suc i) h = first i (record { before = λ k less. h .before (suc k) (omega arith); here = h .here })
 
--- so behind an equal beginning the same wins
+-- so the same wins
 pub wins-behind : (b : Bool) (a : Action) (p : List Action) (m n : Reduction) → Wins p m n → Wins (a ∷ p) (b ∷ m) (b ∷ n)
 unfolding kept count cost
-wins-behind b a p m n w = by-case b
-  where
-    strikes : (b : Bool) → ((i : ℕ) → First-difference m n i → keeps n i) → (i : ℕ) → First-difference (b ∷ m) (b ∷ n) i → keeps (b ∷ n) i
-    strikes b first zero h = absurd (h .here refl)
-    strikes b first (suc i) h = first i (difference-behind b m n i h)
-
-    by-case : (b : Bool) → Wins (a ∷ p) (b ∷ m) (b ∷ n)
-    by-case false = record { no-dearer = w .no-dearer; no-longer = w .no-longer; strikes-first = λ same even. strikes false (w .strikes-first same even) }
-    by-case true =
-        record {
-          no-dearer = omega (arith, w .no-dearer);
-          no-longer = λ same. omega (arith, w .no-longer (omega arith));
-          strikes-first = λ same even. strikes true (w .strikes-first (omega arith) (omega arith));
-        }
+wins-behind false a p m n w =
+    record { no-dearer = w .no-dearer; no-longer = w .no-longer; strikes-first = λ same even. strikes-behind false m n (w .strikes-first same even) }
+wins-behind true a p m n w =
+    record {
+      no-dearer = omega (arith, w .no-dearer);
+      no-longer = λ same. omega (arith, w .no-longer (omega arith));
+      strikes-first = λ same even. strikes-behind true m n (w .strikes-first (omega arith) (omega arith));
+    }
 
 -- two reductions of one length are equal or have a first difference
 difference : (m n : Reduction) → length m ≡ length n → (m ≡ n) ⊎ ((i : ℕ) × First-difference m n i)
