@@ -23,14 +23,14 @@ pub(crate) fn is_lower(tally: Tally, other: Tally) -> bool
 }
 
 // Keeps the step at index i too: a landmark is counted from the start.
-pub(crate) fn keep_step(words: &[u32], plan: &[u32], flags: &[bool], i: usize, so_far: Kept) -> Kept
-    ensures { λ r. ⌜ Keeps-step (now (words .entry)) (now (plan .entry)) (now (flags .entry)) i so_far r ⌝ }
+pub(crate) fn keep_step(words: &[u32], plan: &[u32], flags: &[bool], i: usize, held: Kept) -> Kept
+    ensures { λ r. ⌜ Keeps-step (now (words .entry)) (now (plan .entry)) (now (flags .entry)) i held r ⌝ }
 {
     if flag(flags, i) {
-        return so_far;
+        return held;
     }
-    let tally = so_far.tally;
-    let mask = so_far.mask;
+    let tally = held.tally;
+    let mask = held.mask;
     Kept {
         tally: tally.add(cost(words, word(plan, i))),
         mask: mask.with(i),

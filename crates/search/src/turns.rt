@@ -19,21 +19,21 @@ pub(crate) fn strike(
     bits: &[u64],
     i: usize,
     values: [u32; Task::VARIABLES],
-    so_far: Kept,
+    held: Kept,
     best: Kept,
 ) -> Kept
-    ensures { λ r. ⌜ Turns (now (words .entry)) (now (plan .entry)) (now (flags .entry)) (now (bits .entry)) striking i values so_far best r ⌝ }
+    ensures { λ r. ⌜ Turns (now (words .entry)) (now (plan .entry)) (now (flags .entry)) (now (bits .entry)) striking i values held best r ⌝ }
 {
     if i < plan.len() {
         if may_strike(words, plan, flags, bits, &values, i) {
-            let struck = strike(words, plan, flags, bits, i + 1, values, so_far, best);
-            return keep(words, plan, flags, bits, i + 1, values, so_far, struck);
+            let struck = strike(words, plan, flags, bits, i + 1, values, held, best);
+            return keep(words, plan, flags, bits, i + 1, values, held, struck);
         }
         return best;
     }
-    if is_lower(so_far.tally, best.tally) {
+    if is_lower(held.tally, best.tally) {
         if goal_holds(words, &values) {
-            return so_far;
+            return held;
         }
         return best;
     }
@@ -48,13 +48,13 @@ pub(crate) fn keep(
     bits: &[u64],
     i: usize,
     values: [u32; Task::VARIABLES],
-    so_far: Kept,
+    held: Kept,
     best: Kept,
 ) -> Kept
-    ensures { λ r. ⌜ Turns (now (words .entry)) (now (plan .entry)) (now (flags .entry)) (now (bits .entry)) keeping i values so_far best r ⌝ }
+    ensures { λ r. ⌜ Turns (now (words .entry)) (now (plan .entry)) (now (flags .entry)) (now (bits .entry)) keeping i values held best r ⌝ }
 {
     if i < plan.len() {
-        let with = keep_step(words, plan, flags, i, so_far);
+        let with = keep_step(words, plan, flags, i, held);
         if is_lower(with.tally, best.tally) {
             let mut next = values;
             if advance(words, &mut next, word(plan, i)) {
