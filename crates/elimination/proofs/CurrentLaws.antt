@@ -10,6 +10,7 @@ use mathlib.Core.List.{List, [], _∷_, _++_, append-assoc}
 use lib.ListN.{length, getD, set, take, drop, replicate, length-drop, length-map, length-append, length-replicate, length-set}
 use lib.Seq.{length-take-le, take-take, getD-take, take-at, getD-at, drop-append-le}
 use Rattle.sas.specs.Plan.{satisfies, applicable}
+use Rattle.tally.specs.declared.Tally.{Tally}
 use Rattle.step.specs.Advance.{Advances}
 use Rattle.task.specs.Decode.{goal, action}
 use Rattle.plan.specs.Limits.{most-steps}
@@ -62,7 +63,7 @@ module _ (w l : List ℕ) (flags : Reduction) (current : Current w l flags) wher
         × (after values (steps w (drop (i + 1) l)) (drop (i + 1) flags) ≡ after values (steps w (drop (i + 1) l)) (drop (i + 1) (mask l flags)))
     walked-past = rw behind (walk-past values (steps w (drop (i + 1) l)) (drop (i + 1) (mask l flags)) _ as-long)
 
-    module _ (met : Bool) (left : Reduction) (tries : Tries w l i flags values met left) where
+    module _ (met : Bool) (left : Reduction) (struck : Tally) (tries : Tries w l i flags values met left struck) where
       -- what the trial leaves is what the definitions' walk leaves, and no flag is up past it
       left-flags : left ≡ walk (start w) (steps w l) (set (mask l flags) i false) ++ replicate (most-steps - length l) false
       left-flags =
@@ -132,7 +133,7 @@ module _ (w l : List ℕ) (flags : Reduction) (current : Current w l flags) wher
         rw (advances .state, advances .applied, able, add-one, ← steps-at w l i here) (passes .kept-next raised)
 
     -- elimination's turn at a kept step whose trial fails
-    pub eliminates-done : (met done : Bool) (left : Reduction) (values′ : List ℕ) → getD flags i false ≡ true → Tries w l i flags values met left → met ≡ false
+    pub eliminates-done : (met done : Bool) (left : Reduction) (struck : Tally) (values′ : List ℕ) → getD flags i false ≡ true → Tries w l i flags values met left struck → met ≡ false
         → Advances w values (getD l i 0) done values′ → Eliminates w l i flags flags values′
-    eliminates-done met done left values′ up tries is advances =
-        record { current = current; struck = rw (trial-unmet met left tries is); before = advanced done values′ up advances }
+    eliminates-done met done left struck values′ up tries is advances =
+        record { current = current; struck = rw (trial-unmet met left struck tries is); before = advanced done values′ up advances }

@@ -23,7 +23,7 @@ pub looks-start : (w l : List ℕ) (m : Reduction) (r : Best) (values : List ℕ
 unfolding best
 looks-start w l m r values none-yet starts =
     record {
-      picks = record { nothing-found = λ f. refl; best-found = λ f. absurd (true≢false (sym f ∙ none-yet)); current = λ f. absurd (true≢false (sym f ∙ none-yet)); counted = λ f. absurd (true≢false (sym f ∙ none-yet)) };
+      picks = record { nothing-found = λ f. refl; best-found = λ f. absurd (true≢false (sym f ∙ none-yet)); current = λ f. absurd (true≢false (sym f ∙ none-yet)); balanced = λ f. absurd (true≢false (sym f ∙ none-yet)) };
       before = rw starts (before-first (start w) (steps w l) m);
     }
 

@@ -1,3 +1,5 @@
+-- BalanceLaws: what is struck goes over from the list to the tally, and which trial leaves the lower list.
+pub mod BalanceLaws
 -- WalkLaws: the walk along the rest of the current list, turn by turn.
 pub mod WalkLaws
 -- TrialLaws: what a trial leaves, from what its walk leaves.

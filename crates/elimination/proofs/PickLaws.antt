@@ -7,7 +7,7 @@ use mathlib.Core.Bool.{Bool, true, false, cond, true≢false}
 use mathlib.Core.Option.{Option, none, some}
 use mathlib.Core.List.{List}
 use lib.ListN.{length, getD}
-use Rattle.tally.specs.Tally.{comparison}
+use Rattle.tally.specs.Tally.{nothing, comparison}
 use Rattle.task.specs.Decode.{goal}
 use Rattle.step.specs.Advance.{Advances}
 use Rattle.plan.specs.Valid.{steps}
@@ -18,13 +18,14 @@ use Rattle.reduction.proofs.TrialLaws.{unkept-fails}
 use Rattle.reduction.proofs.BeforeLaws.{Before}
 use Rattle.elimination.specs.declared.greedy.Best.{Best}
 use Rattle.elimination.specs.declared.trial.Tried.{Tried}
+use Rattle.elimination.specs.Walk.{Balanced}
 use Rattle.elimination.specs.Trial.{Tries}
 use Rattle.reduced.specs.Held.{start, mask}
 use Rattle.elimination.specs.Current.{Current}
-use Rattle.reduced.specs.Tallied.{tallied, is-less}
-use Rattle.elimination.specs.Round.{replaces, better-of, Betters, Picks, Looks}
+use Rattle.reduced.specs.Tallied.{is-less}
+use Rattle.elimination.specs.Round.{replaces, better-of, Picks, Looks}
 use Rattle.elimination.proofs.CurrentLaws.{mask-length, mask-flag, trial-met, trial-unmet, left-mask, left-current, advanced, eliminates-nothing}
-use Rattle.reduced.proofs.LowerLaws.{tallied-mask, tally-lower}
+use Rattle.elimination.proofs.BalanceLaws.{balanced-mask, readable-fits, more-struck}
 
 module _ (w l : List ℕ) (m : Reduction) (i : ℕ) where
   -- a trial that fails changes nothing
@@ -49,58 +50,59 @@ module _ (w l : List ℕ) (m : Reduction) (i : ℕ) where
 
   same-picks : (so-far : Best) → Picks w l m i so-far → best (start w) (goal w) (steps w l) m (suc i) ≡ best (start w) (goal w) (steps w l) m i → Picks w l m (suc i) so-far
   same-picks so-far picks e =
-      record { nothing-found = λ f. e ∙ picks .nothing-found f; best-found = λ f. e ∙ picks .best-found f; current = picks .current; counted = picks .counted }
+      record { nothing-found = λ f. e ∙ picks .nothing-found f; best-found = λ f. e ∙ picks .best-found f; current = picks .current; balanced = picks .balanced }
 
 module _ (w l : List ℕ) (readable : Readable w l) (flags : Reduction) (current : Current w l flags) (i : ℕ) (values : List ℕ) (here : i < length l)
     (before : Before (start w) (steps w l) (mask l flags) i values) where
-  module _ (so-far : Best) (tried : Tried) (picks : Picks w l (mask l flags) i so-far) (tries : Tries w l i flags values (tried .succeeds) (tried .flags)) (up : getD flags i false ≡ true) where
+  module _ (so-far : Best) (tried : Tried) (picks : Picks w l (mask l flags) i so-far) (tries : Tries w l i flags values (tried .succeeds) (tried .flags) (tried .struck)) (up : getD flags i false ≡ true) where
     chosen : Best
-    chosen = record { found = true; flags = tried .flags; tally = tallied w l (tried .flags) }
+    chosen = record { found = true; flags = tried .flags; struck = tried .struck }
 
-    so-far-stays : replaces w l so-far tried ≡ false → better-of w l so-far tried ≡ so-far
+    so-far-stays : replaces so-far tried ≡ false → better-of so-far tried ≡ so-far
     unfolding better-of
     so-far-stays e = rw e
 
     module _ (succeeds : tried .succeeds ≡ true) where
       tried-here : trial (start w) (goal w) (steps w l) (mask l flags) i ≡ some (mask l (tried .flags))
-      tried-here = trial-met w l flags current i values here before (tried .succeeds) (tried .flags) tries up succeeds ∙ ap some (sym (left-mask w l flags current i values here before (tried .succeeds) (tried .flags) tries))
+      tried-here = trial-met w l flags current i values here before (tried .succeeds) (tried .flags) (tried .struck) tries up succeeds ∙ ap some (sym (left-mask w l flags current i values here before (tried .succeeds) (tried .flags) (tried .struck) tries))
 
       tried-current : Current w l (tried .flags)
-      tried-current = left-current w l flags current i values here before (tried .succeeds) (tried .flags) tries up succeeds
+      tried-current = left-current w l flags current i values here before (tried .succeeds) (tried .flags) (tried .struck) tries up succeeds
+
+      tried-balanced : Balanced w l (mask l flags) (mask l (tried .flags)) nothing (tried .struck)
+      tried-balanced = balanced-mask w l flags (tried .flags) (tried .struck) (tries .balanced up (readable-fits w l flags readable (mask-length w l flags current)))
 
       chosen-picks : best (start w) (goal w) (steps w l) (mask l flags) (suc i) ≡ some (mask l (tried .flags)) → Picks w l (mask l flags) (suc i) chosen
       unfolding chosen
       chosen-picks e =
-          record { nothing-found = λ f. absurd (true≢false f); best-found = λ f. e; current = λ f. tried-current; counted = λ f. tallied-mask w l (tried .flags) }
+          record { nothing-found = λ f. absurd (true≢false f); best-found = λ f. e; current = λ f. tried-current; balanced = λ f. tried-balanced }
 
-      -- the two are compared by their tallies, and so by what they leave
-      less : so-far .found ≡ true → is-less (comparison (tallied w l (tried .flags)) (so-far .tally)) ≡ lower (kept (mask l (tried .flags)) (steps w l)) (kept (mask l (so-far .flags)) (steps w l))
-      less found =
-          rw (tallied-mask w l (tried .flags), picks .counted found)
-          (tally-lower w l (mask l (tried .flags)) (mask l (so-far .flags)) readable (mask-length w l (tried .flags) tried-current) (mask-length w l (so-far .flags) (picks .current found)))
+      -- the two are compared by what they strike, and so by what they leave
+      less : so-far .found ≡ true → is-less (comparison (so-far .struck) (tried .struck)) ≡ lower (kept (mask l (tried .flags)) (steps w l)) (kept (mask l (so-far .flags)) (steps w l))
+      less found = more-struck w l (mask l flags) (mask l (tried .flags)) (mask l (so-far .flags)) (tried .struck) (so-far .struck) tried-balanced (picks .balanced found)
 
-      picks-second : (r : Best) (b : Bool) → Betters w l so-far tried r → so-far .found ≡ true → is-less (comparison (tallied w l (tried .flags)) (so-far .tally)) ≡ b
+      picks-second : (r : Best) (b : Bool) → r ≡ better-of so-far tried → so-far .found ≡ true → is-less (comparison (so-far .struck) (tried .struck)) ≡ b
           → Picks w l (mask l flags) (suc i) r
       unfolding better-of replaces chosen
       picks-second r true is found e =
           rw (is, succeeds, found, e) (chosen-picks (best-second w l (mask l flags) i (mask l (tried .flags)) (mask l (so-far .flags)) true (picks .best-found found) tried-here (sym (less found) ∙ e)))
       picks-second r false is found e =
-          let stays : replaces w l so-far tried ≡ false = rw (succeeds, found, e) in
+          let stays : replaces so-far tried ≡ false = rw (succeeds, found, e) in
           let same : r ≡ so-far = is ∙ so-far-stays stays in
           rw same
           (same-picks w l (mask l flags) i so-far picks
           (best-second w l (mask l flags) i (mask l (tried .flags)) (mask l (so-far .flags)) false (picks .best-found found) tried-here (sym (less found) ∙ e) ∙ sym (picks .best-found found)))
 
-      picks-first : (r : Best) → Betters w l so-far tried r → so-far .found ≡ false → Picks w l (mask l flags) (suc i) r
+      picks-first : (r : Best) → r ≡ better-of so-far tried → so-far .found ≡ false → Picks w l (mask l flags) (suc i) r
       unfolding better-of replaces chosen
       picks-first r is found = rw (is, succeeds, found) (chosen-picks (best-first w l (mask l flags) i (mask l (tried .flags)) (picks .nothing-found found) tried-here))
 
-    picks-fail : (r : Best) → Betters w l so-far tried r → tried .succeeds ≡ false → Picks w l (mask l flags) (suc i) r
+    picks-fail : (r : Best) → r ≡ better-of so-far tried → tried .succeeds ≡ false → Picks w l (mask l flags) (suc i) r
     unfolding better-of replaces
     picks-fail r is fails =
-        rw (is, fails) (same-picks w l (mask l flags) i so-far picks (best-same w l (mask l flags) i (trial-unmet w l flags current i values here before (tried .succeeds) (tried .flags) tries fails)))
+        rw (is, fails) (same-picks w l (mask l flags) i so-far picks (best-same w l (mask l flags) i (trial-unmet w l flags current i values here before (tried .succeeds) (tried .flags) (tried .struck) tries fails)))
 
-    picks-next : (r : Best) → Betters w l so-far tried r → Picks w l (mask l flags) (suc i) r
+    picks-next : (r : Best) → r ≡ better-of so-far tried → Picks w l (mask l flags) (suc i) r
     picks-next r is = by-case (tried .succeeds) refl (so-far .found) refl
       where
         by-case : (s : Bool) → tried .succeeds ≡ s → (f : Bool) → so-far .found ≡ f → Picks w l (mask l flags) (suc i) r
@@ -109,8 +111,8 @@ module _ (w l : List ℕ) (readable : Readable w l) (flags : Reduction) (current
         by-case true s true e = picks-second s r _ is e refl
 
   -- a kept step is tried and done
-  pub looks-kept : (so-far r : Best) (tried : Tried) (done : Bool) (next : List ℕ) → Picks w l (mask l flags) i so-far → Tries w l i flags values (tried .succeeds) (tried .flags) → getD flags i false ≡ true
-      → Betters w l so-far tried r → Advances w values (getD l i 0) done next → Looks w l (mask l flags) (i + 1) r next
+  pub looks-kept : (so-far r : Best) (tried : Tried) (done : Bool) (next : List ℕ) → Picks w l (mask l flags) i so-far → Tries w l i flags values (tried .succeeds) (tried .flags) (tried .struck) → getD flags i false ≡ true
+      → r ≡ better-of so-far tried → Advances w values (getD l i 0) done next → Looks w l (mask l flags) (i + 1) r next
   looks-kept so-far r tried done next picks tries up is advances =
       record { picks = rw add-one (picks-next so-far tried picks tries up r is); before = advanced w l flags current i values here before done next up advances }
 

@@ -9,29 +9,34 @@ use mathlib.Core.List.{List, [], _∷_, _++_, append-assoc}
 use lib.ListN.{length, getD, set, take, drop, take-append-drop, drop-of-length-le}
 use lib.Seq.{drop-cons, take-suc, take-suc-set, drop-set-lt}
 use Rattle.sas.specs.Plan.{applicable, apply}
+use Rattle.tally.specs.declared.Tally.{Tally}
+use Rattle.tally.specs.Tally.{one-more}
+use Rattle.task.specs.Layout.{cost-word}
 use Rattle.task.specs.Decode.{action}
 use Rattle.step.specs.Advance.{Advances}
 use Rattle.plan.specs.Valid.{steps}
 use Rattle.reduction.specs.Reduction.{Reduction}
 use Rattle.reduction.specs.Elimination.{walk, after}
 use Rattle.reduction.proofs.TrialLaws.{walk-done, walk-struck, after-done, after-struck}
-use Rattle.elimination.specs.Walk.{flags-after, state-after, Walks, Turns}
+use Rattle.elimination.specs.Walk.{flags-after, state-after, Fits, Balanced, Walks, Turns}
+use Rattle.elimination.proofs.BalanceLaws.{strike-balanced, same-balanced, balanced-then, balanced-fits}
 
-module _ (w : List ℕ) (a j : ℕ) (m : Reduction) (s : List ℕ) where
-  pub turns-skip : (up : Bool) → up ≡ getD m j false → up ≡ false → Turns w a j m s m s
-  turns-skip up read is = let down : getD m j false ≡ false = sym read ∙ is in record { flags = rw down; state = rw down }
+module _ (w : List ℕ) (a j : ℕ) (m : Reduction) (s : List ℕ) (t : Tally) where
+  pub turns-skip : (up : Bool) → up ≡ getD m j false → up ≡ false → Turns w a j m s t m s t
+  turns-skip up read is = let down : getD m j false ≡ false = sym read ∙ is in record { flags = rw down; state = rw down; tally = rw down }
 
-  pub turns-done : (up done : Bool) (s′ : List ℕ) → up ≡ getD m j false → up ≡ true → Advances w s a done s′ → done ≡ true → Turns w a j m s m s′
+  pub turns-done : (up done : Bool) (s′ : List ℕ) → up ≡ getD m j false → up ≡ true → Advances w s a done s′ → done ≡ true → Turns w a j m s t m s′ t
   turns-done up done s′ read is advances was =
       let raised : getD m j false ≡ true = sym read ∙ is in
       let can : applicable s (action w a) ≡ true = sym (advances .applied) ∙ was in
-      record { flags = rw (raised, can); state = rw (raised, can) (advances .state ∙ rw was) }
+      record { flags = rw (raised, can); state = rw (raised, can) (advances .state ∙ rw was); tally = rw (raised, can) }
 
-  pub turns-struck : (up done : Bool) (s′ : List ℕ) (m′ : Reduction) → up ≡ getD m j false → up ≡ true → Advances w s a done s′ → done ≡ false → m′ ≡ set m j false → Turns w a j m s m′ s′
-  turns-struck up done s′ m′ read is advances was struck =
+  pub turns-struck : (up done : Bool) (s′ : List ℕ) (m′ : Reduction) (c : ℕ) (t′ : Tally) → up ≡ getD m j false → up ≡ true → Advances w s a done s′ → done ≡ false → m′ ≡ set m j false
+      → c ≡ cost-word w a → t′ ≡ one-more t c → Turns w a j m s t m′ s′ t′
+  turns-struck up done s′ m′ c t′ read is advances was struck price counted =
       let raised : getD m j false ≡ true = sym read ∙ is in
       let can-not : applicable s (action w a) ≡ false = sym (advances .applied) ∙ was in
-      record { flags = rw (raised, can-not) struck; state = rw (raised, can-not) (advances .state ∙ rw was) }
+      record { flags = rw (raised, can-not) struck; state = rw (raised, can-not) (advances .state ∙ rw was); tally = rw (raised, can-not) (counted ∙ rw price) }
 
 -- past the end of the list nothing is left to walk
 pub over : (w l : List ℕ) (j : ℕ) (m : Reduction) (s : List ℕ) → length l ≤ j → (flags-after w l j m s ≡ m) × (state-after w l j m s ≡ s)
@@ -59,7 +64,7 @@ module _ (w l : List ℕ) (j : ℕ) (m : Reduction) (s : List ℕ) (here : j < l
   rest-kept : drop (j + 1) (set m j false) ≡ drop (j + 1) m
   rest-kept = drop-set-lt (j + 1) m j false (omega arith)
 
-  module _ (m′ : Reduction) (s′ : List ℕ) (turns : Turns w (getD l j 0) j m s m′ s′) where
+  module _ (m′ : Reduction) (s′ : List ℕ) (t t′ : Tally) (turns : Turns w (getD l j 0) j m s t m′ s′ t′) where
     -- the step was struck before
     turned-skip : getD m j false ≡ false → (flags-after w l (j + 1) m′ s′ ≡ flags-after w l j m s) × (state-after w l (j + 1) m′ s′ ≡ state-after w l j m s)
     unfolding flags-after state-after walk after
@@ -98,22 +103,45 @@ module _ (w l : List ℕ) (j : ℕ) (m : Reduction) (s : List ℕ) (here : j < l
         by-case true e true can = turned-done e can
         by-case true e false can = turned-struck e can
 
--- where the walk from index i on stands before index j: it ends as it was to end, and nothing has changed its length
-pub record Along (w l : List ℕ) (i : ℕ) (m₀ : Reduction) (s₀ : List ℕ) (j : ℕ) (m : Reduction) (s : List ℕ) : Type 0 where
+    -- and what it strikes goes over to the tally
+    pub turned-balanced : Fits w l m t → Balanced w l m m′ t t′
+    turned-balanced fits = by-case (getD m j false) refl (applicable s (action w (getD l j 0))) refl
+      where
+        by-case : (b : Bool) → getD m j false ≡ b → (c : Bool) → applicable s (action w (getD l j 0)) ≡ c → Balanced w l m m′ t t′
+        by-case false e c can = let same-m : m′ ≡ m = turns .flags ∙ rw e in let same-t : t′ ≡ t = turns .tally ∙ rw e in rw (same-m, same-t) (same-balanced w l m t)
+        by-case true e true can =
+            let same-m : m′ ≡ m = turns .flags ∙ rw (e, can) in
+            let same-t : t′ ≡ t = turns .tally ∙ rw (e, can) in
+            rw (same-m, same-t) (same-balanced w l m t)
+        by-case true e false can =
+            let next-m : m′ ≡ set m j false = turns .flags ∙ rw (e, can) in
+            let next-t : t′ ≡ one-more t (cost-word w (getD l j 0)) = turns .tally ∙ rw (e, can) in
+            rw (next-m, next-t) (strike-balanced w l m j t here e fits)
+
+-- where the walk from index i on stands before index j: it ends as it was to end, nothing has changed its length, and what is struck is counted
+pub record Along (w l : List ℕ) (i : ℕ) (m₀ : Reduction) (s₀ : List ℕ) (t₀ : Tally) (j : ℕ) (m : Reduction) (s : List ℕ) (t : Tally) : Type 0 where
   pub long : length m ≡ length m₀
   pub complete : length s ≡ length s₀
   pub flags : flags-after w l j m s ≡ flags-after w l i m₀ s₀
   pub state : state-after w l j m s ≡ state-after w l i m₀ s₀
+  pub balanced : Fits w l m₀ t₀ → Balanced w l m₀ m t₀ t
 
-pub along-start : (w l : List ℕ) (i : ℕ) (m : Reduction) (s : List ℕ) → Along w l i m s i m s
-along-start w l i m s = record { long = refl; complete = refl; flags = refl; state = refl }
+pub along-start : (w l : List ℕ) (i : ℕ) (m : Reduction) (s : List ℕ) (t : Tally) → Along w l i m s t i m s t
+along-start w l i m s t = record { long = refl; complete = refl; flags = refl; state = refl; balanced = λ fits. same-balanced w l m t }
 
-module _ (w l : List ℕ) (i : ℕ) (m₀ : Reduction) (s₀ : List ℕ) (j : ℕ) (m : Reduction) (s : List ℕ) (along : Along w l i m₀ s₀ j m s) where
-  pub along-turn : (m′ : Reduction) (s′ : List ℕ) → length l ≤ length m₀ → j < length l → length m′ ≡ length m → length s′ ≡ length s → Turns w (getD l j 0) j m s m′ s′
-      → Along w l i m₀ s₀ (j + 1) m′ s′
-  along-turn m′ s′ room here as-long as-complete turns =
-      let same = turned w l j m s here (omega (arith, along .long)) m′ s′ turns in
-      record { long = as-long ∙ along .long; complete = as-complete ∙ along .complete; flags = same .0 ∙ along .flags; state = same .1 ∙ along .state }
+module _ (w l : List ℕ) (i : ℕ) (m₀ : Reduction) (s₀ : List ℕ) (t₀ : Tally) (j : ℕ) (m : Reduction) (s : List ℕ) (t : Tally) (along : Along w l i m₀ s₀ t₀ j m s t) where
+  pub along-turn : (m′ : Reduction) (s′ : List ℕ) (t′ : Tally) → length l ≤ length m₀ → j < length l → length m′ ≡ length m → length s′ ≡ length s → Turns w (getD l j 0) j m s t m′ s′ t′
+      → Along w l i m₀ s₀ t₀ (j + 1) m′ s′ t′
+  along-turn m′ s′ t′ room here as-long as-complete turns =
+      let inside : j < length m = omega (arith, along .long) in
+      let same = turned w l j m s here inside m′ s′ t t′ turns in
+      record {
+        long = as-long ∙ along .long;
+        complete = as-complete ∙ along .complete;
+        flags = same .0 ∙ along .flags;
+        state = same .1 ∙ along .state;
+        balanced = λ fits. let so-far = along .balanced fits in balanced-then w l _ _ _ _ _ _ so-far (turned-balanced w l j m s here inside m′ s′ t t′ turns (balanced-fits w l _ _ _ _ so-far fits));
+      }
 
-  pub along-walks : length l ≤ j → Walks w l i m₀ s₀ m s
-  along-walks past = record { flags = sym (over w l j m s past .0) ∙ along .flags; state = sym (over w l j m s past .1) ∙ along .state }
+  pub along-walks : length l ≤ j → Walks w l i m₀ s₀ t₀ m s t
+  along-walks past = record { flags = sym (over w l j m s past .0) ∙ along .flags; state = sym (over w l j m s past .1) ∙ along .state; balanced = along .balanced }

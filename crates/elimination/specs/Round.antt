@@ -4,34 +4,32 @@ use mathlib.Core.Path.{_≡_}
 use mathlib.Core.Bool.{Bool, true, false, cond, _&&_}
 use mathlib.Core.Option.{none, some}
 use mathlib.Core.List.{List}
-use Rattle.tally.specs.Tally.{comparison}
+use Rattle.tally.specs.Tally.{nothing, comparison}
 use Rattle.task.specs.Decode.{goal}
 use Rattle.plan.specs.Valid.{steps}
 use Rattle.reduction.specs.Reduction.{Reduction}
 use Rattle.reduction.specs.Elimination.{best}
 use Rattle.reduction.proofs.BeforeLaws.{Before}
 use Rattle.reduced.specs.Held.{start, mask}
-use Rattle.reduced.specs.Tallied.{tallied, is-less}
+use Rattle.reduced.specs.Tallied.{is-less}
 use Rattle.elimination.specs.declared.greedy.Best.{Best}
 use Rattle.elimination.specs.declared.trial.Tried.{Tried}
+use Rattle.elimination.specs.Walk.{Balanced}
 use Rattle.elimination.specs.Current.{Current}
 
--- a success that is the lower, or the first, takes the place of the best so far
-unfoldable pub replaces : List ℕ → List ℕ → Best → Tried → Bool
-replaces w l so-far tried = tried .succeeds && cond (so-far .found) (is-less (comparison (tallied w l (tried .flags)) (so-far .tally))) true
+-- a success that strikes more, or the first, takes the place of the best so far
+unfoldable pub replaces : Best → Tried → Bool
+replaces so-far tried = tried .succeeds && cond (so-far .found) (is-less (comparison (so-far .struck) (tried .struck))) true
 
-unfoldable pub better-of : List ℕ → List ℕ → Best → Tried → Best
-better-of w l so-far tried = cond (replaces w l so-far tried) (record { found = true; flags = tried .flags; tally = tallied w l (tried .flags) }) so-far
-
-abbrev pub Betters : List ℕ → List ℕ → Best → Tried → Best → Type 0
-Betters w l so-far tried r = r ≡ better-of w l so-far tried
+unfoldable pub better-of : Best → Tried → Best
+better-of so-far tried = cond (replaces so-far tried) (record { found = true; flags = tried .flags; struck = tried .struck }) so-far
 
 -- the best of the trials at the first n positions of the current list m
 pub record Picks (w l : List ℕ) (m : Reduction) (n : ℕ) (r : Best) : Type 0 where
   pub nothing-found : r .found ≡ false → best (start w) (goal w) (steps w l) m n ≡ none
   pub best-found : r .found ≡ true → best (start w) (goal w) (steps w l) m n ≡ some (mask l (r .flags))
   pub current : r .found ≡ true → Current w l (r .flags)
-  pub counted : r .found ≡ true → r .tally ≡ tallied w l (mask l (r .flags))
+  pub balanced : r .found ≡ true → Balanced w l m (mask l (r .flags)) nothing (r .struck)
 
 -- the best so far, and the state before the next position
 pub record Looks (w l : List ℕ) (m : Reduction) (i : ℕ) (so-far : Best) (values : List ℕ) : Type 0 where

@@ -6,7 +6,6 @@ use common::access::word;
 use plan::limits::Plan;
 use plan::start::initial;
 use reduced::held::all_kept;
-use reduced::tallied::tally_of;
 use step::advance::advance;
 use tally::Order;
 use tally::Tally;
@@ -22,13 +21,13 @@ ghost use Rattle.plan.specs.Valid.{steps};
 ghost use Rattle.plan.proofs.PlanTheorem.{Readable};
 ghost use Rattle.reduced.specs.Held.{start, mask, held};
 ghost use Rattle.elimination.specs.Current.{Current};
-ghost use Rattle.elimination.specs.Round.{Picks, Looks, Betters};
+ghost use Rattle.elimination.specs.Round.{Picks, Looks, better-of};
 
-// The best success of a round so far, if there is one, with its tally.
+// The best success of a round so far, if there is one, with the tally of what it strikes.
 pub(crate) struct Best {
     pub found: bool,
     pub flags: [bool; Plan::STEPS],
-    pub tally: Tally,
+    pub struck: Tally,
 }
 
 // The best success so far, and the state before the next step.
@@ -37,20 +36,20 @@ pub(crate) struct Looked {
     pub values: [u32; Task::VARIABLES],
 }
 
-// The better of the best so far and a trial: the lower tally, the earlier where they are equal.
-fn better(words: &[u32], plan: &[u32], best: Best, tried: Tried) -> Best
-    ensures { λ r. ⌜ Betters (now (words .entry)) (now (plan .entry)) best tried r ⌝ }
+// The better of the best so far and a trial: the one that strikes the larger price, then the more steps, the earlier where they are equal.
+fn better(best: Best, tried: Tried) -> Best
+    ensures { λ r. ⌜ r ≡ better-of best tried ⌝ }
 {
     if tried.succeeds {
         let flags = tried.flags;
-        let tally = tally_of(words, plan, &flags);
+        let struck = tried.struck;
         if best.found {
-            let order = tally.compare(best.tally);
+            let order = best.struck.compare(struck);
             return match order {
                 Order::Less => Best {
                     found: true,
                     flags,
-                    tally,
+                    struck,
                 },
                 Order::Equal => best,
                 Order::Greater => best,
@@ -59,7 +58,7 @@ fn better(words: &[u32], plan: &[u32], best: Best, tried: Tried) -> Best
         return Best {
             found: true,
             flags,
-            tally,
+            struck,
         };
     }
     best
@@ -81,7 +80,7 @@ fn try_at(
     ensures { λ r. ⌜ Looks (now (words .entry)) (now (plan .entry)) (mask (now (plan .entry)) flags) (i + 1) (r .best) (r .values) ⌝ }
 {
     if flag(&flags, i) {
-        let chosen = better(words, plan, best, trial(words, plan, flags, values, i));
+        let chosen = better(best, trial(words, plan, flags, values, i));
         let mut next = values;
         advance(words, &mut next, word(plan, i));
         return Looked {
@@ -102,7 +101,7 @@ fn round(words: &[u32], plan: &[u32], flags: [bool; Plan::STEPS]) -> Best
     let mut best = Best {
         found: false,
         flags,
-        tally: Tally::new(),
+        struck: Tally::new(),
     };
     let mut i = 0;
     while i < plan.len() {

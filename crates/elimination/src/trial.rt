@@ -3,15 +3,18 @@ use crate::walk::walk_rest;
 use common::access::strike;
 use plan::limits::Plan;
 use step::advance::goal_holds;
+use tally::Tally;
+use task::layout::cost;
 use task::limits::Task;
 ghost use Prim.Native.Nat.{_≤_, _<_};
 ghost use lib.ListN.{length};
 ghost use Rattle.elimination.specs.Trial.{Tries};
 
-// Whether a trial succeeds, and what it leaves.
+// Whether a trial succeeds, what it leaves, and the tally of what it strikes.
 pub(crate) struct Tried {
     pub succeeds: bool,
     pub flags: [bool; Plan::STEPS],
+    pub struck: Tally,
 }
 
 // Strikes the step at index i, walks the rest from the state before it, and looks at the goal.
@@ -23,15 +26,17 @@ pub(crate) fn trial(
     i: usize,
 ) -> Tried
     requires { ⌜ (length (now plan) ≤ 255) × (i < length (now plan)) ⌝ }
-    ensures { λ r. ⌜ Tries (now (words .entry)) (now (plan .entry)) i flags values (r .succeeds) (r .flags) ⌝ }
+    ensures { λ r. ⌜ Tries (now (words .entry)) (now (plan .entry)) i flags values (r .succeeds) (r .flags) (r .struck) ⌝ }
 {
     let mut left = flags;
     let mut state = values;
     strike(&mut left, i);
-    walk_rest(words, plan, &mut left, &mut state, i + 1);
+    let first = Tally::new().add(cost(words, plan[i]));
+    let struck = walk_rest(words, plan, &mut left, &mut state, i + 1, first);
     let succeeds = goal_holds(words, &state);
     Tried {
         succeeds,
         flags: left,
+        struck,
     }
 }

@@ -2,36 +2,50 @@
 use common::access::flag;
 use common::access::strike;
 use step::advance::advance;
+use tally::Tally;
+use task::layout::cost;
 ghost use Prim.Native.Nat.{_≤_};
 ghost use lib.ListN.{length};
 ghost use Rattle.elimination.specs.Walk.{Walks, Turns};
 
-// Does each kept step from index i on in turn, and strikes those that can't be done.
+// Does each kept step from index i on in turn, and strikes those that can't be done. Adds what it strikes to the tally of what is struck already.
 pub(crate) fn walk_rest(
     words: &[u32],
     plan: &[u32],
     flags: &mut [bool],
     state: &mut [u32],
     i: usize,
-)
+    struck: Tally,
+) -> Tally
     requires { ⌜ length (now plan) ≤ length (now flags) ⌝ }
-    ensures { λ _. ⌜ Walks (now (words .entry)) (now (plan .entry)) i (now (flags .entry)) (now (state .entry)) (now (flags .exit)) (now (state .exit)) ⌝ }
+    ensures { λ r. ⌜ Walks (now (words .entry)) (now (plan .entry)) i (now (flags .entry)) (now (state .entry)) struck (now (flags .exit)) (now (state .exit)) r ⌝ }
 {
+    let mut tally = struck;
     let mut j = i;
     while j < plan.len() {
-        do_or_strike(words, flags, state, plan[j], j);
+        tally = do_or_strike(words, flags, state, plan[j], j, tally);
         j += 1;
     }
+    tally
 }
 
 // Does action a if the step at index j is kept, and strikes it where it can't be done.
-fn do_or_strike(words: &[u32], flags: &mut [bool], state: &mut [u32], a: u32, j: usize)
-    ensures { λ _. ⌜ Turns (now (words .entry)) a j (now (flags .entry)) (now (state .entry)) (now (flags .exit)) (now (state .exit)) ⌝ }
+fn do_or_strike(
+    words: &[u32],
+    flags: &mut [bool],
+    state: &mut [u32],
+    a: u32,
+    j: usize,
+    struck: Tally,
+) -> Tally
+    ensures { λ r. ⌜ Turns (now (words .entry)) a j (now (flags .entry)) (now (state .entry)) struck (now (flags .exit)) (now (state .exit)) r ⌝ }
 {
     if flag(flags, j) {
         if advance(words, state, a) {
-            return;
+            return struck;
         }
         strike(flags, j);
+        return struck.add(cost(words, a));
     }
+    struck
 }

@@ -31,7 +31,7 @@ less-lower a x b y = by-case (ltb a b) refl (ltb b a) refl (ltb x y) refl (ltb y
     by-case false e false f false g false h = rw (e, f, g, h, and-false)
 
 -- flags past the end of a plan keep nothing
-kept-mask : {A : Type 0} (m : Reduction) (p : List A) → kept (take (length p) m) p ≡ kept m p
+pub kept-mask : {A : Type 0} (m : Reduction) (p : List A) → kept (take (length p) m) p ≡ kept m p
 unfolding kept
 kept-mask m [] = refl
 kept-mask [] (a ∷ p) = refl

@@ -1,14 +1,16 @@
--- The tally of a reduction, step by step, and as the plain sum and number of the kept steps. Assumes nothing.
+-- The tally of a reduction, step by step, and as the plain sum and number of the kept steps, which so stay within its bounds. Assumes nothing.
 use Prim.Native.Nat.{ℕ, zero, suc, _+_, _≤_, _<_}
 use native.Mathlib.Numerals.{add-one}
 use native.Mathlib.Omega.{arith}
 use mathlib.Core.Path.{_≡_, refl, sym, _∙_, ap}
-use mathlib.Core.Bool.{Bool, true, false, false≢true, true≢false}
+use mathlib.Core.Bool.{Bool, true, false, cond, _&&_, false≢true, true≢false}
 use mathlib.Core.List.{List, [], _∷_, map}
-use lib.ListN.{length, getD, drop, drop-of-length-le}
+use lib.ListN.{length, getD, drop, length-map, drop-of-length-le}
+use lib.Dec.{ltb, leb}
+use borrow.Author.Tests.{leb-true}
 use Rattle.sas.specs.Plan.{cost}
 use Rattle.tally.specs.declared.Tally.{Tally}
-use Rattle.tally.specs.Tally.{nothing, one-more, after}
+use Rattle.tally.specs.Tally.{bounds, nothing, one-more, after}
 use Rattle.task.specs.Layout.{cost-word}
 use Rattle.task.specs.Decode.{action}
 use Rattle.plan.specs.Valid.{steps}
@@ -69,3 +71,25 @@ pub plainly : (w l : List ℕ) (m : Reduction) → Readable w l → length m ≡
 unfolding tallied
 plainly w l m readable fits =
     rw (kept-steps w l m) (walked-tally w (kept m l) (readable .accepted) (λ a left. readable .known a (kept-lodged m l left)) (omega (arith, left-length m l fits, readable .few)))
+
+one-bounded : (t : Tally) (c : ℕ) → t .cost ≤ bounds .cost → one-more t c .cost ≤ bounds .cost
+unfolding one-more
+one-bounded t c h = by-case (ltb (t .steps) (bounds .steps)) (leb (t .cost + c) (bounds .cost)) refl
+  where
+    by-case : (p q : Bool) → leb (t .cost + c) (bounds .cost) ≡ q → cond (p && q) (record { cost = t .cost + c; steps = t .steps + 1 }) t .cost ≤ bounds .cost
+    by-case true true e = leb-true (t .cost + c) (bounds .cost) e
+    by-case true false e = h
+    by-case false q e = h
+
+-- no tally passes its bound of cost
+after-bounded : (t : Tally) (costs : List ℕ) → t .cost ≤ bounds .cost → after t costs .cost ≤ bounds .cost
+unfolding after
+after-bounded t [] h = h
+after-bounded t (c ∷ costs) h = after-bounded (one-more t c) costs (one-bounded t c h)
+
+-- so the kept steps of a list that can be read stay within both
+pub left-bounded : (w l : List ℕ) (m : Reduction) → Readable w l → length m ≡ length l → (cost (kept m (steps w l)) ≤ bounds .cost) × (length (kept m (steps w l)) ≤ bounds .steps)
+unfolding tallied
+left-bounded w l m readable fits =
+    let sum : tallied w l m .cost ≤ bounds .cost = after-bounded nothing (map (cost-word w) (kept m l)) (omega arith) in
+    (rw (plainly w l m readable fits) at sum, omega (arith, left-length m (steps w l) (fits ∙ sym (length-map l (action w))), length-map l (action w), readable .few))

@@ -15,7 +15,7 @@ trial-requires : tie.Need-trial-requires
 trial-requires c κs = search needs
 
 returns : tie.Need-returns
-returns c = let entry = c .before .before .before .before .before .before .before .before in eliminates-struck _ _ _ (entry .pre .0) _ _ (entry .pre .1 .0) (entry .pre .1 .1) _ _ (c .before .before .trial .ensures) (sym (c .before .before .before .before .flag .ensures) ∙ c .before .before .before .if1 .taken) (c .before .if2 .taken)
+returns c = let entry = c .before .before .before .before .before .before .before .before in eliminates-struck _ _ _ (entry .pre .0) _ _ (entry .pre .1 .0) (entry .pre .1 .1) _ _ _ (c .before .before .trial .ensures) (sym (c .before .before .before .before .flag .ensures) ∙ c .before .before .before .if1 .taken) (c .before .if2 .taken)
 
 slice-aggregate-advance : tie.Need-slice-aggregate-advance
 slice-aggregate-advance c = search needs
@@ -27,7 +27,7 @@ advance-requires : tie.Need-advance-requires
 advance-requires c κs = search needs
 
 returns-2 : tie.Need-returns-2
-returns-2 c = let entry = c .before .before .before .before .before .before .before .before .before .before .before in eliminates-done _ _ _ (entry .pre .0) _ _ (entry .pre .1 .0) (entry .pre .1 .1) _ _ _ _ (sym (c .before .before .before .before .before .before .before .flag .ensures) ∙ c .before .before .before .before .before .before .if1 .taken) (c .before .before .before .before .before .trial .ensures) (c .before .before .before .before .if2 .left) (rw (c .before .before .word .ensures .0) at (c .before .advance .ensures))
+returns-2 c = let entry = c .before .before .before .before .before .before .before .before .before .before .before in eliminates-done _ _ _ (entry .pre .0) _ _ (entry .pre .1 .0) (entry .pre .1 .1) _ _ _ _ _ (sym (c .before .before .before .before .before .before .before .flag .ensures) ∙ c .before .before .before .before .before .before .if1 .taken) (c .before .before .before .before .before .trial .ensures) (c .before .before .before .before .if2 .left) (rw (c .before .before .word .ensures .0) at (c .before .advance .ensures))
 
 returns-3 : tie.Need-returns-3
 returns-3 c = let entry = c .before .before .before .before .before in eliminates-nothing _ _ _ (entry .pre .0) _ _ (entry .pre .1 .0) (entry .pre .1 .1) (sym (c .before .flag .ensures) ∙ c .if1 .left)

@@ -1,4 +1,4 @@
--- `trial` meets its contract: the walk of the rest, with the step struck. Assumes nothing.
+-- `trial` meets its contract: the walk of the rest, with the step struck and counted. Assumes nothing.
 use Prim.Native.Nat.{_<_}
 use lib.ListN.{length}
 use Rattle.elimination.proofs.TrialLaws.{tries}
@@ -11,6 +11,21 @@ slice-aggregate-strike c = search needs
 
 strike-requires : tie.Need-strike-requires
 strike-requires c κs = search needs
+
+new-requires : tie.Need-new-requires
+new-requires c κs = search needs
+
+mul-cost : tie.Need-mul-cost
+mul-cost c = search needs
+
+shared-slice-read-cost : tie.Need-shared-slice-read-cost
+shared-slice-read-cost c = search needs
+
+cost-requires : tie.Need-cost-requires
+cost-requires c κs = search needs
+
+add-requires : tie.Need-add-requires
+add-requires c κs = search needs
 
 slice-aggregate-walk-rest : tie.Need-slice-aggregate-walk-rest
 slice-aggregate-walk-rest c = search needs
@@ -31,7 +46,7 @@ goal-holds-requires : tie.Need-goal-holds-requires
 goal-holds-requires c κs = search needs
 
 returns : tie.Need-returns
-returns c = let start = c .before .before .before .before .before .before .before .before .before .before .before .before in let inside : start .args .i < length (start .args .flags) = search needs in tries _ _ _ _ _ _ _ _ _ inside (c .before .before .before .before .before .before .before .before .strike .ensures) (c .before .before .before .before .walk-rest .ensures) (c .goal-holds .ensures)
+returns c = let start = c .before .before .before .before .before .before .before .before .before .before .before .before .before .before .before .before in let inside : start .args .i < length (start .args .flags) = search needs in tries _ _ _ _ _ _ _ _ _ (c .before .before .before .before .before .before .before .before .before .before .before .before .strike .ensures) (c .before .before .before .before .before .before .before .before .cost .ensures .0) (c .before .before .before .before .before .before .before .before .before .before .new .ensures) (c .before .before .before .before .before .before .before .add .ensures) _ _ _ _ inside (start .pre .1) (c .before .before .before .before .walk-rest .ensures) (c .goal-holds .ensures)
 
 pub trial-spec : {M : Type 1} → statement M
 trial-spec =
@@ -39,6 +54,11 @@ trial-spec =
     (tie.spec
     slice-aggregate-strike
     strike-requires
+    new-requires
+    mul-cost
+    shared-slice-read-cost
+    cost-requires
+    add-requires
     slice-aggregate-walk-rest
     slice-aggregate-walk-rest-2
     add-walk-rest

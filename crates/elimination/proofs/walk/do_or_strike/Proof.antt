@@ -17,10 +17,16 @@ same-length-2 : tie.Need-same-length-2
 same-length-2 c = search needs
 
 returns : tie.Need-returns
-returns c = let raised = c .before .before .before .before .before in turns-done _ _ _ _ _ _ _ _ (raised .before .flag .ensures) (raised .if1 .taken) (c .before .before .before .advance .ensures) (c .if2 .taken)
+returns c = let raised = c .before .before .before .before .before in turns-done _ _ _ _ _ _ _ _ _ (raised .before .flag .ensures) (raised .if1 .taken) (c .before .before .before .advance .ensures) (c .if2 .taken)
 
 strike-requires : tie.Need-strike-requires
 strike-requires c κs = search needs
+
+cost-requires : tie.Need-cost-requires
+cost-requires c κs = search needs
+
+add-requires : tie.Need-add-requires
+add-requires c κs = search needs
 
 same-length-3 : tie.Need-same-length-3
 same-length-3 c = search needs
@@ -29,13 +35,13 @@ same-length-4 : tie.Need-same-length-4
 same-length-4 c = search needs
 
 returns-2 : tie.Need-returns-2
-returns-2 c = let tested = c .before .before .before .before in let raised = tested .before .before .before .before .before in turns-struck _ _ _ _ _ _ _ _ _ (raised .before .flag .ensures) (raised .if1 .taken) (tested .before .before .before .advance .ensures) (tested .if2 .left) (c .before .before .strike .ensures)
+returns-2 c = let tested = c .before .before .before .before .before .before in let raised = tested .before .before .before .before .before in turns-struck _ _ _ _ _ _ _ _ _ _ _ _ (raised .before .flag .ensures) (raised .if1 .taken) (tested .before .before .before .advance .ensures) (tested .if2 .left) (c .before .before .before .before .strike .ensures) (c .before .cost .ensures .0) (c .add .ensures)
 
 same-length-5 : tie.Need-same-length-5
 same-length-5 c = search needs
 
 returns-3 : tie.Need-returns-3
-returns-3 c = turns-skip _ _ _ _ _ _ (c .before .flag .ensures) (c .if1 .left)
+returns-3 c = turns-skip _ _ _ _ _ _ _ (c .before .flag .ensures) (c .if1 .left)
 
 pub do-or-strike-spec : {M : Type 1} → statement M
 do-or-strike-spec =
@@ -47,6 +53,8 @@ do-or-strike-spec =
     same-length-2
     returns
     strike-requires
+    cost-requires
+    add-requires
     same-length-3
     same-length-4
     returns-2

@@ -7,13 +7,13 @@ use Rattle.elimination.proofs.walk.walk_rest.Statement.{statement}
 use Rattle.elimination.proofs.walk.walk_rest.Tie as tie
 
 abbrev Inv-loop : tie.InvT-loop
-Inv-loop words plan flags₀ state₀ i j₀ flags state j = Along words plan i flags₀ state₀ j flags state
+Inv-loop words plan flags₀ state₀ i struck j₀ flags state tally j = Along words plan i flags₀ state₀ struck j flags state tally
 
 abbrev μ-loop : tie.MeasureT-loop
-μ-loop words plan flags₀ state₀ i j₀ flags state j = length plan - j
+μ-loop words plan flags₀ state₀ i struck j₀ flags state tally j = length plan - j
 
 loop-holds : tie.Need-loop-holds Inv-loop μ-loop
-loop-holds c = along-start _ _ _ _ _
+loop-holds c = along-start _ _ _ _ _ _
 
 mul-do-or-strike : tie.Need-mul-do-or-strike Inv-loop μ-loop
 mul-do-or-strike c = search needs
@@ -31,7 +31,7 @@ loop-less : tie.Need-loop-less Inv-loop μ-loop
 loop-less c = search needs
 
 loop-again : tie.Need-loop-again Inv-loop μ-loop
-loop-again c = let turn = c .before .before .before .before .before .before .before .before .before in let done = c .before .before .before .before .do-or-strike in along-turn _ _ _ _ _ _ _ _ (turn .loop .inv) _ _ (turn .before .before .before .before .before .pre) (c .before .before .before .before .before .before .before .before .loop-test .taken) (done .kept .1 .0) (done .kept .1 .1 .0) (done .ensures)
+loop-again c = let turn = c .before .before .before .before .before .before .before .before .before in let done = c .before .before .before .before .do-or-strike in along-turn _ _ _ _ _ _ _ _ _ _ (turn .loop .inv) _ _ _ (turn .before .before .before .before .before .pre) (c .before .before .before .before .before .before .before .before .loop-test .taken) (done .kept .1 .0) (done .kept .1 .1 .0) (done .ensures)
 
 same-length : tie.Need-same-length Inv-loop μ-loop
 same-length c = c .before .loop .inv .long
@@ -40,7 +40,7 @@ same-length-2 : tie.Need-same-length-2 Inv-loop μ-loop
 same-length-2 c = c .before .loop .inv .complete
 
 returns : tie.Need-returns Inv-loop μ-loop
-returns c = along-walks _ _ _ _ _ _ _ _ (c .before .loop .inv) (c .loop-test .left)
+returns c = along-walks _ _ _ _ _ _ _ _ _ _ (c .before .loop .inv) (c .loop-test .left)
 
 pub walk-rest-spec : {M : Type 1} → statement M
 walk-rest-spec =
