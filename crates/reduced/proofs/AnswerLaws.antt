@@ -10,7 +10,7 @@ use Rattle.common.specs.declared.refusal.Refusal.{Refusal}
 use Rattle.common.specs.declared.refusal.Verdict.{Verdict}
 use Rattle.common.specs.declared.refusal.Verdict.the-variants.{Passed, Refused as Refused-verdict}
 use Rattle.common.specs.Refusal.{told}
-use Rattle.common.specs.Check.{answer}
+use Rattle.common.specs.Check.{Check, answer}
 use Rattle.tally.specs.declared.Tally.{Tally}
 use Rattle.plan.specs.declared.check.Answer.the-variants.{Valid, Refused}
 use Rattle.plan.proofs.PlanTheorem.{Readable}
@@ -18,7 +18,7 @@ use Rattle.reduction.specs.Reduction.{Reduction}
 use Rattle.mask.specs.Mask.{mask-length, mask-bits, mask-words, ones-of, kept-by-words}
 use Rattle.mask.proofs.MaskTheorem.{ones-are-kept, mask-keeps}
 use Rattle.reduced.specs.Tallied.{tallied}
-use Rattle.reduced.specs.Reduced.{reduction-checks, Reduces}
+use Rattle.reduced.specs.Reduced.{Answers}
 use Rattle.reduced.specs.Kept.{Keeps}
 use Rattle.reduced.proofs.TalliedLaws.{plainly}
 
@@ -32,21 +32,21 @@ keeps w l m before after words tally ones readable fits told-by counts counted w
       written = writes ∙ rw (told-by, mask-keeps m l few fits);
     }
 
--- a service refuses, with zeros, and touches nothing
-pub reduces-refused : (w l : List ℕ) (m : Reduction) (before : List ℕ) (v : Verdict) (r : Refusal) → told v ≡ answer (reduction-checks w l (length before)) → v ≡ Refused-verdict r
-    → Reduces w l m before (Refused r) (replicate mask-length 0) before
-reduces-refused w l m before v r checked refuses =
-    let refused : told (Refused-verdict r) ≡ answer (reduction-checks w l (length before)) = sym (ap told refuses) ∙ checked in
-    record { refusal = refused; tally = rw (← refused); told-by = rw (← refused); output = rw (← refused) }
+module _ (checks : List Check) (w l : List ℕ) (m : Reduction) (before : List ℕ) (v : Verdict) (checked : told v ≡ answer checks) where
+  -- a service refuses, with zeros, and touches nothing
+  pub answers-refused : (r : Refusal) → v ≡ Refused-verdict r → Answers checks w l m before (Refused r) (replicate mask-length 0) before
+  answers-refused r refuses =
+      let refused : told (Refused-verdict r) ≡ answer checks = sym (ap told refuses) ∙ checked in
+      record { refusal = refused; tally = rw (← refused); told-by = rw (← refused); output = rw (← refused) }
 
--- or hands on what is told and written of its reduction
-pub reduces-kept : (w l : List ℕ) (m left : Reduction) (before after words : List ℕ) (v : Verdict) (tally : Tally) → told v ≡ answer (reduction-checks w l (length before)) → v ≡ Passed
-    → left ≡ m → Keeps w l left before tally words after → Reduces w l m before (Valid tally) words after
-reduces-kept w l m left before after words v tally checked passes same keeps =
-    let passed : told Passed ≡ answer (reduction-checks w l (length before)) = sym (ap told passes) ∙ checked in
-    record {
-      refusal = passed;
-      tally = rw (← passed, ← same) (keeps .counted);
-      told-by = rw (← passed, ← same) (keeps .told-by);
-      output = rw (← passed, ← same) (keeps .written);
-    }
+  -- or hands on what is told and written of its reduction
+  pub answers-kept : (left : Reduction) (after words : List ℕ) (tally : Tally) → v ≡ Passed → left ≡ m → Keeps w l left before tally words after
+      → Answers checks w l m before (Valid tally) words after
+  answers-kept left after words tally passes same keeps =
+      let passed : told Passed ≡ answer checks = sym (ap told passes) ∙ checked in
+      record {
+        refusal = passed;
+        tally = rw (← passed, ← same) (keeps .counted);
+        told-by = rw (← passed, ← same) (keeps .told-by);
+        output = rw (← passed, ← same) (keeps .written);
+      }

@@ -84,7 +84,7 @@ module _ (w l : List ℕ) (room : ℕ) (v : Verdict) (checked : told v ≡ answe
   pub nothing-refused : answer (reduction-checks w l room) ≡ none
   nothing-refused = sym checked ∙ ap told passed
 
-  plan-passes : answer (plan-checks w l) ≡ none
+  pub plan-passes : answer (plan-checks w l) ≡ none
   unfolding reduction-checks plan-checks
   plan-passes =
       let accepted : Accepted w = first-none (sheet-checks w) (list-checks w l ++ (room-check l room ∷ valid-checks w l)) _ nothing-refused refl in

@@ -41,9 +41,13 @@ abbrev pub output-left : List ℕ → Reduction → List ℕ → List ℕ
 output-left l m before = sets before 0 (kept m l)
 
 -- a service that answers with the reduction m of the list l, told by its tally and its mask, and writes the list left over a lent output; "counts,
--- prices and masks" in a refusal "are zero", and the output is untouched
-pub record Reduces (w l : List ℕ) (m : Reduction) (before : List ℕ) (given : Answer) (mask after : List ℕ) : Type 0 where
-  pub refusal : told-answer given ≡ answer (reduction-checks w l (length before))
-  pub tally : told-tally given ≡ unless-refused (answer (reduction-checks w l (length before))) (tally-left w l m) nothing
-  pub told-by : mask ≡ unless-refused (answer (reduction-checks w l (length before))) (mask-words m) (replicate mask-length 0)
-  pub output : after ≡ unless-refused (answer (reduction-checks w l (length before))) (output-left l m before) before
+-- prices and masks" in a refusal "are zero", and the output is untouched. The first of the checks that fires refuses.
+pub record Answers (checks : List Check) (w l : List ℕ) (m : Reduction) (before : List ℕ) (given : Answer) (mask after : List ℕ) : Type 0 where
+  pub refusal : told-answer given ≡ answer checks
+  pub tally : told-tally given ≡ unless-refused (answer checks) (tally-left w l m) nothing
+  pub told-by : mask ≡ unless-refused (answer checks) (mask-words m) (replicate mask-length 0)
+  pub output : after ≡ unless-refused (answer checks) (output-left l m before) before
+
+-- such a service with refusals 1 to 11
+abbrev pub Reduces : List ℕ → List ℕ → Reduction → List ℕ → Answer → List ℕ → List ℕ → Type 0
+Reduces w l m before given mask after = Answers (reduction-checks w l (length before)) w l m before given mask after

@@ -2,7 +2,7 @@
 use mathlib.Core.Path.{sym}
 use Rattle.reduced.proofs.ChecksLaws.{readable, valid-start}
 use Rattle.elimination.proofs.LeavesLaws.{greedy-leaves}
-use Rattle.reduced.proofs.AnswerLaws.{reduces-refused, reduces-kept}
+use Rattle.reduced.proofs.AnswerLaws.{answers-refused, answers-kept}
 use borrow.Author.Needs.{needs}
 use Rattle.elimination.proofs.service.eliminate_greedily.Statement.{statement}
 use Rattle.elimination.proofs.service.eliminate_greedily.Tie as tie
@@ -17,7 +17,7 @@ refused-requires : tie.Need-refused-requires
 refused-requires c κs = search needs
 
 returns : tie.Need-returns
-returns c = rw (c .refused .ensures .0, c .refused .ensures .1) (reduces-refused _ _ _ _ _ _ (c .before .before .before .before .check-reduction .ensures) (c .before .before .verdict .given .1))
+returns c = rw (c .refused .ensures .0, c .refused .ensures .1) (answers-refused _ _ _ _ _ _ (c .before .before .before .before .check-reduction .ensures) _ (c .before .before .verdict .given .1))
 
 enum-told : tie.Need-enum-told
 enum-told c = search needs
@@ -41,7 +41,7 @@ same-length : tie.Need-same-length
 same-length c = search needs
 
 returns-2 : tie.Need-returns-2
-returns-2 c = let passed = c .before .before .before .before .before .before .before in let checked = passed .before .before .check-reduction .ensures in rw (c .told .ensures .0, c .told .ensures .1) (reduces-kept _ _ _ _ _ _ _ _ _ checked (passed .enum-told .given .1) (greedy-leaves _ _ _ _ checked (passed .enum-told .given .1) _ (c .before .before .before .before .before .before .greedy .ensures) .same) (c .before .before .before .finish .ensures))
+returns-2 c = let passed = c .before .before .before .before .before .before .before in let checked = passed .before .before .check-reduction .ensures in rw (c .told .ensures .0, c .told .ensures .1) (answers-kept _ _ _ _ _ _ checked _ _ _ _ (passed .enum-told .given .1) (greedy-leaves _ _ _ _ checked (passed .enum-told .given .1) _ (c .before .before .before .before .before .before .greedy .ensures) .same) (c .before .before .before .finish .ensures))
 
 pub eliminate-greedily-spec : {M : Type 1} → statement M
 eliminate-greedily-spec =

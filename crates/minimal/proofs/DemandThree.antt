@@ -1,0 +1,113 @@
+-- Demand 3: what the service of the exact reduction answers and writes meets its one statement. The checks 1 to 11 pass a plan that can be read, and an
+-- output with room for it, so that only the number of unmarked steps decides; the theorems of `reduction` and `exact` do the rest. Nothing here is about the
+-- code: its contract cites the same definitions. Assumes nothing.
+use Prim.Native.Nat.{ℕ, _≤_, _<_}
+use native.Mathlib.Omega.{arith}
+use mathlib.Core.Path.{_≡_, refl, sym, _∙_}
+use mathlib.Core.Bool.{Bool, true, false}
+use mathlib.Core.Option.{none, some, Option·some-ne-none}
+use mathlib.Core.List.{List, [], _∷_, _++_}
+use lib.ListN.{length, length-map}
+use lib.Dec.{ltb}
+use borrow.Author.Tests.{lt-ltb, le-ltb, ltb-true, ltb-false}
+use Rattle.common.specs.Refusal.{Told}
+use Rattle.common.specs.Check.{answer}
+use Rattle.common.proofs.CheckLaws.{none-fires, answer-fires, answer-passes, answer-nothing, answer-second, first-none}
+use Rattle.sas.specs.Plan.{Plan}
+use Rattle.reduction.specs.Reduction.{Reduction, kept, count, valid}
+use Rattle.reduction.proofs.ValidLaws.{plan-valid}
+use Rattle.reduction.proofs.ReductionLaws.{kept-length, left-length, reduced-plan}
+use Rattle.reduction.proofs.LandmarkTheorem.{landmarks-length, flagged-just-marked, landmark-kept}
+use Rattle.exact.specs.Exact.{Exact}
+use Rattle.exact.proofs.ExactTheorem.{exact-found}
+use Rattle.mask.specs.Mask.{mask-bits}
+use Rattle.mask.proofs.MaskTheorem.{front-and-rest}
+use Rattle.task.specs.Decode.{goal, initial, action, task}
+use Rattle.task.specs.Causes.{sheet-checks, Accepted}
+use Rattle.plan.specs.declared.check.Answer.{Answer}
+use Rattle.plan.specs.Valid.{steps}
+use Rattle.plan.specs.Checked.{list-checks, valid-checks, plan-checks, told-answer, told-tally}
+use Rattle.plan.proofs.PlanTheorem.{Readable, plan-theorem}
+use Rattle.reduced.specs.Reduced.{room-check, reduction-checks, unless-refused}
+use Rattle.minimal.specs.Minimal.{unmarked, unmarked-check, exact-checks, exact-of, Shortens}
+use Rattle.minimal.specs.Statement.{Answered, Refused-unmarked, Demand-three-of, Demand-three}
+
+module _ (w l : List ℕ) (readable : Readable w l) (plan : Plan (task w) (steps w l)) where
+  valid-list : valid (initial w) (goal w) (steps w l) ≡ true
+  unfolding task
+  valid-list = plan-valid (task w) (steps w l) plan
+
+  is-exact : Exact (initial w) (goal w) (steps w l) (exact-of w l)
+  is-exact = exact-found (initial w) (goal w) (steps w l) valid-list
+
+  fits : length (exact-of w l) ≡ length l
+  fits = is-exact .valid .fits ∙ length-map l (action w)
+
+  plan-left : Plan (task w) (kept (exact-of w l) (steps w l))
+  unfolding task
+  plan-left = reduced-plan (task w) (steps w l) (exact-of w l) plan (is-exact .valid)
+
+  -- the checks 1 to 11 pass
+  checks-pass : (room : ℕ) → length l ≤ room → answer (reduction-checks w l room) ≡ none
+  unfolding reduction-checks plan-checks
+  checks-pass room roomy =
+      let passes : answer (plan-checks w l) ≡ none = plan-theorem w l readable .plan-passes plan in
+      let behind : answer (list-checks w l ++ valid-checks w l) ≡ none = sym (answer-second (sheet-checks w) _ (readable .accepted)) ∙ passes in
+      let listed : answer (list-checks w l) ≡ none = first-none (list-checks w l) (valid-checks w l) _ behind refl in
+      let last : answer (valid-checks w l) ≡ none = sym (answer-second (list-checks w l) _ listed) ∙ behind in
+      answer-second (sheet-checks w) _ (readable .accepted) ∙ answer-second (list-checks w l) _ listed
+      ∙ answer-passes (room-check l room) (valid-checks w l) (rw (le-ltb room (length l) roomy)) ∙ last
+
+  module _ (limit : ℕ) (before : List ℕ) (roomy : length l ≤ length before) (given : Answer) (mask after : List ℕ) (shortens : Shortens limit w l before given mask after) where
+    only-unmarked : answer (exact-checks limit w l (length before)) ≡ answer (unmarked-check limit w l ∷ [])
+    unfolding exact-checks
+    only-unmarked = answer-second (reduction-checks w l (length before)) _ (checks-pass (length before) roomy)
+
+    few-pass : unmarked w l ≤ limit → answer (exact-checks limit w l (length before)) ≡ none
+    few-pass h = only-unmarked ∙ answer-passes (unmarked-check limit w l) [] (rw (le-ltb limit (unmarked w l) h)) ∙ answer-nothing
+
+    many-refused : limit < unmarked w l → answer (exact-checks limit w l (length before)) ≡ some (record { number = 12; place = unmarked w l })
+    many-refused h = only-unmarked ∙ answer-fires (unmarked-check limit w l) [] (unmarked w l) (rw (lt-ltb limit (unmarked w l) h))
+
+    answered : unmarked w l ≤ limit → Answered w l before given mask after
+    answered h =
+        let passes : answer (exact-checks limit w l (length before)) ≡ none = few-pass h in
+        let long : length (exact-of w l) ≤ mask-bits = omega (arith, fits, readable .few) in
+        let room : count (exact-of w l) ≤ length before = omega (arith, kept-length (exact-of w l) l fits, left-length (exact-of w l) l fits) in
+        record {
+          answers = shortens .refusal ∙ passes;
+          exact = is-exact;
+          plan-left = plan-left;
+          tally = rw passes at (shortens .tally);
+          told-by = rw passes at (shortens .told-by);
+          output = rw passes at (shortens .output) ∙ front-and-rest (exact-of w l) l long fits before room;
+        }
+
+    refused : limit < unmarked w l → Refused-unmarked w l before given mask after
+    refused h =
+        let refuses : answer (exact-checks limit w l (length before)) ≡ some (record { number = 12; place = unmarked w l }) = many-refused h in
+        record {
+          refuses = shortens .refusal ∙ refuses;
+          tally = rw refuses at (shortens .tally);
+          told-by = rw refuses at (shortens .told-by);
+          output = rw refuses at (shortens .output);
+        }
+
+    only-then : (t : Told) → told-answer given ≡ some t → limit < unmarked w l
+    only-then t h = by-case (ltb limit (unmarked w l)) refl
+      where
+        by-case : (b : Bool) → ltb limit (unmarked w l) ≡ b → limit < unmarked w l
+        by-case true e = ltb-true limit (unmarked w l) e
+        by-case false e = absurd (Option·some-ne-none t (sym h ∙ shortens .refusal ∙ few-pass (ltb-false limit (unmarked w l) e)))
+
+pub demand-three : (limit : ℕ) (w l before : List ℕ) (given : Answer) (mask after : List ℕ) → Shortens limit w l before given mask after
+    → Demand-three limit w l before given mask after
+demand-three limit w l before given mask after shortens readable plan roomy =
+    record {
+      marked-kept = λ m v i marked. landmark-kept v marked;
+      marks = flagged-just-marked (initial w) (goal w) (steps w l);
+      flagged = landmarks-length (initial w) (goal w) (steps w l) ∙ length-map l (action w);
+      answered = answered w l readable plan limit before roomy given mask after shortens;
+      refused = refused w l readable plan limit before roomy given mask after shortens;
+      only-then = only-then w l readable plan limit before roomy given mask after shortens;
+    }
