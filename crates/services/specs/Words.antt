@@ -6,7 +6,7 @@ use mathlib.Core.List.{List, [], _∷_, _++_}
 use lib.ListN.{length, replicate}
 use lib.Seq.{sets}
 use Rattle.common.specs.Refusal.{Told}
-use Rattle.common.specs.Check.{answer}
+use Rattle.common.specs.Check.{Check, answer}
 use Rattle.tally.specs.declared.Tally.{Tally}
 use Rattle.tally.specs.declared.Order.{Order}
 use Rattle.tally.specs.declared.Order.the-variants.{Less, Equal, Greater}
@@ -15,6 +15,7 @@ use Rattle.reduction.specs.Reduction.{Reduction}
 use Rattle.mask.specs.Mask.{mask-length, mask-words}
 use Rattle.reduced.specs.Reduced.{reduction-checks, unless-refused, tally-left, output-left}
 use Rattle.elimination.specs.Eliminations.{elimination-of, greedy-elimination-of}
+use Rattle.minimal.specs.Minimal.{most-unmarked, exact-checks, exact-of}
 use Rattle.task.specs.Limits.{limits}
 use Rattle.task.specs.Layout.{word}
 use Rattle.task.specs.Decode.{table}
@@ -41,12 +42,20 @@ order-number Greater = 2
 unfoldable pub lent-state : List ℕ → List ℕ
 lent-state words = table (word words) 0 (limits .variables)
 
--- the reduction m of the list l over lent words: the list left over `output`, the mask over `mask`, the answer and the tally over `out`
-pub record Reduces-lent (w l : List ℕ) (m : Reduction) (output output′ mask mask′ out out′ : List ℕ) : Type 0 where
-  pub list-left : output′ ≡ unless-refused (answer (reduction-checks w l (length output))) (output-left l m output) output
-  pub told-by : mask′ ≡ sets mask 0 (unless-refused (answer (reduction-checks w l (length output))) (mask-words m) (replicate mask-length 0))
-  pub answered : out′ ≡ sets out 0 (answer-words (answer (reduction-checks w l (length output)))
-      ++ tally-words (unless-refused (answer (reduction-checks w l (length output))) (tally-left w l m) nothing))
+-- the reduction m of the list l over lent words, from a service with these checks: the list left over `output`, the mask over `mask`, the answer and the
+-- tally over `out`
+pub record Answers-lent (checks : List Check) (w l : List ℕ) (m : Reduction) (output output′ mask mask′ out out′ : List ℕ) : Type 0 where
+  pub list-left : output′ ≡ unless-refused (answer checks) (output-left l m output) output
+  pub told-by : mask′ ≡ sets mask 0 (unless-refused (answer checks) (mask-words m) (replicate mask-length 0))
+  pub answered : out′ ≡ sets out 0 (answer-words (answer checks) ++ tally-words (unless-refused (answer checks) (tally-left w l m) nothing))
+
+-- an elimination over lent words
+abbrev pub Reduces-lent : List ℕ → List ℕ → Reduction → List ℕ → List ℕ → List ℕ → List ℕ → List ℕ → List ℕ → Type 0
+Reduces-lent w l m output = Answers-lent (reduction-checks w l (length output)) w l m output
+
+-- the exact reduction over lent words
+abbrev pub Shortens-lent : List ℕ → List ℕ → List ℕ → List ℕ → List ℕ → List ℕ → List ℕ → List ℕ → Type 0
+Shortens-lent w l output = Answers-lent (exact-checks most-unmarked w l (length output)) w l (exact-of w l) output
 
 -- both eliminations over lent words
 pub record Reduces-both-lent (w l first first′ second second′ out out′ : List ℕ) : Type 0 where

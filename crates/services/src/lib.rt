@@ -15,6 +15,7 @@ use elimination::both::kept_part;
 use elimination::service::eliminate_greedily;
 use elimination::service::eliminate_plan;
 use landmark::masked::marks_mask;
+use minimal::service::minimal_reduction;
 use plan::check::check_plan;
 use step::one::step;
 use tally::Order;
@@ -32,7 +33,7 @@ ghost use Rattle.plan.specs.Checked.{plan-checks, tally-of as plan-tally, end-s
 ghost use Rattle.mask.specs.Mask.{mask-words};
 ghost use Rattle.landmark.specs.Marks.{marks-of};
 ghost use Rattle.elimination.specs.Eliminations.{elimination-of, greedy-elimination-of, cheaper-part};
-ghost use Rattle.services.specs.Words.{answer-words, tally-of, tally-words, order-number, lent-state, Reduces-lent, Reduces-both-lent};
+ghost use Rattle.services.specs.Words.{answer-words, tally-of, tally-words, order-number, lent-state, Reduces-lent, Shortens-lent, Reduces-both-lent};
 
 // Checks a task: the number and the place of its refusal go to `out`, or 0 and 0.
 #[no_mangle]
@@ -154,6 +155,25 @@ pub extern "C" fn hollchiku_greedy(
     ensures { λ _. ⌜ Reduces-lent (now (words .entry)) (now (plan .entry)) (greedy-elimination-of (now (words .entry)) (now (plan .entry))) (now (output .entry)) (now (output .exit)) (now (mask .entry)) (now (mask .exit)) (now (out .entry)) (now (out .exit)) ⌝ }
 {
     let reduced = eliminate_greedily(words, plan, output);
+    let given = reduced.answer;
+    let kept = reduced.mask;
+    let bits = kept.words;
+    write_wide(mask, &bits);
+    write_answer(out, given);
+}
+
+// The minimal reduction, in the same form.
+#[no_mangle]
+pub extern "C" fn hollchiku_exact(
+    words: &[u32],
+    plan: &[u32],
+    output: &mut [u32],
+    mask: &mut [u64],
+    out: &mut [u64],
+)
+    ensures { λ _. ⌜ Shortens-lent (now (words .entry)) (now (plan .entry)) (now (output .entry)) (now (output .exit)) (now (mask .entry)) (now (mask .exit)) (now (out .entry)) (now (out .exit)) ⌝ }
+{
+    let reduced = minimal_reduction(words, plan, output);
     let given = reduced.answer;
     let kept = reduced.mask;
     let bits = kept.words;
