@@ -84,6 +84,11 @@ static GREEDY: Service = Service {
     name: "greedy",
     ..ELIMINATE
 };
+static EXACT: Service = Service {
+    name: "exact",
+    answers: &[0, 1, 2, 3, 4, 5, 6, 7, 8, 9, 10, 11, 12],
+    ..ELIMINATE
+};
 static CHEAPER: Service = Service {
     name: "cheaper",
     out_words: 6,
@@ -97,7 +102,7 @@ static KEPT_PART: Service = Service {
     ..PLAIN
 };
 
-pub static SERVICES: [&Service; 10] = [
+pub static SERVICES: [&Service; 11] = [
     &CHECK_SHEET,
     &STEP,
     &CHECK_PLAN,
@@ -106,6 +111,7 @@ pub static SERVICES: [&Service; 10] = [
     &MARKS,
     &ELIMINATE,
     &GREEDY,
+    &EXACT,
     &CHEAPER,
     &KEPT_PART,
 ];
@@ -120,6 +126,7 @@ pub enum Call {
     Marks,
     Eliminate,
     Greedy,
+    Exact,
     Cheaper,
     KeptPart { tallies: [Tally; 2] },
 }
@@ -135,6 +142,7 @@ impl Call {
             Call::Marks => &MARKS,
             Call::Eliminate => &ELIMINATE,
             Call::Greedy => &GREEDY,
+            Call::Exact => &EXACT,
             Call::Cheaper => &CHEAPER,
             Call::KeptPart { .. } => &KEPT_PART,
         }

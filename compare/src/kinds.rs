@@ -125,6 +125,7 @@ fn random_plan_call(random: &mut Random) -> Call {
         Call::Marks,
         Call::Eliminate,
         Call::Greedy,
+        Call::Exact,
         Call::Cheaper,
     ])
 }

@@ -16,7 +16,10 @@ mod plans;
 mod random;
 mod report;
 mod rules;
+mod search;
 mod sheets;
+#[cfg(stand_in)]
+mod stand_in;
 mod worked;
 
 use cases::{Case, SERVICES};

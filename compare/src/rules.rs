@@ -3,16 +3,18 @@
 
 mod cheaper;
 mod elimination;
+mod exact;
 mod marks;
 mod task;
 
 pub use cheaper::{cheaper, kept_part};
 pub use elimination::{eliminate, greedy, Kept};
+pub use exact::exact;
 pub use marks::marks;
-pub use task::check_sheet;
+pub use task::{check_sheet, Action};
 
 use std::cmp::Ordering;
-use task::{Action, Task};
+use task::Task;
 
 pub const EDITION: usize = 1;
 pub const MAX_WORDS: usize = 8_192;
@@ -22,6 +24,8 @@ pub const MAX_DOMAIN: usize = 256;
 pub const MAX_ACTION_COST: usize = 1_000_000;
 pub const MAX_STEPS: usize = 255;
 pub const MAX_TALLY_COST: usize = 255_000_000;
+/// The most unmarked steps that the exact reduction takes.
+pub const MAX_UNMARKED: usize = 20;
 
 /// A fact is variable × 256 + value: every value of the largest domain fits below the variable.
 pub const FACT_BASE: usize = MAX_DOMAIN;
@@ -56,6 +60,7 @@ pub enum Cause {
     UnknownAction = 9,
     ShortOutput = 10,
     NotValid = 11,
+    Unmarked = 12,
 }
 
 #[derive(Clone, Copy)]
@@ -73,13 +78,13 @@ fn refuse(cause: Cause, first: Option<usize>) -> Result<(), Refusal> {
 pub type State = [u32; MAX_VARIABLES];
 
 /// The variable and the value of a fact.
-fn split(fact: u32) -> (usize, u32) {
+pub fn split(fact: u32) -> (usize, u32) {
     let base = FACT_BASE as u32;
     ((fact / base) as usize, fact % base)
 }
 
 /// A fact holds by equality of the whole value, which may be outside the domain.
-fn all_hold(facts: &[u32], state: &State) -> bool {
+pub fn all_hold(facts: &[u32], state: &State) -> bool {
     facts.iter().all(|&fact| {
         let (variable, value) = split(fact);
         state[variable] == value
@@ -87,7 +92,7 @@ fn all_hold(facts: &[u32], state: &State) -> bool {
 }
 
 /// Does the step, unless a precondition fails: then the state stays and the answer is false.
-fn do_step(action: Action, state: &mut State) -> bool {
+pub fn do_step(action: Action, state: &mut State) -> bool {
     let can_be_done = all_hold(action.preconditions, state);
     if can_be_done {
         for &effect in action.effects {
@@ -126,16 +131,16 @@ pub fn check_plan(words: &[u32], plan: &[u32]) -> Result<Run, Refusal> {
 }
 
 /// A valid plan of a task, as the actions of its steps, and its end state.
-struct Lodged<'a> {
-    task: Task<'a>,
-    actions: Vec<Action<'a>>,
+pub struct Lodged<'a> {
+    pub task: Task<'a>,
+    pub actions: Vec<Action<'a>>,
     end: State,
 }
 
 impl<'a> Lodged<'a> {
     /// Refusals 1 to 11; 10 is for services with outputs, whose lengths are passed. Positions in
     /// the plan count from 1.
-    fn check(words: &'a [u32], plan: &[u32], outputs: &[usize]) -> Result<Self, Refusal> {
+    pub fn check(words: &'a [u32], plan: &[u32], outputs: &[usize]) -> Result<Self, Refusal> {
         let task = check_sheet(words)?;
         let steps = plan.len();
         let too_long = steps > MAX_STEPS;

@@ -1,5 +1,5 @@
-//! Marks, both eliminations and the cheaper of their results, on plans that hold much to strike and
-//! on plans that hold little.
+//! Marks, the three ways of striking and the cheaper of both eliminations, on plans that hold much
+//! to strike and on plans that hold little.
 
 use super::{plan_case, plan_case_with, valid_plan_call, Make, QUICK_STEPS};
 use crate::answered::{self, Answered};
@@ -143,6 +143,10 @@ fn answered_case(random: &mut Random, answered: &Answered) -> Case {
     let Answered { task, plan, .. } = answered;
     let call = valid_plan_call(random, plan.len());
     let case = plan_case(random, call, task.words(), plan.clone());
+    let unmarked = plan.len() - answered.marked.len();
+    if matches!(call, Call::Exact) && unmarked > rules::MAX_UNMARKED {
+        return case.refused(Cause::Unmarked, unmarked);
+    }
     let due = match call {
         Call::Marks => Due {
             out: accepted_out(&[]),
@@ -150,7 +154,7 @@ fn answered_case(random: &mut Random, answered: &Answered) -> Case {
             ..Due::default()
         },
         Call::Eliminate => reduction_due(answered, &answered.eliminated, &case),
-        Call::Greedy => reduction_due(answered, &answered.greedy, &case),
+        Call::Greedy | Call::Exact => reduction_due(answered, &answered.greedy, &case),
         Call::Cheaper => cheaper_due(answered, &case),
         _ => Due {
             out: accepted_out(&counts(answered, plan)),
@@ -210,7 +214,7 @@ fn random_walk(random: &mut Random) -> Walk {
 /// One output is shorter than the plan or both are; what is kept may well fit.
 fn short_case(random: &mut Random, walk: &Walk) -> Case {
     let steps = walk.plan.len();
-    let call = random.pick(&[Call::Eliminate, Call::Greedy, Call::Cheaper]);
+    let call = random.pick(&[Call::Eliminate, Call::Greedy, Call::Exact, Call::Cheaper]);
     let mut outputs = [(); 2].map(|_| random.size(0..=2 * steps));
     let short = random.index(call.service().outputs);
     outputs[short] = random.pick(&[steps - 1, outputs[short] % steps]);

@@ -5,7 +5,7 @@ use crate::cases::{Call, ABOVE, BELOW, EQUAL, LEFT, OF_FIRST, OF_SECOND, TAKEN};
 use crate::rules::{self, Kept, Refusal, State, Tally};
 use std::cmp::Ordering;
 
-/// A way of elimination: the sheet, the plan, and the length of the output.
+/// A way of striking: the sheet, the plan, and the length of the output.
 type Reduce = fn(&[u32], &[u32], usize) -> Result<Kept, Refusal>;
 
 impl Memory {
@@ -20,6 +20,7 @@ impl Memory {
             Call::Marks => self.marks(),
             Call::Eliminate => self.reduce(rules::eliminate),
             Call::Greedy => self.reduce(rules::greedy),
+            Call::Exact => self.reduce(rules::exact),
             Call::Cheaper => self.cheaper(),
             Call::KeptPart { tallies } => self.kept_part(tallies),
         }
