@@ -126,7 +126,10 @@ fn task_of(ways: &[Vec<Action>]) -> Task {
 }
 
 /// A plan of all the lanes, each in its order, and the indices that the steps of each lane have.
-fn laid_into_each_other(random: &mut Random, lanes: &[Vec<u32>]) -> (Vec<u32>, Vec<Vec<usize>>) {
+pub fn laid_into_each_other(
+    random: &mut Random,
+    lanes: &[Vec<u32>],
+) -> (Vec<u32>, Vec<Vec<usize>>) {
     let all = lanes.iter().map(Vec::len).sum();
     let mut plan = Vec::new();
     let mut places = vec![Vec::new(); lanes.len()];

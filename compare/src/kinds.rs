@@ -1,5 +1,6 @@
 //! The kinds of cases that are tried, and what they share: calls with buffers of many lengths.
 
+mod exact;
 mod part;
 mod plan;
 mod reduction;
@@ -29,6 +30,7 @@ pub fn all() -> Vec<Kind> {
         step::KINDS,
         tally::KINDS,
         reduction::KINDS,
+        exact::KINDS,
         part::KINDS,
     ];
     let others = others

@@ -6,6 +6,7 @@ mod answered;
 mod bench;
 mod cases;
 mod cycles;
+mod families;
 mod faults;
 mod kinds;
 mod layout;
