@@ -18,6 +18,7 @@ mod random;
 mod report;
 mod rules;
 mod search;
+mod self_test;
 mod sheets;
 #[cfg(stand_in)]
 mod stand_in;
@@ -45,15 +46,20 @@ fn main() -> ExitCode {
     };
     let passed = match options {
         Options::Bench => bench::run(),
-        Options::SelfTest => compare(|comparison| comparison.try_worked(false)),
+        Options::SelfTest { seed } => {
+            compare(|comparison| comparison.try_worked(false)) && self_test::run(seed)
+        }
         Options::One { seed, case } => {
             compare(|comparison| comparison.try_random(seed, case..=case))
         }
-        Options::All { seed, cases } => compare(|comparison| {
-            comparison.try_worked(true);
-            comparison.try_random(seed, 1..=cases);
-            comparison.print_answers();
-        }),
+        Options::All { seed, cases } => {
+            self_test::run(seed)
+                && compare(|comparison| {
+                    comparison.try_worked(true);
+                    comparison.try_random(seed, 1..=cases);
+                    comparison.print_answers();
+                })
+        }
     };
     if passed {
         ExitCode::SUCCESS

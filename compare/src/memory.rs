@@ -2,6 +2,9 @@
 //! of which answers a call in memory of its own.
 
 mod by_rules;
+mod faulty;
+
+pub use faulty::FAULTS;
 
 use crate::cases::{Call, Case, Due};
 use crate::library;

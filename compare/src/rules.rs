@@ -9,7 +9,7 @@ mod task;
 
 pub use cheaper::{cheaper, kept_part};
 pub use elimination::{eliminate, greedy, Kept};
-pub use exact::exact;
+pub use exact::{count, exact, steps_of};
 pub use marks::marks;
 pub use task::{check_sheet, Action};
 

@@ -1,6 +1,7 @@
 //! The worked lists of document 01 and the numbers at its limits, with the answers written out by
 //! hand from its text: they hold the independent version to the document.
 
+mod exact;
 mod reductions;
 
 use crate::cases::{Call, Case, Due, ABOVE, BELOW, EQUAL};
@@ -43,6 +44,8 @@ pub fn cases() -> Vec<Worked> {
     cases.extend(reductions::longest());
     cases.extend(reductions::refusals());
     cases.extend(reductions::kept_parts());
+    cases.extend(exact::lists());
+    cases.extend(exact::refusals());
     cases
 }
 
@@ -61,11 +64,6 @@ fn worked_lists() -> Vec<Worked> {
 
 /// List 11, and the cost of the dearest plan.
 fn limits() -> Vec<Worked> {
-    let with_lamp_cost = |cost| {
-        let mut words = SHEET_P;
-        words[LAMP_COST] = cost;
-        words
-    };
     let dear = with_lamp_cost(1_000_000);
     let too_dear = with_lamp_cost(1_000_001);
     let steps_255 = check_plan(&SHEET_P, &lamps_then_drain(255));
@@ -86,6 +84,12 @@ fn limits() -> Vec<Worked> {
             dearest_plan.accepted(&[255_000_000, 255], &state(&[])),
         ),
     ]
+}
+
+fn with_lamp_cost(cost: u32) -> [u32; 41] {
+    let mut words = SHEET_P;
+    words[LAMP_COST] = cost;
+    words
 }
 
 /// The second state has values outside the domains.

@@ -8,6 +8,7 @@ use crate::families::{Family, Made, Shape, FAMILIES, PLACEMENTS};
 use crate::plans::{random_step, Walk};
 use crate::random::Random;
 use crate::rules::{self, Cause};
+use crate::sheets::{Action, Fact, Task};
 use std::ops::RangeInclusive;
 
 pub const KINDS: &[(&str, Make)] = &[
@@ -15,6 +16,7 @@ pub const KINDS: &[(&str, Make)] = &[
     ("exact: several writers of each goal", of_writers),
     ("exact: overlapping covers", of_covers),
     ("exact: gates opened and shut", of_gates),
+    ("exact: one step for several", with_one_for_all),
     ("exact: 20 unmarked", with_most_unmarked),
     ("exact: 21 unmarked", with_one_too_many),
     ("exact: over 20 unmarked", with_too_many),
@@ -28,15 +30,19 @@ pub const KINDS: &[(&str, Make)] = &[
 
 /// Numbers of steps at which a word of a mask ends, beside them, and the ends.
 const LENGTHS: [usize; 9] = [0, 1, 63, 64, 65, 127, 128, 129, rules::MAX_STEPS];
+const SHORT: usize = 10;
 /// Numbers of unmarked steps that don't take long.
 const FEW_UNMARKED: usize = 8;
 /// One case in so many has any number of unmarked steps.
 const SELDOM: usize = 16;
+/// One case in so many has 20 that the rules take long over.
+const VERY_SELDOM: usize = 128;
 
 fn random_shape(random: &mut Random, family: Family) -> Shape {
-    let any = random.size(0..=2 * rules::MAX_UNMARKED);
+    let few = random.size(0..=SHORT);
+    let more = random.size(0..=2 * rules::MAX_UNMARKED);
     let edge = random.pick(&LENGTHS);
-    let steps = random.pick(&[any, edge]);
+    let steps = random.pick(&[few, more, edge]);
     // A gate has a marked step with each four that are not.
     let room = steps * 4 / 5;
     let most = match random.once_in(SELDOM) {
@@ -48,13 +54,13 @@ fn random_shape(random: &mut Random, family: Family) -> Shape {
         placement: random.pick(&PLACEMENTS),
         steps,
         unmarked: random.size(0..=most.min(room)),
-        costs: random_costs(random),
+        costs: random_costs(random, rules::MAX_ACTION_COST),
     }
 }
 
 /// Costs that are alike, often alike, or seldom; the dearest among them.
-fn random_costs(random: &mut Random) -> RangeInclusive<u32> {
-    let most = rules::MAX_ACTION_COST as u32;
+fn random_costs(random: &mut Random, most: usize) -> RangeInclusive<u32> {
+    let most = most as u32;
     let lowest = random.pick(&[0, 0, 1, most - 1]);
     let width = random.pick(&[0, 1, 3, 100, most]);
     lowest..=(lowest + width).min(most)
@@ -102,9 +108,42 @@ fn of_gates(random: &mut Random) -> Option<Case> {
     of_family(random, Family::Gates)
 }
 
-/// A plan of at least as many steps as it takes for so many unmarked ones, if it has room for them.
-fn with_unmarked(random: &mut Random, unmarked: usize) -> Option<Made> {
-    let family = random.pick(&FAMILIES);
+/// Steps that each give one goal fact, and one step that costs as much as they all and gives all: it
+/// is kept, since it is fewer.
+fn with_one_for_all(random: &mut Random) -> Option<Case> {
+    let goals = random.size(2..=6);
+    let costs = random_costs(random, rules::MAX_ACTION_COST / goals);
+    let goal: Vec<Fact> = (0..goals)
+        .map(|variable| Fact { variable, value: 1 })
+        .collect();
+    let action = |cost, effects: &[Fact]| Action {
+        cost,
+        preconditions: Vec::new(),
+        effects: effects.to_vec(),
+    };
+    let mut actions: Vec<Action> = goal
+        .iter()
+        .map(|&fact| action(random.within(costs.clone()), &[fact]))
+        .collect();
+    let cost_of_all = actions.iter().map(|action| action.cost).sum();
+    let one = random.index(goals + 1);
+    actions.insert(one, action(cost_of_all, &goal));
+    let made = Made {
+        plan: (0..actions.len() as u32).collect(),
+        kept: Some(vec![one]),
+        task: Task {
+            sizes: vec![2; goals],
+            start: vec![0; goals],
+            goal,
+            actions,
+        },
+    };
+    Some(case_of(random, &made))
+}
+
+/// A plan with so many unmarked steps, if there is room for them.
+fn with_unmarked(random: &mut Random, families: &[Family], unmarked: usize) -> Option<Made> {
+    let family = random.pick(families);
     let shape = random_shape(random, family);
     let shape = Shape { unmarked, ..shape };
     (shape.steps * 4 / 5 >= unmarked).then(|| shape.make(random))
@@ -112,24 +151,23 @@ fn with_unmarked(random: &mut Random, unmarked: usize) -> Option<Made> {
 
 /// Lamps are the only ones that don't take long.
 fn with_most_unmarked(random: &mut Random) -> Option<Case> {
-    let shape = random_shape(random, Family::Lamps);
-    let unmarked = rules::MAX_UNMARKED;
-    if shape.steps < unmarked {
-        return None;
-    }
-    let made = Shape { unmarked, ..shape }.make(random);
+    let families = match random.once_in(VERY_SELDOM) {
+        true => &FAMILIES[..],
+        false => &[Family::Lamps],
+    };
+    let made = with_unmarked(random, families, rules::MAX_UNMARKED)?;
     Some(case_of(random, &made))
 }
 
 fn with_one_too_many(random: &mut Random) -> Option<Case> {
     let unmarked = rules::MAX_UNMARKED + 1;
-    let made = with_unmarked(random, unmarked)?;
+    let made = with_unmarked(random, &FAMILIES, unmarked)?;
     Some(case_of(random, &made).refused(Cause::Unmarked, unmarked))
 }
 
 fn random_too_many(random: &mut Random) -> Option<(Made, usize)> {
     let unmarked = random.size(rules::MAX_UNMARKED + 1..=rules::MAX_STEPS);
-    Some((with_unmarked(random, unmarked)?, unmarked))
+    Some((with_unmarked(random, &FAMILIES, unmarked)?, unmarked))
 }
 
 fn with_too_many(random: &mut Random) -> Option<Case> {

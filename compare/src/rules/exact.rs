@@ -23,11 +23,15 @@ impl<'a> Lodged<'a> {
     /// Refusals 1 to 12.
     pub fn check_unmarked(words: &'a [u32], plan: &[u32], output: usize) -> Result<Self, Refusal> {
         let lodged = Lodged::check(words, plan, &[output])?;
-        let marked: u32 = lodged.marked().iter().map(|word| word.count_ones()).sum();
-        let unmarked = plan.len() - marked as usize;
+        let unmarked = lodged.unmarked();
         let too_many = unmarked > MAX_UNMARKED;
         refuse(Cause::Unmarked, too_many.then_some(unmarked))?;
         Ok(lodged)
+    }
+
+    pub fn unmarked(&self) -> usize {
+        let marked: u32 = self.marked().iter().map(|word| word.count_ones()).sum();
+        self.actions.len() - marked as usize
     }
 
     /// The exact reduction as the steps that it keeps, found among all reductions: a reduction is

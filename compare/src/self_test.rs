@@ -1,0 +1,76 @@
+//! Tests the comparison itself, without the library: the ways of finding the exact reduction are
+//! held to each other, and exact reductions with a fault must be found out.
+
+use crate::cases::{Call, Case};
+use crate::kinds;
+use crate::memory::{Memory, FAULTS};
+use crate::print_count;
+use crate::random::Random;
+use crate::rules::Lodged;
+use crate::worked;
+
+/// All reductions of plans of at most so many steps are gone through.
+const FEW_STEPS: usize = 12;
+/// The random cases that are made; those of other services are passed over.
+const CASES_FOR_WAYS: u64 = 60_000;
+const CASES_FOR_FAULTS: u64 = 4_000;
+
+/// Answers whether nothing failed.
+pub fn run(seed: u64) -> bool {
+    let alike = ways_are_alike(seed);
+    alike && faults_are_found(seed)
+}
+
+/// The cases of the exact reduction among random ones, with their numbers.
+fn exact_cases(seed: u64, cases: u64) -> impl Iterator<Item = (u64, Case)> {
+    let kinds = kinds::all();
+    let cases = (1..=cases).map(move |number| {
+        let kind = kinds[(number % kinds.len() as u64) as usize];
+        (number, kind.make(&mut Random::of_case(seed, number)))
+    });
+    cases.filter(|(_, case)| matches!(case.call, Call::Exact))
+}
+
+fn ways_are_alike(seed: u64) -> bool {
+    let mut tried = 0;
+    for (number, case) in exact_cases(seed, CASES_FOR_WAYS) {
+        let (words, plan) = (&case.words, &case.plan);
+        let checked = Lodged::check_unmarked(words, plan, case.first.len());
+        let Some(lodged) = checked.ok().filter(|_| plan.len() <= FEW_STEPS) else {
+            continue;
+        };
+        tried += 1;
+        if lodged.least_of_all() != lodged.least_by_states() {
+            println!("the rules differ from each other: --seed {seed} --case {number}");
+            return false;
+        }
+    }
+    print_count("exact reduction, both ways of the rules", tried);
+    tried > 0
+}
+
+fn faults_are_found(seed: u64) -> bool {
+    let random = exact_cases(seed, CASES_FOR_FAULTS).map(|(_, case)| case);
+    let worked = worked::cases().into_iter().map(|(_, case)| case);
+    let worked = worked.filter(|case| matches!(case.call, Call::Exact));
+    let cases: Vec<(Case, Memory)> = worked.chain(random).map(with_answer).collect();
+    let mut all_found = true;
+    for (name, fault) in FAULTS {
+        let differs = |(case, right): &&(Case, Memory)| {
+            let mut memory = Memory::of(case);
+            memory.answer_with_fault(&fault);
+            memory != *right
+        };
+        let found = cases.iter().filter(differs).count();
+        print_count(&format!("fault found: {name}"), found);
+        all_found &= found > 0;
+    }
+    print_count("cases that the faults were tried on", cases.len());
+    all_found
+}
+
+fn with_answer(case: Case) -> (Case, Memory) {
+    let mut memory = Memory::of(&case);
+    memory.answer_by_rules(case.call);
+    (case, memory)
+}
