@@ -4,13 +4,14 @@
 use crate::rules::{self, Cause, Tally};
 
 /// A service, with the number of words of `out` and of the mask that it writes, its number of
-/// outputs, and the answers that a run must show of it: 0 for acceptance and its refusal numbers,
+/// outputs, whether it takes a plan, and the answers that a run must show of it: 0 for acceptance and its refusal numbers,
 /// or what an answer without them is counted as.
 pub struct Service {
     pub name: &'static str,
     pub out_words: usize,
     pub mask_words: usize,
     pub outputs: usize,
+    pub takes_plan: bool,
     pub answers: &'static [u64],
 }
 
@@ -20,6 +21,7 @@ const PLAIN: Service = Service {
     out_words: 0,
     mask_words: 0,
     outputs: 0,
+    takes_plan: false,
     answers: &[],
 };
 
@@ -52,6 +54,7 @@ static STEP: Service = Service {
 static CHECK_PLAN: Service = Service {
     name: "check_plan",
     out_words: 4,
+    takes_plan: true,
     answers: &[0, 1, 2, 3, 4, 5, 6, 7, 8, 9, 11],
     ..PLAIN
 };
@@ -70,6 +73,7 @@ static MARKS: Service = Service {
     name: "marks",
     out_words: 2,
     mask_words: rules::MASK_WORDS,
+    takes_plan: true,
     answers: CHECK_PLAN.answers,
     ..PLAIN
 };
@@ -78,6 +82,7 @@ static ELIMINATE: Service = Service {
     out_words: 4,
     mask_words: rules::MASK_WORDS,
     outputs: 1,
+    takes_plan: true,
     answers: &[0, 1, 2, 3, 4, 5, 6, 7, 8, 9, 10, 11],
 };
 static GREEDY: Service = Service {
@@ -93,6 +98,7 @@ static CHEAPER: Service = Service {
     name: "cheaper",
     out_words: 6,
     outputs: 2,
+    takes_plan: true,
     answers: ELIMINATE.answers,
     ..PLAIN
 };

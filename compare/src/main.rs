@@ -1,6 +1,6 @@
 //! Compares the library of services with an independent version of document 01's rules, on seeded
 //! random cases and on the document's own worked lists. A case compares the answer and every word
-//! of memory that is lent.
+//! of memory that is lent. What the built programs print is compared byte for byte.
 
 mod answered;
 mod bench;
@@ -14,6 +14,7 @@ mod library;
 mod memory;
 mod options;
 mod plans;
+mod programs;
 mod random;
 mod report;
 mod rules;
@@ -26,7 +27,7 @@ mod worked;
 
 use cases::{Case, SERVICES};
 use memory::Memory;
-use options::Options;
+use options::{Mode, Options};
 use random::Random;
 use std::collections::BTreeMap;
 use std::ops::RangeInclusive;
@@ -44,27 +45,30 @@ fn main() -> ExitCode {
             return ExitCode::from(2);
         }
     };
-    let passed = match options {
-        Options::Bench => bench::run(),
-        Options::SelfTest { seed } => {
-            compare(|comparison| comparison.try_worked(false)) && self_test::run(seed)
-        }
-        Options::One { seed, case } => {
-            compare(|comparison| comparison.try_random(seed, case..=case))
-        }
-        Options::All { seed, cases } => {
-            self_test::run(seed)
-                && compare(|comparison| {
-                    comparison.try_worked(true);
-                    comparison.try_random(seed, 1..=cases);
-                    comparison.print_answers();
-                })
-        }
-    };
-    if passed {
+    if run(&options) {
         ExitCode::SUCCESS
     } else {
         ExitCode::FAILURE
+    }
+}
+
+/// Answers whether nothing failed.
+fn run(options: &Options) -> bool {
+    let seed = options.seed;
+    match options.mode {
+        Mode::Bench => bench::run(),
+        Mode::SelfTest => {
+            self_test::run(seed) && compare(|comparison| comparison.try_worked(false))
+        }
+        Mode::One { case } => compare(|comparison| comparison.try_random(seed, case..=case)),
+        Mode::All { cases } => {
+            let try_all = |comparison: &mut Comparison| {
+                comparison.try_worked(true);
+                comparison.try_random(seed, 1..=cases);
+                comparison.print_answers();
+            };
+            self_test::run(seed) && programs::compare(&options.programs, seed) && compare(try_all)
+        }
     }
 }
 

@@ -5,12 +5,14 @@ mod cheaper;
 mod elimination;
 mod exact;
 mod marks;
+mod program;
 mod task;
 
 pub use cheaper::{cheaper, kept_part};
 pub use elimination::{eliminate, greedy, Kept};
 pub use exact::{count, exact, steps_of};
 pub use marks::marks;
+pub use program::{printed_by_shorten, printed_by_validate};
 pub use task::{check_sheet, Action};
 
 use std::cmp::Ordering;
@@ -164,14 +166,20 @@ pub type Mask = [u64; MASK_WORDS];
 
 pub const MASK_WORDS: usize = 4;
 
+pub const WORD_BITS: usize = u64::BITS as usize;
+
 /// The mask of the steps with these indices.
 pub fn mask_of(indices: impl Iterator<Item = usize>) -> Mask {
-    let word_bits = u64::BITS as usize;
     let mut mask = [0; MASK_WORDS];
     for index in indices {
-        mask[index / word_bits] |= 1 << (index % word_bits);
+        mask[index / WORD_BITS] |= 1 << (index % WORD_BITS);
     }
     mask
+}
+
+/// Whether the step with this index is in the mask.
+pub fn has(mask: Mask, index: usize) -> bool {
+    mask[index / WORD_BITS] >> (index % WORD_BITS) & 1 == 1
 }
 
 /// A tally of cost and steps; it may hold any words.

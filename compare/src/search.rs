@@ -3,12 +3,10 @@
 //! held to those of the rules, which know nothing of these cuts.
 
 use crate::rules::{
-    all_hold, do_step, mask_of, Action, Kept, Lodged, Mask, Refusal, State, Tally, FACT_BASE,
-    MAX_VARIABLES,
+    all_hold, do_step, has, mask_of, Action, Kept, Lodged, Mask, Refusal, State, Tally, FACT_BASE,
+    MAX_VARIABLES, WORD_BITS,
 };
 use std::cmp::Ordering;
-
-const WORD_BITS: usize = u64::BITS as usize;
 
 /// Refusals 1 to 12.
 #[inline(never)]
@@ -43,10 +41,6 @@ impl Reduction {
         self.mask[step / WORD_BITS] |= 1 << (step % WORD_BITS);
         self
     }
-}
-
-fn has(mask: Mask, step: usize) -> bool {
-    mask[step / WORD_BITS] >> (step % WORD_BITS) & 1 == 1
 }
 
 struct Search<'a> {

@@ -5,9 +5,10 @@ use crate::cases::{Call, Case};
 use crate::kinds;
 use crate::memory::{Memory, FAULTS};
 use crate::print_count;
+use crate::programs::input_bytes;
 use crate::random::Random;
-use crate::rules::Lodged;
-use crate::worked;
+use crate::rules::{printed_by_shorten, Lodged};
+use crate::worked::{self, LIST_1, SHEET_P};
 
 /// All reductions of plans of at most so many steps are gone through.
 const FEW_STEPS: usize = 12;
@@ -15,10 +16,21 @@ const FEW_STEPS: usize = 12;
 const CASES_FOR_WAYS: u64 = 60_000;
 const CASES_FOR_FAULTS: u64 = 4_000;
 
+/// What document 01 has its program print for sheet P and list 1.
+const PRINTED: &str = "lodged 6 23\nmarked 1\nkept 3 12\n4 0 5\n5 1 2\n6 2 5\n";
+
 /// Answers whether nothing failed.
 pub fn run(seed: u64) -> bool {
-    let alike = ways_are_alike(seed);
-    alike && faults_are_found(seed)
+    lines_are_as_documented() && ways_are_alike(seed) && faults_are_found(seed)
+}
+
+fn lines_are_as_documented() -> bool {
+    let printed = printed_by_shorten(&input_bytes(&SHEET_P, &LIST_1));
+    let alike = printed == PRINTED;
+    if !alike {
+        println!("by the rules the program prints for list 1:\n{printed}");
+    }
+    alike
 }
 
 /// The cases of the exact reduction among random ones, with their numbers.

@@ -11,7 +11,7 @@ use crate::rules::{self, Cause, Tally};
 type Worked = (&'static str, Case);
 
 /// Sheet P. Its actions are 0 lift, 1 drain, 2 drop, 3 lamp; its variables gate, basin, lamp.
-const SHEET_P: [u32; 41] = [
+pub const SHEET_P: [u32; 41] = [
     1, 3, 4, 41, // edition, variables, actions, words
     18, 3, 21, 3, 24, 2, 26, 4, 30, 4, 34, 4, 38, 3, // pairs
     2, 2, 2, // domain sizes
@@ -25,6 +25,7 @@ const SHEET_P: [u32; 41] = [
 /// Where the lamp's cost stands in sheet P.
 const LAMP_COST: usize = 38;
 const LAMP: u32 = 3;
+pub const LIST_1: [u32; 6] = [3, 0, 2, 0, 1, 2];
 const LIFT_DRAIN_DROP: [u32; 3] = [0, 1, 2];
 
 /// One variable of one value, no goal, and one action of the greatest cost without facts.
@@ -54,7 +55,7 @@ fn worked_lists() -> Vec<Worked> {
     let valid = |plan, counts, end| check_plan(&SHEET_P, plan).accepted(counts, &state(end));
     vec![
         ("sheet P", check_sheet(&SHEET_P).accepted(&[], &[])),
-        ("list 1", valid(&[3, 0, 2, 0, 1, 2], &[23, 6], &[0, 1, 1])),
+        ("list 1", valid(&LIST_1, &[23, 6], &[0, 1, 1])),
         ("list 3", valid(&LIFT_DRAIN_DROP, &[12, 3], &[0, 1, 0])),
         ("list 4", not_valid(&[], 1)),
         ("list 5", not_valid(&[0, 0], 2)),
@@ -86,7 +87,7 @@ fn limits() -> Vec<Worked> {
     ]
 }
 
-fn with_lamp_cost(cost: u32) -> [u32; 41] {
+pub fn with_lamp_cost(cost: u32) -> [u32; 41] {
     let mut words = SHEET_P;
     words[LAMP_COST] = cost;
     words

@@ -1,7 +1,7 @@
 //! The worked lists of document 01 that are about the exact reduction, and its refusals.
 
 use super::reductions::{in_front, GATE_ALONE, OTHER_WORD, TWO_WAYS, U_AND_V};
-use super::{lamps_then_drain, new, with_lamp_cost, Worked, LIFT_DRAIN_DROP, SHEET_P};
+use super::{lamps_then_drain, new, with_lamp_cost, Worked, LIFT_DRAIN_DROP, LIST_1, SHEET_P};
 use crate::cases::{accepted_out, Call, Case, Due};
 use crate::rules::{Cause, MASK_WORDS};
 
@@ -32,7 +32,7 @@ pub fn lists() -> Vec<Worked> {
     let of_u_and_v = keeps(&U_AND_V, &[0, 1, 2], 0b010, 6, &[1]);
     let of_gate = keeps(&GATE_ALONE, &[0, 2], 0, 0, &[]);
     vec![
-        ("list 2, exact", in_p(&[3, 0, 2, 0, 1, 2], 0b111000)),
+        ("list 2, exact", in_p(&LIST_1, 0b111000)),
         ("list 3, exact", in_p(&LIFT_DRAIN_DROP, 0b111)),
         ("list 7, exact", of_ways),
         ("list 8, exact", of_u_and_v),

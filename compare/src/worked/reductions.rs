@@ -1,7 +1,7 @@
 //! The worked lists of document 01 that are about marks, elimination, greedy elimination and the
 //! cheaper of both.
 
-use super::{lamps_then_drain, new, tally, Worked, LIFT_DRAIN_DROP, SHEET_P};
+use super::{lamps_then_drain, new, tally, Worked, LIFT_DRAIN_DROP, LIST_1, SHEET_P};
 use crate::cases::{accepted_out, Call, Case, Due};
 use crate::rules::{Cause, Mask};
 
@@ -141,7 +141,7 @@ pub fn lists() -> Vec<Worked> {
         List {
             name: "lists 1 and 2",
             words: &SHEET_P,
-            plan: &[3, 0, 2, 0, 1, 2],
+            plan: &LIST_1,
             marks: short(0b010000),
             eliminated: last_three,
             greedy: last_three,

@@ -3,10 +3,9 @@
 
 use crate::rules::{
     all_hold, do_step, split, Action, Lodged, State, FACT_BASE, MASK_WORDS, MAX_VARIABLES,
+    WORD_BITS,
 };
 use std::collections::hash_map::{Entry, HashMap};
-
-const WORD_BITS: usize = u64::BITS as usize;
 
 /// A reduction of the plan's front. The fields stand in the order that they are compared in.
 #[derive(Clone, Copy, Default, PartialEq, Eq, PartialOrd, Ord)]
