@@ -1,4 +1,10 @@
-//! Times the library against the rules on plans of 255 steps, both in one run on the same input.
+//! Times the library against Rust versions, both in one run on the same input: the services with one
+//! way of working against the rules, on plans of 255 steps; the exact reduction against the search
+//! with the same cuts, on plans of three lengths.
+
+mod exact;
+
+pub use exact::{once, LENGTHS};
 
 use crate::cases::{Call, Case};
 use crate::cycles::random_applicable;
@@ -18,7 +24,7 @@ const VARIABLES: usize = 2 * GATES;
 const LEVELS: u32 = 3;
 /// The facts that a large action has among its preconditions, and as many among its effects.
 const LARGE_GROUP: usize = rules::MAX_VARIABLES / 2;
-/// Of so many runs of each side the median counts; the sides take turns.
+/// The runs of each side; the sides take turns.
 const RUNS: usize = 15;
 const LEAST_RUN: Duration = Duration::from_millis(5);
 
@@ -36,47 +42,64 @@ pub fn run() -> bool {
     let mut all_alike = true;
     for (name, walk) in inputs {
         for call in CALLS {
-            all_alike &= print_times(name, &bench_case(call, walk));
+            all_alike &= print_times(name, &bench_case(call, &walk.task, &walk.plan));
         }
     }
     println!("* of {} all, marked or kept", small.plan.len());
-    all_alike
+    exact::run() && all_alike
 }
 
-fn bench_case(call: Call, walk: &Walk) -> Case {
+fn bench_case(call: Call, task: &Task, plan: &[u32]) -> Case {
     Case {
-        words: walk.task.words(),
-        plan: walk.plan.clone(),
+        words: task.words(),
+        plan: plan.to_vec(),
         state: vec![0; rules::MAX_VARIABLES],
-        first: vec![0; walk.plan.len()],
+        first: vec![0; plan.len()],
         mask: vec![0; rules::MASK_WORDS],
         ..Case::new(call, vec![0; call.service().out_words])
     }
 }
 
 fn print_times(input: &str, case: &Case) -> bool {
-    let (mut library, mut rules) = (Memory::of(case), Memory::of(case));
-    let by_library = |memory: &mut Memory| memory.answer_by_library(case.call);
-    let by_rules = |memory: &mut Memory| {
+    let timed = Timed::of(case, |memory| {
         memory.answer_by_rules(case.call);
-    };
-    let (mut library_runs, mut rules_runs) = (Vec::new(), Vec::new());
-    for _ in 0..RUNS {
-        library_runs.push(time_of_call(&mut library, by_library));
-        rules_runs.push(time_of_call(&mut rules, by_rules));
-    }
-    let (library_time, rules_time) = (median(library_runs), median(rules_runs));
+    });
+    let [library_time, rules_time] = timed.runs.map(median);
     println!(
         "{:<11} {input:<24} {:>6} {library_time:>11.2} µs {rules_time:>11.2} µs {:>7.2}",
         case.call.service().name,
-        steps_of(case.call, &rules),
+        steps_of(case.call, &timed.answer),
         library_time / rules_time,
     );
-    let alike = library == rules;
-    if !alike {
-        println!("the answers differ");
+    timed.alike
+}
+
+/// The microseconds of each run of the library and of the Rust version, and what they answered.
+struct Timed {
+    runs: [Vec<f64>; 2],
+    answer: Memory,
+    alike: bool,
+}
+
+impl Timed {
+    fn of(case: &Case, by_rust: impl Fn(&mut Memory)) -> Self {
+        let (mut library, mut rust) = (Memory::of(case), Memory::of(case));
+        let by_library = |memory: &mut Memory| memory.answer_by_library(case.call);
+        let mut runs = [Vec::new(), Vec::new()];
+        for _ in 0..RUNS {
+            runs[0].push(time_of_call(&mut library, by_library));
+            runs[1].push(time_of_call(&mut rust, &by_rust));
+        }
+        let alike = library == rust;
+        if !alike {
+            println!("the answers differ");
+        }
+        Timed {
+            runs,
+            answer: rust,
+            alike,
+        }
     }
-    alike
 }
 
 /// The microseconds that one of as many calls takes as make up a run.

@@ -27,6 +27,17 @@ pub const FAMILIES: [Family; 4] = [
     Family::Gates,
 ];
 
+impl Family {
+    pub fn name(self) -> &'static str {
+        match self {
+            Family::Lamps => "lamps",
+            Family::Writers => "writers",
+            Family::Covers => "covers",
+            Family::Gates => "gates",
+        }
+    }
+}
+
 /// Where the steps of the family stand to the chain.
 #[derive(Clone, Copy)]
 pub enum Placement {
@@ -36,6 +47,16 @@ pub enum Placement {
 }
 
 pub const PLACEMENTS: [Placement; 3] = [Placement::Front, Placement::Spread, Placement::End];
+
+impl Placement {
+    pub fn name(self) -> &'static str {
+        match self {
+            Placement::Front => "front",
+            Placement::Spread => "spread",
+            Placement::End => "end",
+        }
+    }
+}
 
 /// The steps of the plan and how many of them are not marked; what the costs are taken from.
 pub struct Shape {

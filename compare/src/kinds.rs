@@ -40,6 +40,13 @@ pub fn all() -> Vec<Kind> {
     faults.chain(others).collect()
 }
 
+/// The random case with this number and the index of its kind. Kinds take turns, so that a short run
+/// tries them all.
+pub fn numbered(kinds: &[Kind], seed: u64, number: u64) -> (usize, Case) {
+    let kind = (number % kinds.len() as u64) as usize;
+    (kind, kinds[kind].make(&mut Random::of_case(seed, number)))
+}
+
 impl Kind {
     pub fn name(self) -> String {
         match self {
@@ -49,7 +56,7 @@ impl Kind {
     }
 
     /// Tries random tasks until one has a spot for the case.
-    pub fn make(self, random: &mut Random) -> Case {
+    fn make(self, random: &mut Random) -> Case {
         let most_attempts = 10_000;
         let case = (0..most_attempts).find_map(|_| match self {
             Kind::SheetFault(fault) => sheet::with_fault(random, fault),

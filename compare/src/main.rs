@@ -28,7 +28,6 @@ mod worked;
 use cases::{Case, SERVICES};
 use memory::Memory;
 use options::{Mode, Options};
-use random::Random;
 use std::collections::BTreeMap;
 use std::ops::RangeInclusive;
 use std::process::ExitCode;
@@ -57,6 +56,11 @@ fn run(options: &Options) -> bool {
     let seed = options.seed;
     match options.mode {
         Mode::Bench => bench::run(),
+        Mode::Once {
+            family,
+            placement,
+            steps,
+        } => bench::once(family, placement, steps),
         Mode::SelfTest => {
             self_test::run(seed) && compare(|comparison| comparison.try_worked(false))
         }
@@ -109,7 +113,6 @@ impl Comparison {
         self.differences >= MOST_DIFFERENCES
     }
 
-    /// Kinds take turns, so that a short run tries them all.
     fn try_random(&mut self, seed: u64, numbers: RangeInclusive<u64>) {
         let kinds = kinds::all();
         let mut counts = vec![0; kinds.len()];
@@ -117,8 +120,7 @@ impl Comparison {
             if self.is_over() {
                 break;
             }
-            let kind = (number % kinds.len() as u64) as usize;
-            let case = kinds[kind].make(&mut Random::of_case(seed, number));
+            let (kind, case) = kinds::numbered(&kinds, seed, number);
             counts[kind] += 1;
             self.try_case(&case, true, || {
                 let name = kinds[kind].name();

@@ -1,5 +1,7 @@
 //! The arguments of the program.
 
+use crate::bench::LENGTHS;
+use crate::families::{Family, Placement, FAMILIES, PLACEMENTS};
 use std::path::PathBuf;
 
 const USAGE: &str = "usage: compare [--cases N] [--seed S] [--program PATH]...
@@ -7,7 +9,9 @@ const USAGE: &str = "usage: compare [--cases N] [--seed S] [--program PATH]...
        compare --case I [--seed S]    try the one random case with this number
        compare --self-test [--seed S] try the rules alone: on the worked lists, against each
                                       other, and against services with a fault
-       compare --bench                time the library against the rules";
+       compare --bench                time the library against Rust versions
+       compare --once FAMILY PLACEMENT STEPS
+                                      run the exact reduction once on a plan that --bench has";
 
 const DEFAULT_SEED: u64 = 1;
 /// Takes about half a minute.
@@ -20,10 +24,19 @@ pub struct Options {
 }
 
 pub enum Mode {
-    All { cases: u64 },
-    One { case: u64 },
+    All {
+        cases: u64,
+    },
+    One {
+        case: u64,
+    },
     SelfTest,
     Bench,
+    Once {
+        family: Family,
+        placement: Placement,
+        steps: usize,
+    },
 }
 
 impl Options {
@@ -48,6 +61,14 @@ impl Options {
                     let case = number(&next()?)?;
                     options.mode = Mode::One { case };
                 }
+                "--once" => {
+                    let (family, placement, steps) = (next()?, next()?, number(&next()?)?);
+                    options.mode = Mode::Once {
+                        family: found(&FAMILIES, |it| it.name() == family)?,
+                        placement: found(&PLACEMENTS, |it| it.name() == placement)?,
+                        steps: found(&LENGTHS, |&it| it as u64 == steps)?,
+                    };
+                }
                 "--seed" => options.seed = number(&next()?)?,
                 "--program" => options.programs.push(next()?.into()),
                 _ => return Err(USAGE.to_string()),
@@ -55,6 +76,11 @@ impl Options {
         }
         Ok(options)
     }
+}
+
+fn found<T: Copy>(all: &[T], is_it: impl Fn(&T) -> bool) -> Result<T, String> {
+    let found = all.iter().copied().find(is_it);
+    found.ok_or_else(|| USAGE.to_string())
 }
 
 fn number(text: &str) -> Result<u64, String> {

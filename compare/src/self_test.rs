@@ -6,7 +6,6 @@ use crate::kinds;
 use crate::memory::{Memory, FAULTS};
 use crate::print_count;
 use crate::programs::input_bytes;
-use crate::random::Random;
 use crate::rules::{printed_by_shorten, Lodged};
 use crate::worked::{self, LIST_1, SHEET_P};
 
@@ -36,10 +35,8 @@ fn lines_are_as_documented() -> bool {
 /// The cases of the exact reduction among random ones, with their numbers.
 fn exact_cases(seed: u64, cases: u64) -> impl Iterator<Item = (u64, Case)> {
     let kinds = kinds::all();
-    let cases = (1..=cases).map(move |number| {
-        let kind = kinds[(number % kinds.len() as u64) as usize];
-        (number, kind.make(&mut Random::of_case(seed, number)))
-    });
+    let case = move |number| (number, kinds::numbered(&kinds, seed, number).1);
+    let cases = (1..=cases).map(case);
     cases.filter(|(_, case)| matches!(case.call, Call::Exact))
 }
 

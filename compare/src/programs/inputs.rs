@@ -129,13 +129,12 @@ fn of_random_cases(seed: u64) -> Vec<Input> {
     let kinds = kinds::all();
     let mut inputs = Vec::new();
     for number in 1..=RANDOM_CASES {
-        let mut random = Random::of_case(seed, number);
-        let kind = kinds[(number % kinds.len() as u64) as usize];
-        let case = kind.make(&mut random);
+        let (kind, case) = kinds::numbered(&kinds, seed, number);
         if has_plan(&case) {
-            let name = format!("{}, --seed {seed} --case {number}", kind.name());
+            let name = format!("{}, --seed {seed} --case {number}", kinds[kind].name());
             let bytes = input_bytes(&case.words, &case.plan);
-            inputs.push(closed(&name, spoilt(&mut random, bytes)));
+            let random = &mut Random::of_case(!seed, number);
+            inputs.push(closed(&name, spoilt(random, bytes)));
         }
     }
     inputs
