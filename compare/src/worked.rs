@@ -47,6 +47,7 @@ pub fn cases() -> Vec<Worked> {
     cases.extend(reductions::kept_parts());
     cases.extend(exact::lists());
     cases.extend(exact::refusals());
+    cases.extend(exact::short_outputs());
     cases
 }
 

@@ -41,50 +41,45 @@ pub fn lists() -> Vec<Worked> {
     ]
 }
 
+fn not_valid(plan: &[u32], place: usize) -> Case {
+    case(&SHEET_P, plan).refused(Cause::NotValid, place)
+}
+
 /// Lists 4 to 6, 10 and 11. In list 3 behind lamps the lift and the drain are marked.
 pub fn refusals() -> Vec<Worked> {
-    let not_valid = |plan, place| case(&SHEET_P, plan).refused(Cause::NotValid, place);
     let unmarked = |steps, count| {
         let list = lamps_then_drain(steps);
         case(&SHEET_P, &list).refused(Cause::Unmarked, count)
     };
-    let steps_256 = case(&SHEET_P, &lamps_then_drain(256));
+    let steps_256 = case(&SHEET_P, &lamps_then_drain(256)).refused(Cause::PlanLength, 255);
     let dear = with_lamp_cost(1_000_000);
-    let too_dear = with_lamp_cost(1_000_001);
-    let short = |plan| Case {
-        first: vec![OTHER_WORD; 2],
-        ..case(&SHEET_P, plan)
-    };
-    let long_and_short = Case {
-        first: vec![OTHER_WORD; 22],
-        ..case(&SHEET_P, &lamps_then_drain(23))
-    };
+    let dear = keeps(&dear, &LIFT_DRAIN_DROP, 0b111, 12, &LIFT_DRAIN_DROP);
+    let too_dear = case(&with_lamp_cost(1_000_001), &[]).refused(Cause::Cost, 3);
     vec![
         ("list 4, exact", not_valid(&[], 1)),
         ("list 5, exact", not_valid(&[0, 0], 2)),
         ("list 6, exact", not_valid(&[0, 1], 3)),
         ("list 10, exact, refused", unmarked(23, 21)),
         ("255 steps, exact", unmarked(255, 253)),
-        (
-            "256 steps, exact",
-            steps_256.refused(Cause::PlanLength, 255),
-        ),
-        (
-            "price limit, exact",
-            keeps(&dear, &LIFT_DRAIN_DROP, 0b111, 12, &LIFT_DRAIN_DROP),
-        ),
-        ("price, exact", case(&too_dear, &[]).refused(Cause::Cost, 3)),
-        (
-            "short output, exact",
-            short(&LIFT_DRAIN_DROP).refused(Cause::ShortOutput, 3),
-        ),
-        (
-            "short output, exact, not valid",
-            short(&[0, 0, 1]).refused(Cause::ShortOutput, 3),
-        ),
-        (
-            "short output, exact, 21 unmarked",
-            long_and_short.refused(Cause::ShortOutput, 23),
-        ),
+        ("256 steps, exact", steps_256),
+        ("price limit, exact", dear),
+        ("price, exact", too_dear),
+    ]
+}
+
+/// The output is looked at before the steps are done and before marks are counted.
+pub fn short_outputs() -> Vec<Worked> {
+    let one_short = |plan: &[u32]| {
+        let short = Case {
+            first: vec![OTHER_WORD; plan.len() - 1],
+            ..case(&SHEET_P, plan)
+        };
+        short.refused(Cause::ShortOutput, plan.len())
+    };
+    let unmarked_21 = lamps_then_drain(23);
+    vec![
+        ("short output, exact", one_short(&LIFT_DRAIN_DROP)),
+        ("short output, exact, not valid", one_short(&[0, 0, 1])),
+        ("short output, exact, 21 unmarked", one_short(&unmarked_21)),
     ]
 }
