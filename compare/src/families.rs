@@ -145,23 +145,22 @@ impl Shape {
 impl Part {
     /// The steps of the family and those of the chain, whose actions are the last ones.
     fn laid_into(self, first_of_chain: usize, turns: &[bool]) -> Made {
-        let mut own = self.steps.iter().enumerate();
-        let mut chain = first_of_chain as u32..;
+        let is_known = self.kept.is_some();
+        let flags = self.kept.unwrap_or(vec![false; self.steps.len()]);
+        let mut own = self.steps.into_iter().zip(flags);
+        let mut chain = (first_of_chain as u32..).map(|action| (action, true));
         let (mut plan, mut kept) = (Vec::new(), Vec::new());
         for (step, &is_own) in turns.iter().enumerate() {
-            let next = if is_own { own.next() } else { None };
-            let is_kept = match next {
-                Some((i, _)) => self.kept.as_ref().is_some_and(|kept| kept[i]),
-                None => true,
-            };
-            plan.extend(next.map(|(_, &action)| action).or_else(|| chain.next()));
+            let next = if is_own { own.next() } else { chain.next() };
+            let (action, is_kept) = next.expect("the family has as many steps as turns");
+            plan.push(action);
             if is_kept {
                 kept.push(step);
             }
         }
         Made {
             plan,
-            kept: self.kept.is_some().then_some(kept),
+            kept: is_known.then_some(kept),
             task: Task {
                 start: vec![0; self.sizes.len()],
                 sizes: self.sizes,

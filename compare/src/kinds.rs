@@ -1,5 +1,6 @@
 //! The kinds of cases that are tried, and what they share: calls with buffers of many lengths.
 
+mod due;
 mod exact;
 mod part;
 mod plan;

@@ -1,8 +1,8 @@
 //! The exact reduction: on hard plans at many lengths, at the border of 20 unmarked steps, and on
 //! plans of which all or nothing is struck.
 
-use super::{plan_case, plan_case_with, Make};
-use crate::cases::{accepted_out, Call, Case, Due};
+use super::{due, plan_case, plan_case_with, Make};
+use crate::cases::{Call, Case};
 use crate::cycles;
 use crate::families::{Family, Made, Shape, FAMILIES, PLACEMENTS};
 use crate::plans::{random_step, Walk};
@@ -35,7 +35,7 @@ const SHORT: usize = 10;
 const FEW_UNMARKED: usize = 8;
 /// One case in so many has any number of unmarked steps.
 const SELDOM: usize = 16;
-/// One case in so many has 20 that the rules take long over.
+/// One case in so many has 20 of them whatever its family.
 const VERY_SELDOM: usize = 128;
 
 fn random_shape(random: &mut Random, family: Family) -> Shape {
@@ -69,22 +69,9 @@ fn random_costs(random: &mut Random, most: usize) -> RangeInclusive<u32> {
 fn case_of(random: &mut Random, made: &Made) -> Case {
     let case = plan_case(random, Call::Exact, made.task.words(), made.plan.clone());
     match &made.kept {
-        Some(kept) => keeping(case, made, kept),
+        Some(kept) => due::keeping(case, &made.task, kept),
         None => case,
     }
-}
-
-/// The case is known to keep these steps.
-fn keeping(case: Case, made: &Made, steps: &[usize]) -> Case {
-    let kept: Vec<u32> = steps.iter().map(|&step| made.plan[step]).collect();
-    let cost_of = |&action: &u32| made.task.actions[action as usize].cost as usize;
-    let due = Due {
-        out: accepted_out(&[kept.iter().map(cost_of).sum(), kept.len()]),
-        mask: rules::mask_of(steps.iter().copied()).to_vec(),
-        first: [&kept, &case.first[kept.len()..]].concat(),
-        ..Due::default()
-    };
-    case.due(due)
 }
 
 fn of_family(random: &mut Random, family: Family) -> Option<Case> {
@@ -149,7 +136,7 @@ fn with_unmarked(random: &mut Random, families: &[Family], unmarked: usize) -> O
     (shape.steps * 4 / 5 >= unmarked).then(|| shape.make(random))
 }
 
-/// Lamps are the only ones that don't take long.
+/// Of the other families 20 steps reach so many states that the rules take long.
 fn with_most_unmarked(random: &mut Random) -> Option<Case> {
     let families = match random.once_in(VERY_SELDOM) {
         true => &FAMILIES[..],
@@ -217,12 +204,11 @@ fn everything_struck(random: &mut Random) -> Option<Case> {
 }
 
 fn nothing_struck(random: &mut Random) -> Option<Case> {
-    let shape = random_shape(random, Family::Lamps);
-    let made = Shape {
+    let shape = Shape {
         unmarked: 0,
-        ..shape
+        ..random_shape(random, Family::Lamps)
     };
-    let made = made.make(random);
+    let made = shape.make(random);
     Some(case_of(random, &made))
 }
 
