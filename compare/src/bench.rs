@@ -61,45 +61,28 @@ fn bench_case(call: Call, task: &Task, plan: &[u32]) -> Case {
 }
 
 fn print_times(input: &str, case: &Case) -> bool {
-    let timed = Timed::of(case, |memory| {
+    let (mut library, mut rules) = (Memory::of(case), Memory::of(case));
+    let by_library = |memory: &mut Memory| memory.answer_by_library(case.call);
+    let by_rules = |memory: &mut Memory| {
         memory.answer_by_rules(case.call);
-    });
-    let [library_time, rules_time] = timed.runs.map(median);
+    };
+    let (mut library_runs, mut rules_runs) = (Vec::new(), Vec::new());
+    for _ in 0..RUNS {
+        library_runs.push(time_of_call(&mut library, by_library));
+        rules_runs.push(time_of_call(&mut rules, by_rules));
+    }
+    let (library_time, rules_time) = (median(library_runs), median(rules_runs));
     println!(
         "{:<11} {input:<24} {:>6} {library_time:>11.2} µs {rules_time:>11.2} µs {:>7.2}",
         case.call.service().name,
-        steps_of(case.call, &timed.answer),
+        steps_of(case.call, &rules),
         library_time / rules_time,
     );
-    timed.alike
-}
-
-/// The microseconds of each run of the library and of the Rust version, and what they answered.
-struct Timed {
-    runs: [Vec<f64>; 2],
-    answer: Memory,
-    alike: bool,
-}
-
-impl Timed {
-    fn of(case: &Case, by_rust: impl Fn(&mut Memory)) -> Self {
-        let (mut library, mut rust) = (Memory::of(case), Memory::of(case));
-        let by_library = |memory: &mut Memory| memory.answer_by_library(case.call);
-        let mut runs = [Vec::new(), Vec::new()];
-        for _ in 0..RUNS {
-            runs[0].push(time_of_call(&mut library, by_library));
-            runs[1].push(time_of_call(&mut rust, &by_rust));
-        }
-        let alike = library == rust;
-        if !alike {
-            println!("the answers differ");
-        }
-        Timed {
-            runs,
-            answer: rust,
-            alike,
-        }
+    let alike = library == rules;
+    if !alike {
+        println!("the answers differ");
     }
+    alike
 }
 
 /// The microseconds that one of as many calls takes as make up a run.

@@ -7,12 +7,13 @@ use crate::memory::{Memory, FAULTS};
 use crate::print_count;
 use crate::programs::input_bytes;
 use crate::rules::{printed_by_shorten, Lodged};
+use crate::search;
 use crate::worked::{self, LIST_1, SHEET_P};
 
 /// All reductions of plans of at most so many steps are gone through.
 const FEW_STEPS: usize = 12;
 /// The random cases that are made; those of other services are passed over.
-const CASES_FOR_WAYS: u64 = 60_000;
+const CASES_FOR_WAYS: u64 = 40_000;
 const CASES_FOR_FAULTS: u64 = 4_000;
 
 /// What document 01 has its program print for sheet P and list 1.
@@ -40,22 +41,30 @@ fn exact_cases(seed: u64, cases: u64) -> impl Iterator<Item = (u64, Case)> {
     cases.filter(|(_, case)| matches!(case.call, Call::Exact))
 }
 
+/// The rules' way by states and the search against each other, and against the way through all
+/// reductions where there are few enough.
 fn ways_are_alike(seed: u64) -> bool {
-    let mut tried = 0;
+    let (mut tried, mut tried_all) = (0, 0);
     for (number, case) in exact_cases(seed, CASES_FOR_WAYS) {
-        let (words, plan) = (&case.words, &case.plan);
-        let checked = Lodged::check_unmarked(words, plan, case.first.len());
-        let Some(lodged) = checked.ok().filter(|_| plan.len() <= FEW_STEPS) else {
+        let (words, plan, output) = (&case.words, &case.plan, case.first.len());
+        let Ok(lodged) = Lodged::check_unmarked(words, plan, output) else {
             continue;
         };
-        tried += 1;
-        if lodged.least_of_all() != lodged.least_by_states() {
-            println!("the rules differ from each other: --seed {seed} --case {number}");
+        let has_few = plan.len() <= FEW_STEPS;
+        let by_states = lodged.least_by_states();
+        let by_search = search::exact(words, plan, output);
+        let as_searched = by_search.is_ok_and(|kept| kept.steps().eq(by_states.iter().copied()));
+        let is_least = !has_few || lodged.least_of_all() == by_states;
+        if !(as_searched && is_least) {
+            println!("ways of the exact reduction differ: --seed {seed} --case {number}");
             return false;
         }
+        tried += 1;
+        tried_all += usize::from(has_few);
     }
-    print_count("exact reduction, both ways of the rules", tried);
-    tried > 0
+    print_count("exact reduction, by states and by search", tried);
+    print_count("exact reduction, among all as well", tried_all);
+    tried_all > 0
 }
 
 fn faults_are_found(seed: u64) -> bool {

@@ -1,7 +1,7 @@
 //! Times of the exact reduction on the hard families, each at three lengths with as many unmarked
 //! steps as there may be, against the search that has the same cuts.
 
-use super::{bench_case, Timed, RUNS, SEED};
+use super::{bench_case, time_of_call, RUNS, SEED};
 use crate::cases::{Call, Case};
 use crate::families::{Family, Placement, Shape, FAMILIES, PLACEMENTS};
 use crate::memory::Memory;
@@ -19,43 +19,87 @@ const COUNTING: &str = "instructions: valgrind --tool=callgrind --callgrind-out-
 
 /// Prints the table, and answers whether both sides gave the same answers, and the right ones.
 pub fn run() -> bool {
+    let mut rows: Vec<Row> = FAMILIES
+        .into_iter()
+        .flat_map(|family| PLACEMENTS.map(|placement| (family, placement)))
+        .flat_map(|(family, placement)| LENGTHS.map(|steps| Row::of(family, placement, steps)))
+        .collect();
+    for _ in 0..RUNS {
+        rows.iter_mut().for_each(Row::time);
+    }
     println!("\nexact reduction, {UNMARKED} steps unmarked, best of {RUNS} runs");
     println!(
         "{:<8} {:<8} {:>6} {:>14} {:>14} {:>7} {:>8}",
         "family", "placed", "steps", "library", "search", "ratio", "growth*"
     );
-    let mut all_alike = true;
-    for family in FAMILIES {
-        for placement in PLACEMENTS {
-            all_alike &= print_growth(family, placement);
-        }
+    for of_three_lengths in rows.chunks(LENGTHS.len()) {
+        let shortest = of_three_lengths[0].best[0];
+        of_three_lengths.iter().for_each(|row| row.print(shortest));
     }
-    println!(
-        "* of the library's time, from that for {} steps",
-        LENGTHS[0]
-    );
-    println!("{COUNTING}");
-    all_alike
+    println!("* of the library's time, from the shortest plan on\n{COUNTING}");
+    rows.iter().all(Row::is_right)
 }
 
-fn print_growth(family: Family, placement: Placement) -> bool {
-    let mut shortest = None;
-    LENGTHS.into_iter().all(|steps| {
+/// A plan with the memory of both sides, the library's first, and the best of their times. All rows
+/// take turns, so that what else the machine does for a while spoils no row.
+struct Row {
+    family: Family,
+    placement: Placement,
+    case: Case,
+    sides: [Memory; 2],
+    best: [f64; 2],
+}
+
+impl Row {
+    fn of(family: Family, placement: Placement, steps: usize) -> Self {
         let case = case_of(family, placement, steps);
-        let timed = Timed::of(&case, |memory| {
-            memory.reduce(search::exact);
-        });
-        let best = |runs: &Vec<f64>| runs.iter().copied().fold(f64::INFINITY, f64::min);
-        let [library, search] = timed.runs.each_ref().map(best);
+        Row {
+            family,
+            placement,
+            sides: [Memory::of(&case), Memory::of(&case)],
+            case,
+            best: [f64::INFINITY; 2],
+        }
+    }
+
+    fn time(&mut self) {
+        let [library, search] = &mut self.sides;
+        let call = self.case.call;
+        let times = [
+            time_of_call(library, |memory| memory.answer_by_library(call)),
+            time_of_call(search, answer_by_search),
+        ];
+        for (best, time) in self.best.iter_mut().zip(times) {
+            *best = best.min(time);
+        }
+    }
+
+    fn print(&self, shortest: f64) {
+        let [library, search] = self.best;
         println!(
-            "{:<8} {:<8} {steps:>6} {library:>11.2} µs {search:>11.2} µs {:>7.2} {:>8.2}",
-            family.name(),
-            placement.name(),
+            "{:<8} {:<8} {:>6} {library:>11.2} µs {search:>11.2} µs {:>7.2} {:>8.2}",
+            self.family.name(),
+            self.placement.name(),
+            self.case.plan.len(),
             library / search,
-            library / *shortest.get_or_insert(library),
+            library / shortest,
         );
-        timed.alike && is_right(&case, &timed.answer)
-    })
+    }
+
+    fn is_right(&self) -> bool {
+        let mut by_rules = Memory::of(&self.case);
+        by_rules.answer_by_rules(self.case.call);
+        let is_right = self.sides.iter().all(|side| *side == by_rules);
+        if !is_right {
+            println!("the answers differ:");
+            self.print(self.best[0]);
+        }
+        is_right
+    }
+}
+
+fn answer_by_search(memory: &mut Memory) {
+    memory.reduce(search::exact);
 }
 
 fn case_of(family: Family, placement: Placement, steps: usize) -> Case {
@@ -86,16 +130,6 @@ pub fn once(family: Family, placement: Placement, steps: usize) -> bool {
     let case = case_of(family, placement, steps);
     let (mut library, mut rust) = (Memory::of(&case), Memory::of(&case));
     library.answer_by_library(case.call);
-    rust.reduce(search::exact);
+    answer_by_search(&mut rust);
     library == rust
-}
-
-fn is_right(case: &Case, answer: &Memory) -> bool {
-    let mut by_rules = Memory::of(case);
-    by_rules.answer_by_rules(case.call);
-    let is_right = by_rules == *answer;
-    if !is_right {
-        println!("by the rules the answer is another");
-    }
-    is_right
 }
