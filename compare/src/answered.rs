@@ -6,7 +6,8 @@ use std::cmp::Reverse;
 
 const COSTS: [u32; 4] = [0, 1, 2, 3];
 
-/// A plan with the indices of the steps that are marked, and that each elimination keeps.
+/// A plan with the indices of the steps that are marked, and that each elimination keeps. What the
+/// greedy one keeps is also the exact reduction.
 pub struct Answered {
     pub task: Task,
     pub plan: Vec<u32>,
@@ -73,8 +74,8 @@ const WAYS_GOAL: Fact = Fact {
 
 /// Several ways to one goal. A trial succeeds while two of them are left, and the one at a way's
 /// first step strikes the most of it: so elimination is left with the way that begins last, and
-/// greedy elimination with the cheapest, of those the shortest, of those the one that begins last.
-/// Steps are marked where there is only one way.
+/// greedy elimination with the cheapest, of those the shortest, of those the one that begins last,
+/// which strikes where it first differs from another. Steps are marked where there is only one way.
 pub fn with_ways(random: &mut Random) -> Answered {
     let variables = 1..=random.size(1..=4);
     let ways: Vec<Vec<Action>> = variables.map(|v| random_way(random, v)).collect();
@@ -125,7 +126,10 @@ fn task_of(ways: &[Vec<Action>]) -> Task {
 }
 
 /// A plan of all the lanes, each in its order, and the indices that the steps of each lane have.
-fn laid_into_each_other(random: &mut Random, lanes: &[Vec<u32>]) -> (Vec<u32>, Vec<Vec<usize>>) {
+pub fn laid_into_each_other(
+    random: &mut Random,
+    lanes: &[Vec<u32>],
+) -> (Vec<u32>, Vec<Vec<usize>>) {
     let all = lanes.iter().map(Vec::len).sum();
     let mut plan = Vec::new();
     let mut places = vec![Vec::new(); lanes.len()];

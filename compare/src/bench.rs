@@ -1,4 +1,10 @@
-//! Times the library against the rules on plans of 255 steps, both in one run on the same input.
+//! Times the library against Rust versions, both in one run on the same input: the services with one
+//! way of working against the rules, on plans of 255 steps; the exact reduction against the search
+//! with the same cuts, on plans of three lengths.
+
+mod exact;
+
+pub use exact::{once, LENGTHS};
 
 use crate::cases::{Call, Case};
 use crate::cycles::random_applicable;
@@ -18,7 +24,7 @@ const VARIABLES: usize = 2 * GATES;
 const LEVELS: u32 = 3;
 /// The facts that a large action has among its preconditions, and as many among its effects.
 const LARGE_GROUP: usize = rules::MAX_VARIABLES / 2;
-/// Of so many runs of each side the median counts; the sides take turns.
+/// The runs of each side; the sides take turns.
 const RUNS: usize = 15;
 const LEAST_RUN: Duration = Duration::from_millis(5);
 
@@ -36,19 +42,19 @@ pub fn run() -> bool {
     let mut all_alike = true;
     for (name, walk) in inputs {
         for call in CALLS {
-            all_alike &= print_times(name, &bench_case(call, walk));
+            all_alike &= print_times(name, &bench_case(call, &walk.task, &walk.plan));
         }
     }
     println!("* of {} all, marked or kept", small.plan.len());
-    all_alike
+    exact::run() && all_alike
 }
 
-fn bench_case(call: Call, walk: &Walk) -> Case {
+fn bench_case(call: Call, task: &Task, plan: &[u32]) -> Case {
     Case {
-        words: walk.task.words(),
-        plan: walk.plan.clone(),
+        words: task.words(),
+        plan: plan.to_vec(),
         state: vec![0; rules::MAX_VARIABLES],
-        first: vec![0; walk.plan.len()],
+        first: vec![0; plan.len()],
         mask: vec![0; rules::MASK_WORDS],
         ..Case::new(call, vec![0; call.service().out_words])
     }

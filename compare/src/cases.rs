@@ -4,13 +4,14 @@
 use crate::rules::{self, Cause, Tally};
 
 /// A service, with the number of words of `out` and of the mask that it writes, its number of
-/// outputs, and the answers that a run must show of it: 0 for acceptance and its refusal numbers,
+/// outputs, whether it takes a plan, and the answers that a run must show of it: 0 for acceptance and its refusal numbers,
 /// or what an answer without them is counted as.
 pub struct Service {
     pub name: &'static str,
     pub out_words: usize,
     pub mask_words: usize,
     pub outputs: usize,
+    pub takes_plan: bool,
     pub answers: &'static [u64],
 }
 
@@ -20,6 +21,7 @@ const PLAIN: Service = Service {
     out_words: 0,
     mask_words: 0,
     outputs: 0,
+    takes_plan: false,
     answers: &[],
 };
 
@@ -52,6 +54,7 @@ static STEP: Service = Service {
 static CHECK_PLAN: Service = Service {
     name: "check_plan",
     out_words: 4,
+    takes_plan: true,
     answers: &[0, 1, 2, 3, 4, 5, 6, 7, 8, 9, 11],
     ..PLAIN
 };
@@ -70,6 +73,7 @@ static MARKS: Service = Service {
     name: "marks",
     out_words: 2,
     mask_words: rules::MASK_WORDS,
+    takes_plan: true,
     answers: CHECK_PLAN.answers,
     ..PLAIN
 };
@@ -78,16 +82,23 @@ static ELIMINATE: Service = Service {
     out_words: 4,
     mask_words: rules::MASK_WORDS,
     outputs: 1,
+    takes_plan: true,
     answers: &[0, 1, 2, 3, 4, 5, 6, 7, 8, 9, 10, 11],
 };
 static GREEDY: Service = Service {
     name: "greedy",
     ..ELIMINATE
 };
+static EXACT: Service = Service {
+    name: "exact",
+    answers: &[0, 1, 2, 3, 4, 5, 6, 7, 8, 9, 10, 11, 12],
+    ..ELIMINATE
+};
 static CHEAPER: Service = Service {
     name: "cheaper",
     out_words: 6,
     outputs: 2,
+    takes_plan: true,
     answers: ELIMINATE.answers,
     ..PLAIN
 };
@@ -97,7 +108,7 @@ static KEPT_PART: Service = Service {
     ..PLAIN
 };
 
-pub static SERVICES: [&Service; 10] = [
+pub static SERVICES: [&Service; 11] = [
     &CHECK_SHEET,
     &STEP,
     &CHECK_PLAN,
@@ -106,6 +117,7 @@ pub static SERVICES: [&Service; 10] = [
     &MARKS,
     &ELIMINATE,
     &GREEDY,
+    &EXACT,
     &CHEAPER,
     &KEPT_PART,
 ];
@@ -120,6 +132,7 @@ pub enum Call {
     Marks,
     Eliminate,
     Greedy,
+    Exact,
     Cheaper,
     KeptPart { tallies: [Tally; 2] },
 }
@@ -135,6 +148,7 @@ impl Call {
             Call::Marks => &MARKS,
             Call::Eliminate => &ELIMINATE,
             Call::Greedy => &GREEDY,
+            Call::Exact => &EXACT,
             Call::Cheaper => &CHEAPER,
             Call::KeptPart { .. } => &KEPT_PART,
         }

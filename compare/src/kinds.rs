@@ -1,5 +1,7 @@
 //! The kinds of cases that are tried, and what they share: calls with buffers of many lengths.
 
+mod due;
+mod exact;
 mod part;
 mod plan;
 mod reduction;
@@ -29,6 +31,7 @@ pub fn all() -> Vec<Kind> {
         step::KINDS,
         tally::KINDS,
         reduction::KINDS,
+        exact::KINDS,
         part::KINDS,
     ];
     let others = others
@@ -36,6 +39,13 @@ pub fn all() -> Vec<Kind> {
         .into_iter()
         .map(|(name, make)| Kind::Other(name, make));
     faults.chain(others).collect()
+}
+
+/// The random case with this number and the index of its kind. Kinds take turns, so that a short run
+/// tries them all.
+pub fn numbered(kinds: &[Kind], seed: u64, number: u64) -> (usize, Case) {
+    let kind = (number % kinds.len() as u64) as usize;
+    (kind, kinds[kind].make(&mut Random::of_case(seed, number)))
 }
 
 impl Kind {
@@ -47,7 +57,7 @@ impl Kind {
     }
 
     /// Tries random tasks until one has a spot for the case.
-    pub fn make(self, random: &mut Random) -> Case {
+    fn make(self, random: &mut Random) -> Case {
         let most_attempts = 10_000;
         let case = (0..most_attempts).find_map(|_| match self {
             Kind::SheetFault(fault) => sheet::with_fault(random, fault),
@@ -125,6 +135,7 @@ fn random_plan_call(random: &mut Random) -> Call {
         Call::Marks,
         Call::Eliminate,
         Call::Greedy,
+        Call::Exact,
         Call::Cheaper,
     ])
 }

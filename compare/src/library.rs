@@ -63,6 +63,18 @@ extern "C" {
         out: *mut u64,
         out_len: usize,
     );
+    fn hollchiku_exact(
+        words: *const u32,
+        n: usize,
+        plan: *const u32,
+        m: usize,
+        output: *mut u32,
+        output_len: usize,
+        mask: *mut u64,
+        mask_len: usize,
+        out: *mut u64,
+        out_len: usize,
+    );
     fn hollchiku_cheaper(
         words: *const u32,
         n: usize,
@@ -151,7 +163,7 @@ pub fn marks(words: &mut [u32], plan: &mut [u32], mask: &mut [u64], out: &mut [u
     }
 }
 
-/// The signature that both ways of elimination have.
+/// The signature that the three ways of striking have.
 type Reduce = unsafe extern "C" fn(
     *const u32,
     usize,
@@ -183,6 +195,16 @@ pub fn greedy(
     out: &mut [u64],
 ) {
     reduce(hollchiku_greedy, words, plan, output, mask, out)
+}
+
+pub fn exact(
+    words: &mut [u32],
+    plan: &mut [u32],
+    output: &mut [u32],
+    mask: &mut [u64],
+    out: &mut [u64],
+) {
+    reduce(hollchiku_exact, words, plan, output, mask, out)
 }
 
 fn reduce(

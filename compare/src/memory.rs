@@ -2,6 +2,9 @@
 //! of which answers a call in memory of its own.
 
 mod by_rules;
+mod faulty;
+
+pub use faulty::FAULTS;
 
 use crate::cases::{Call, Case, Due};
 use crate::library;
@@ -111,6 +114,7 @@ impl Memory {
             Call::Marks => library::marks(words, plan, mask, out),
             Call::Eliminate => library::eliminate(words, plan, first, mask, out),
             Call::Greedy => library::greedy(words, plan, first, mask, out),
+            Call::Exact => library::exact(words, plan, first, mask, out),
             Call::Cheaper => library::cheaper(words, plan, first, second, out),
             Call::KeptPart { tallies } => {
                 let part = self.part.words_mut();

@@ -3,16 +3,20 @@
 
 mod cheaper;
 mod elimination;
+mod exact;
 mod marks;
+mod program;
 mod task;
 
 pub use cheaper::{cheaper, kept_part};
 pub use elimination::{eliminate, greedy, Kept};
+pub use exact::{count, exact, steps_of};
 pub use marks::marks;
-pub use task::check_sheet;
+pub use program::{printed_by_shorten, printed_by_validate};
+pub use task::{check_sheet, Action};
 
 use std::cmp::Ordering;
-use task::{Action, Task};
+use task::Task;
 
 pub const EDITION: usize = 1;
 pub const MAX_WORDS: usize = 8_192;
@@ -22,6 +26,8 @@ pub const MAX_DOMAIN: usize = 256;
 pub const MAX_ACTION_COST: usize = 1_000_000;
 pub const MAX_STEPS: usize = 255;
 pub const MAX_TALLY_COST: usize = 255_000_000;
+/// The most unmarked steps that the exact reduction takes.
+pub const MAX_UNMARKED: usize = 20;
 
 /// A fact is variable × 256 + value: every value of the largest domain fits below the variable.
 pub const FACT_BASE: usize = MAX_DOMAIN;
@@ -56,6 +62,7 @@ pub enum Cause {
     UnknownAction = 9,
     ShortOutput = 10,
     NotValid = 11,
+    Unmarked = 12,
 }
 
 #[derive(Clone, Copy)]
@@ -73,13 +80,13 @@ fn refuse(cause: Cause, first: Option<usize>) -> Result<(), Refusal> {
 pub type State = [u32; MAX_VARIABLES];
 
 /// The variable and the value of a fact.
-fn split(fact: u32) -> (usize, u32) {
+pub fn split(fact: u32) -> (usize, u32) {
     let base = FACT_BASE as u32;
     ((fact / base) as usize, fact % base)
 }
 
 /// A fact holds by equality of the whole value, which may be outside the domain.
-fn all_hold(facts: &[u32], state: &State) -> bool {
+pub fn all_hold(facts: &[u32], state: &State) -> bool {
     facts.iter().all(|&fact| {
         let (variable, value) = split(fact);
         state[variable] == value
@@ -87,7 +94,7 @@ fn all_hold(facts: &[u32], state: &State) -> bool {
 }
 
 /// Does the step, unless a precondition fails: then the state stays and the answer is false.
-fn do_step(action: Action, state: &mut State) -> bool {
+pub fn do_step(action: Action, state: &mut State) -> bool {
     let can_be_done = all_hold(action.preconditions, state);
     if can_be_done {
         for &effect in action.effects {
@@ -126,16 +133,16 @@ pub fn check_plan(words: &[u32], plan: &[u32]) -> Result<Run, Refusal> {
 }
 
 /// A valid plan of a task, as the actions of its steps, and its end state.
-struct Lodged<'a> {
-    task: Task<'a>,
-    actions: Vec<Action<'a>>,
+pub struct Lodged<'a> {
+    pub task: Task<'a>,
+    pub actions: Vec<Action<'a>>,
     end: State,
 }
 
 impl<'a> Lodged<'a> {
     /// Refusals 1 to 11; 10 is for services with outputs, whose lengths are passed. Positions in
     /// the plan count from 1.
-    fn check(words: &'a [u32], plan: &[u32], outputs: &[usize]) -> Result<Self, Refusal> {
+    pub fn check(words: &'a [u32], plan: &[u32], outputs: &[usize]) -> Result<Self, Refusal> {
         let task = check_sheet(words)?;
         let steps = plan.len();
         let too_long = steps > MAX_STEPS;
@@ -159,14 +166,20 @@ pub type Mask = [u64; MASK_WORDS];
 
 pub const MASK_WORDS: usize = 4;
 
+pub const WORD_BITS: usize = u64::BITS as usize;
+
 /// The mask of the steps with these indices.
 pub fn mask_of(indices: impl Iterator<Item = usize>) -> Mask {
-    let word_bits = u64::BITS as usize;
     let mut mask = [0; MASK_WORDS];
     for index in indices {
-        mask[index / word_bits] |= 1 << (index % word_bits);
+        mask[index / WORD_BITS] |= 1 << (index % WORD_BITS);
     }
     mask
+}
+
+/// Whether the step with this index is in the mask.
+pub fn has(mask: Mask, index: usize) -> bool {
+    mask[index / WORD_BITS] >> (index % WORD_BITS) & 1 == 1
 }
 
 /// A tally of cost and steps; it may hold any words.

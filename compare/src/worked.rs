@@ -1,6 +1,7 @@
 //! The worked lists of document 01 and the numbers at its limits, with the answers written out by
 //! hand from its text: they hold the independent version to the document.
 
+mod exact;
 mod reductions;
 
 use crate::cases::{Call, Case, Due, ABOVE, BELOW, EQUAL};
@@ -10,7 +11,7 @@ use crate::rules::{self, Cause, Tally};
 type Worked = (&'static str, Case);
 
 /// Sheet P. Its actions are 0 lift, 1 drain, 2 drop, 3 lamp; its variables gate, basin, lamp.
-const SHEET_P: [u32; 41] = [
+pub const SHEET_P: [u32; 41] = [
     1, 3, 4, 41, // edition, variables, actions, words
     18, 3, 21, 3, 24, 2, 26, 4, 30, 4, 34, 4, 38, 3, // pairs
     2, 2, 2, // domain sizes
@@ -24,6 +25,7 @@ const SHEET_P: [u32; 41] = [
 /// Where the lamp's cost stands in sheet P.
 const LAMP_COST: usize = 38;
 const LAMP: u32 = 3;
+pub const LIST_1: [u32; 6] = [3, 0, 2, 0, 1, 2];
 const LIFT_DRAIN_DROP: [u32; 3] = [0, 1, 2];
 
 /// One variable of one value, no goal, and one action of the greatest cost without facts.
@@ -43,6 +45,9 @@ pub fn cases() -> Vec<Worked> {
     cases.extend(reductions::longest());
     cases.extend(reductions::refusals());
     cases.extend(reductions::kept_parts());
+    cases.extend(exact::lists());
+    cases.extend(exact::refusals());
+    cases.extend(exact::short_outputs());
     cases
 }
 
@@ -51,7 +56,7 @@ fn worked_lists() -> Vec<Worked> {
     let valid = |plan, counts, end| check_plan(&SHEET_P, plan).accepted(counts, &state(end));
     vec![
         ("sheet P", check_sheet(&SHEET_P).accepted(&[], &[])),
-        ("list 1", valid(&[3, 0, 2, 0, 1, 2], &[23, 6], &[0, 1, 1])),
+        ("list 1", valid(&LIST_1, &[23, 6], &[0, 1, 1])),
         ("list 3", valid(&LIFT_DRAIN_DROP, &[12, 3], &[0, 1, 0])),
         ("list 4", not_valid(&[], 1)),
         ("list 5", not_valid(&[0, 0], 2)),
@@ -61,11 +66,6 @@ fn worked_lists() -> Vec<Worked> {
 
 /// List 11, and the cost of the dearest plan.
 fn limits() -> Vec<Worked> {
-    let with_lamp_cost = |cost| {
-        let mut words = SHEET_P;
-        words[LAMP_COST] = cost;
-        words
-    };
     let dear = with_lamp_cost(1_000_000);
     let too_dear = with_lamp_cost(1_000_001);
     let steps_255 = check_plan(&SHEET_P, &lamps_then_drain(255));
@@ -86,6 +86,12 @@ fn limits() -> Vec<Worked> {
             dearest_plan.accepted(&[255_000_000, 255], &state(&[])),
         ),
     ]
+}
+
+pub fn with_lamp_cost(cost: u32) -> [u32; 41] {
+    let mut words = SHEET_P;
+    words[LAMP_COST] = cost;
+    words
 }
 
 /// The second state has values outside the domains.

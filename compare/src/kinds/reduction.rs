@@ -1,7 +1,7 @@
-//! Marks, both eliminations and the cheaper of their results, on plans that hold much to strike and
-//! on plans that hold little.
+//! Marks, the three ways of striking and the cheaper of both eliminations, on plans that hold much
+//! to strike and on plans that hold little.
 
-use super::{plan_case, plan_case_with, valid_plan_call, Make, QUICK_STEPS};
+use super::{due, plan_case, plan_case_with, valid_plan_call, Make, QUICK_STEPS};
 use crate::answered::{self, Answered};
 use crate::cases::{accepted_out, Call, Case, Due};
 use crate::cycles::{self, Shape};
@@ -143,62 +143,21 @@ fn answered_case(random: &mut Random, answered: &Answered) -> Case {
     let Answered { task, plan, .. } = answered;
     let call = valid_plan_call(random, plan.len());
     let case = plan_case(random, call, task.words(), plan.clone());
-    let due = match call {
-        Call::Marks => Due {
-            out: accepted_out(&[]),
-            mask: mask_of(&answered.marked),
+    let unmarked = plan.len() - answered.marked.len();
+    match call {
+        Call::Marks => due::marking(case, &answered.marked),
+        Call::Eliminate => due::keeping(case, task, &answered.eliminated),
+        Call::Exact if unmarked > rules::MAX_UNMARKED => case.refused(Cause::Unmarked, unmarked),
+        Call::Greedy | Call::Exact => due::keeping(case, task, &answered.greedy),
+        Call::Cheaper => {
+            let both = [&answered.eliminated[..], &answered.greedy];
+            due::keeping_both(case, task, both)
+        }
+        _ => case.due(Due {
+            out: accepted_out(&due::counts(task, plan)),
             ..Due::default()
-        },
-        Call::Eliminate => reduction_due(answered, &answered.eliminated, &case),
-        Call::Greedy => reduction_due(answered, &answered.greedy, &case),
-        Call::Cheaper => cheaper_due(answered, &case),
-        _ => Due {
-            out: accepted_out(&counts(answered, plan)),
-            ..Due::default()
-        },
-    };
-    case.due(due)
-}
-
-fn reduction_due(answered: &Answered, steps: &[usize], case: &Case) -> Due {
-    let kept = actions_of(answered, steps);
-    Due {
-        out: accepted_out(&counts(answered, &kept)),
-        mask: mask_of(steps),
-        first: in_front(&kept, &case.first),
-        ..Due::default()
+        }),
     }
-}
-
-fn cheaper_due(answered: &Answered, case: &Case) -> Due {
-    let first = actions_of(answered, &answered.eliminated);
-    let second = actions_of(answered, &answered.greedy);
-    let both = [counts(answered, &first), counts(answered, &second)];
-    Due {
-        out: accepted_out(&both.concat()),
-        first: in_front(&first, &case.first),
-        second: in_front(&second, &case.second),
-        ..Due::default()
-    }
-}
-
-fn actions_of(answered: &Answered, steps: &[usize]) -> Vec<u32> {
-    steps.iter().map(|&step| answered.plan[step]).collect()
-}
-
-/// The cost and the number of these steps.
-fn counts(answered: &Answered, plan: &[u32]) -> [usize; 2] {
-    let cost_of = |&action: &u32| answered.task.actions[action as usize].cost as usize;
-    [plan.iter().map(cost_of).sum(), plan.len()]
-}
-
-fn mask_of(steps: &[usize]) -> Vec<u64> {
-    rules::mask_of(steps.iter().copied()).to_vec()
-}
-
-/// An output with the words in its front and the others as they were.
-fn in_front(words: &[u32], output: &[u32]) -> Vec<u32> {
-    [words, &output[words.len()..]].concat()
 }
 
 /// A walk of at least one step.
@@ -210,7 +169,7 @@ fn random_walk(random: &mut Random) -> Walk {
 /// One output is shorter than the plan or both are; what is kept may well fit.
 fn short_case(random: &mut Random, walk: &Walk) -> Case {
     let steps = walk.plan.len();
-    let call = random.pick(&[Call::Eliminate, Call::Greedy, Call::Cheaper]);
+    let call = random.pick(&[Call::Eliminate, Call::Greedy, Call::Exact, Call::Cheaper]);
     let mut outputs = [(); 2].map(|_| random.size(0..=2 * steps));
     let short = random.index(call.service().outputs);
     outputs[short] = random.pick(&[steps - 1, outputs[short] % steps]);

@@ -5,9 +5,6 @@ use crate::cases::{Call, ABOVE, BELOW, EQUAL, LEFT, OF_FIRST, OF_SECOND, TAKEN};
 use crate::rules::{self, Kept, Refusal, State, Tally};
 use std::cmp::Ordering;
 
-/// A way of elimination: the sheet, the plan, and the length of the output.
-type Reduce = fn(&[u32], &[u32], usize) -> Result<Kept, Refusal>;
-
 impl Memory {
     /// Answers with the number that the case is counted under.
     pub fn answer_by_rules(&mut self, call: Call) -> u64 {
@@ -20,6 +17,7 @@ impl Memory {
             Call::Marks => self.marks(),
             Call::Eliminate => self.reduce(rules::eliminate),
             Call::Greedy => self.reduce(rules::greedy),
+            Call::Exact => self.reduce(rules::exact),
             Call::Cheaper => self.cheaper(),
             Call::KeptPart { tallies } => self.kept_part(tallies),
         }
@@ -85,7 +83,11 @@ impl Memory {
         answer[0]
     }
 
-    fn reduce(&mut self, reduce: Reduce) -> u64 {
+    /// A way of striking answers to the sheet, the plan and the length of the output.
+    pub fn reduce(
+        &mut self,
+        reduce: impl Fn(&[u32], &[u32], usize) -> Result<Kept, Refusal>,
+    ) -> u64 {
         let (words, plan) = (self.words.words(), self.plan.words());
         let result = reduce(words, plan, self.first.words().len());
         let [number, place] = number_and_place(&result);

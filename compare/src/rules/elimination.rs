@@ -1,7 +1,7 @@
 //! Elimination and greedy elimination. Both go through the current list from the state before each
 //! step, so that a trial walks only what stands behind it.
 
-use super::{all_hold, do_step, mask_of, Lodged, Mask, Refusal, State};
+use super::{all_hold, do_step, has, mask_of, Lodged, Mask, Refusal, State, MAX_STEPS};
 
 /// What a reduction keeps.
 pub struct Kept {
@@ -18,6 +18,11 @@ impl Kept {
             actions: steps.iter().map(|&step| plan[step]).collect(),
             mask: mask_of(steps.iter().copied()),
         }
+    }
+
+    /// The indices of the kept steps.
+    pub fn steps(&self) -> impl Iterator<Item = usize> + '_ {
+        (0..MAX_STEPS).filter(|&step| has(self.mask, step))
     }
 }
 

@@ -5,17 +5,21 @@ use super::{mask_of, split, Lodged, Mask, Refusal, State, FACT_BASE, MAX_VARIABL
 
 /// Refusals 1 to 9 and 11.
 pub fn marks(words: &[u32], plan: &[u32]) -> Result<Mask, Refusal> {
-    let lodged = Lodged::check(words, plan, &[])?;
-    let actions = &lodged.actions;
-    let mut marking = Marking::of(&lodged);
-    marking.mark_only_writers(lodged.task.goal());
-    for (step, action) in actions.iter().enumerate().rev() {
-        marking.leave(action.effects);
-        if marking.marked[step] {
-            marking.mark_only_writers(action.preconditions);
+    Ok(Lodged::check(words, plan, &[])?.marked())
+}
+
+impl Lodged<'_> {
+    pub fn marked(&self) -> Mask {
+        let mut marking = Marking::of(self);
+        marking.mark_only_writers(self.task.goal());
+        for (step, action) in self.actions.iter().enumerate().rev() {
+            marking.leave(action.effects);
+            if marking.marked[step] {
+                marking.mark_only_writers(action.preconditions);
+            }
         }
+        mask_of((0..self.actions.len()).filter(|&i| marking.marked[i]))
     }
-    Ok(mask_of((0..actions.len()).filter(|&i| marking.marked[i])))
 }
 
 /// The steps of a plan's front that have a fact as an effect: how many they are, and the first.

@@ -1,12 +1,12 @@
 //! The worked lists of document 01 that are about marks, elimination, greedy elimination and the
 //! cheaper of both.
 
-use super::{lamps_then_drain, new, tally, Worked, LIFT_DRAIN_DROP, SHEET_P};
+use super::{lamps_then_drain, new, tally, Worked, LIFT_DRAIN_DROP, LIST_1, SHEET_P};
 use crate::cases::{accepted_out, Call, Case, Due};
 use crate::rules::{Cause, Mask};
 
 /// Sheet P with the goal gate 0 alone.
-const GATE_ALONE: [u32; 40] = [
+pub const GATE_ALONE: [u32; 40] = [
     1, 3, 4, 40, // edition, variables, actions, words
     18, 3, 21, 3, 24, 1, 25, 4, 29, 4, 33, 4, 37, 3, // pairs
     2, 2, 2, // domain sizes
@@ -19,7 +19,7 @@ const GATE_ALONE: [u32; 40] = [
 ];
 
 /// The sheet of list 7: two ways to give one variable its goal value.
-const TWO_WAYS: [u32; 23] = [
+pub const TWO_WAYS: [u32; 23] = [
     1, 1, 2, 23, // edition, variables, actions, words
     14, 1, 15, 1, 16, 1, 17, 3, 20, 3, // pairs
     2, 0, 1, // domain size, starting value, goal
@@ -28,7 +28,7 @@ const TWO_WAYS: [u32; 23] = [
 ];
 
 /// The sheet of list 8: u, both, v.
-const U_AND_V: [u32; 32] = [
+pub const U_AND_V: [u32; 32] = [
     1, 2, 3, 32, // edition, variables, actions, words
     16, 2, 18, 2, 20, 2, 22, 3, 25, 4, 29, 3, // pairs
     2, 2, // domain sizes
@@ -40,7 +40,7 @@ const U_AND_V: [u32; 32] = [
 ];
 
 /// Stands in outputs before the call.
-const OTHER_WORD: u32 = 77;
+pub const OTHER_WORD: u32 = 77;
 
 /// What a reduction keeps.
 #[derive(Clone, Copy)]
@@ -116,7 +116,7 @@ impl List<'_> {
 }
 
 /// An output of this length with the words in its front and the others as they were.
-fn in_front(words: &[u32], length: usize) -> Vec<u32> {
+pub fn in_front(words: &[u32], length: usize) -> Vec<u32> {
     let mut output = words.to_vec();
     output.resize(length, OTHER_WORD);
     output
@@ -141,7 +141,7 @@ pub fn lists() -> Vec<Worked> {
         List {
             name: "lists 1 and 2",
             words: &SHEET_P,
-            plan: &[3, 0, 2, 0, 1, 2],
+            plan: &LIST_1,
             marks: short(0b010000),
             eliminated: last_three,
             greedy: last_three,

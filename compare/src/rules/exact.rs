@@ -1,0 +1,70 @@
+//! The exact reduction: of all valid reductions the lowest cost, then the fewest steps; among those
+//! still equal, at the first step where two differ, the one that strikes it. Neither way of finding
+//! it knows anything of marks, so that a fault in the marks can't hide in it; they are only counted.
+
+mod states;
+
+use super::{all_hold, do_step, refuse, Cause, Kept, Lodged, Refusal, MAX_UNMARKED};
+
+/// Plans of so many steps have all their reductions gone through; longer ones would take too long.
+const FEW_STEPS: usize = 9;
+
+/// Refusals 1 to 12.
+pub fn exact(words: &[u32], plan: &[u32], output: usize) -> Result<Kept, Refusal> {
+    let lodged = Lodged::check_unmarked(words, plan, output)?;
+    let way = match plan.len() <= FEW_STEPS {
+        true => Lodged::least_of_all,
+        false => Lodged::least_by_states,
+    };
+    Ok(lodged.kept(plan, way))
+}
+
+impl<'a> Lodged<'a> {
+    /// Refusals 1 to 12.
+    pub fn check_unmarked(words: &'a [u32], plan: &[u32], output: usize) -> Result<Self, Refusal> {
+        let lodged = Lodged::check(words, plan, &[output])?;
+        let unmarked = lodged.unmarked();
+        let too_many = unmarked > MAX_UNMARKED;
+        refuse(Cause::Unmarked, too_many.then_some(unmarked))?;
+        Ok(lodged)
+    }
+
+    pub fn unmarked(&self) -> usize {
+        let marked: u32 = self.marked().iter().map(|word| word.count_ones()).sum();
+        self.actions.len() - marked as usize
+    }
+
+    /// The exact reduction as the steps that it keeps, found among all reductions: a reduction is
+    /// told by a flag for each step, and of two lists of flags the one that strikes at the first
+    /// difference is the lesser.
+    pub fn least_of_all(&self) -> Vec<usize> {
+        let valid = self.reductions().filter(|kept| self.is_valid(kept));
+        let least = valid.min_by_key(|kept| (self.cost(kept), count(kept), kept.clone()));
+        steps_of(&least.expect("the plan itself is a valid reduction"))
+    }
+
+    /// All of them, valid or not; the plan has fewer than 32 steps.
+    pub fn reductions(&self) -> impl Iterator<Item = Vec<bool>> {
+        let steps = self.actions.len();
+        (0..1_u32 << steps).map(move |bits| (0..steps).map(|i| bits >> i & 1 == 1).collect())
+    }
+
+    pub fn is_valid(&self, kept: &[bool]) -> bool {
+        let mut state = self.task.start();
+        let steps = steps_of(kept);
+        let done = steps.iter().all(|&i| do_step(self.actions[i], &mut state));
+        done && all_hold(self.task.goal(), &state)
+    }
+
+    pub fn cost(&self, kept: &[bool]) -> usize {
+        steps_of(kept).iter().map(|&i| self.actions[i].cost).sum()
+    }
+}
+
+pub fn count(kept: &[bool]) -> usize {
+    kept.iter().filter(|&&is_kept| is_kept).count()
+}
+
+pub fn steps_of(kept: &[bool]) -> Vec<usize> {
+    (0..kept.len()).filter(|&step| kept[step]).collect()
+}

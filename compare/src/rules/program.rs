@@ -1,0 +1,65 @@
+//! What the programs print for the bytes of their input (document 01, "Worked lists", on the
+//! program).
+
+use super::{check_plan, exact, Cause, Lodged, Refusal, COUNT_WORD, HEADER, MAX_STEPS, MAX_WORDS};
+
+const WORD_BYTES: usize = 4;
+
+/// The sheet and the plan that input holds, unless it breaks off or runs on, or says that the sheet
+/// has too few words or too many. Of a plan whose length is above 255 nothing but that is known:
+/// any plan that is too long stands for it.
+fn read(bytes: &[u8]) -> Option<(Vec<u32>, Vec<u32>)> {
+    let (words, rest) = bytes.as_chunks::<WORD_BYTES>();
+    let words: Vec<u32> = words.iter().map(|&word| u32::from_le_bytes(word)).collect();
+    let count = *words.get(COUNT_WORD)? as usize;
+    if !(HEADER..=MAX_WORDS).contains(&count) {
+        return None;
+    }
+    let steps = *words.get(count)? as usize;
+    let (sheet, plan) = (&words[..count], &words[count + 1..]);
+    if steps > MAX_STEPS {
+        return Some((sheet.to_vec(), vec![0; MAX_STEPS + 1]));
+    }
+    let is_whole = plan.len() == steps && rest.is_empty();
+    is_whole.then(|| (sheet.to_vec(), plan.to_vec()))
+}
+
+/// The lines of an answer to a sheet and a plan, or of the refusal.
+fn printed(bytes: &[u8], answer: impl Fn(&[u32], &[u32]) -> Result<String, Refusal>) -> String {
+    let broken = Refusal {
+        cause: Cause::Length,
+        place: 0,
+    };
+    let result = read(bytes).ok_or(broken);
+    result
+        .and_then(|(words, plan)| answer(&words, &plan))
+        .unwrap_or_else(|refusal| format!("refused {} {}\n", refusal.cause as u8, refusal.place))
+}
+
+/// The program that checks a plan.
+pub fn printed_by_validate(bytes: &[u8]) -> String {
+    printed(bytes, |words, plan| {
+        let run = check_plan(words, plan)?;
+        Ok(format!("lodged {} {}\n", run.steps, run.cost))
+    })
+}
+
+/// The program of the exact reduction.
+pub fn printed_by_shorten(bytes: &[u8]) -> String {
+    printed(bytes, |words, plan| {
+        let kept = exact(words, plan, plan.len())?;
+        let lodged = Lodged::check(words, plan, &[])?;
+        let costs: Vec<usize> = lodged.actions.iter().map(|action| action.cost).collect();
+        let marked = plan.len() - lodged.unmarked();
+        let lodged_cost: usize = costs.iter().sum();
+        let mut lines = vec![
+            format!("lodged {} {lodged_cost}\n", plan.len()),
+            format!("marked {marked}\n"),
+            format!("kept {} {}\n", kept.actions.len(), kept.cost),
+        ];
+        for step in kept.steps() {
+            lines.push(format!("{} {} {}\n", step + 1, plan[step], costs[step]));
+        }
+        Ok(lines.concat())
+    })
+}
