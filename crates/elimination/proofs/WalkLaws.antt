@@ -22,21 +22,20 @@ use Rattle.elimination.specs.Walk.{flags-after, state-after, Fits, Balan
 use Rattle.elimination.proofs.BalanceLaws.{strike-balanced, same-balanced, balanced-then, balanced-fits}
 
 module _ (w : List ℕ) (a j : ℕ) (m : Reduction) (s : List ℕ) (t : Tally) where
-  pub turns-skip : (up : Bool) → up ≡ getD m j false → up ≡ false → Turns w a j m s t m s t
-  turns-skip up read is = let down : getD m j false ≡ false = sym read ∙ is in record { flags = rw down; state = rw down; tally = rw down }
+  -- it was struck before
+  pub turns-skip : getD m j false ≡ false → Turns w a j m s t m s t
+  turns-skip down = record { flags = rw down; state = rw down; tally = rw down }
 
-  pub turns-done : (up done : Bool) (s′ : List ℕ) → up ≡ getD m j false → up ≡ true → Advances w s a done s′ → done ≡ true → Turns w a j m s t m s′ t
-  turns-done up done s′ read is advances was =
-      let raised : getD m j false ≡ true = sym read ∙ is in
+  pub turns-done : (done : Bool) (s′ : List ℕ) → getD m j false ≡ true → Advances w s a done s′ → done ≡ true → Turns w a j m s t m s′ t
+  turns-done done s′ up advances was =
       let can : applicable s (action w a) ≡ true = sym (advances .applied) ∙ was in
-      record { flags = rw (raised, can); state = rw (raised, can) (advances .state ∙ rw was); tally = rw (raised, can) }
+      record { flags = rw (up, can); state = rw (up, can) (advances .state ∙ rw was); tally = rw (up, can) }
 
-  pub turns-struck : (up done : Bool) (s′ : List ℕ) (m′ : Reduction) (c : ℕ) (t′ : Tally) → up ≡ getD m j false → up ≡ true → Advances w s a done s′ → done ≡ false → m′ ≡ set m j false
-      → c ≡ cost-word w a → t′ ≡ one-more t c → Turns w a j m s t m′ s′ t′
-  turns-struck up done s′ m′ c t′ read is advances was struck price counted =
-      let raised : getD m j false ≡ true = sym read ∙ is in
+  pub turns-struck : (done : Bool) (s′ : List ℕ) (m′ : Reduction) (c : ℕ) (t′ : Tally) → getD m j false ≡ true → Advances w s a done s′ → done ≡ false → m′ ≡ set m j false → c ≡ cost-word w a
+      → t′ ≡ one-more t c → Turns w a j m s t m′ s′ t′
+  turns-struck done s′ m′ c t′ up advances was struck price counted =
       let can-not : applicable s (action w a) ≡ false = sym (advances .applied) ∙ was in
-      record { flags = rw (raised, can-not) struck; state = rw (raised, can-not) (advances .state ∙ rw was); tally = rw (raised, can-not) (counted ∙ rw price) }
+      record { flags = rw (up, can-not) struck; state = rw (up, can-not) (advances .state ∙ rw was); tally = rw (up, can-not) (counted ∙ rw price) }
 
 -- past the end of the list nothing is left to walk
 pub over : (w l : List ℕ) (j : ℕ) (m : Reduction) (s : List ℕ) → length l ≤ j → (flags-after w l j m s ≡ m) × (state-after w l j m s ≡ s)

@@ -1,11 +1,12 @@
 // The walk of a trial along the rest of the current list.
-use common::access::flag;
 use common::access::strike;
 use step::advance::advance;
 use tally::Tally;
 use task::layout::cost;
+ghost use mathlib.Core.Path.{_≡_};
+ghost use mathlib.Core.Bool.{true, false};
 ghost use Prim.Native.Nat.{_≤_};
-ghost use lib.ListN.{length};
+ghost use lib.ListN.{length, getD};
 ghost use Rattle.elimination.specs.Walk.{Walks, Turns};
 
 // Does each kept step from index i on in turn, and strikes those that can't be done. Adds what it strikes to the tally of what is struck already.
@@ -23,13 +24,17 @@ pub(crate) fn walk_rest(
     let mut tally = struck;
     let mut j = i;
     while j < plan.len() {
-        tally = do_or_strike(words, flags, state, plan[j], j, tally);
-        j += 1;
+        if flags[j] {
+            tally = do_or_strike(words, flags, state, plan[j], j, tally);
+            j += 1;
+        } else {
+            j += 1;
+        }
     }
     tally
 }
 
-// Does action a if the step at index j is kept, and strikes it where it can't be done.
+// Does action a for the kept step at index j, and strikes it where it can't be done.
 fn do_or_strike(
     words: &[u32],
     flags: &mut [bool],
@@ -38,14 +43,12 @@ fn do_or_strike(
     j: usize,
     struck: Tally,
 ) -> Tally
+    requires { ⌜ getD (now flags) j false ≡ true ⌝ }
     ensures { λ r. ⌜ Turns (now (words .entry)) a j (now (flags .entry)) (now (state .entry)) struck (now (flags .exit)) (now (state .exit)) r ⌝ }
 {
-    if flag(flags, j) {
-        if advance(words, state, a) {
-            return struck;
-        }
-        strike(flags, j);
-        return struck.add(cost(words, a));
+    if advance(words, state, a) {
+        return struck;
     }
-    struck
+    strike(flags, j);
+    struck.add(cost(words, a))
 }

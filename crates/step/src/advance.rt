@@ -2,11 +2,9 @@
 use crate::facts::first_failing;
 use crate::facts::write_facts;
 use common::place::Place;
-use task::layout::action_end;
-use task::layout::effect_at;
 use task::layout::goal_at;
 use task::layout::goal_end;
-use task::layout::precondition_at;
+use task::layout::parts_of;
 ghost use mathlib.Core.Path.{_≡_};
 ghost use Rattle.sas.specs.Plan.{satisfies};
 ghost use Rattle.task.specs.Decode.{goal};
@@ -16,12 +14,12 @@ ghost use Rattle.step.specs.Advance.{Advances};
 pub fn advance(words: &[u32], state: &mut [u32], action: u32) -> bool
     ensures { λ r. ⌜ Advances (now (words .entry)) (now (state .entry)) action r (now (state .exit)) ⌝ }
 {
-    let effect = effect_at(words, action);
-    let failing = first_failing(words, state, precondition_at(words, action), effect);
+    let parts = parts_of(words, action);
+    let failing = first_failing(words, state, parts.precondition, parts.effect);
     match failing {
         Place::At(_) => false,
         Place::Nowhere => {
-            write_facts(words, state, effect, action_end(words, action));
+            write_facts(words, state, parts.effect, parts.end);
             true
         }
     }

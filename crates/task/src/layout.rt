@@ -92,6 +92,27 @@ pub fn cost(w: &[u32], a: u32) -> u32
     word(w, offset(w, FIRST_ACTION + a as usize))
 }
 
+// Where the precondition of an action begins, where its effect does, and where both end.
+pub struct ActionParts {
+    pub precondition: usize,
+    pub effect: usize,
+    pub end: usize,
+}
+
+// The parts of action a, from one reading of its pair.
+pub fn parts_of(w: &[u32], a: u32) -> ActionParts
+    ensures { λ r. ⌜ (r .precondition ≡ precondition-start (now (w .entry)) a) × ((r .effect ≡ effect-start (now (w .entry)) a) × (r .end ≡ effect-end (now (w .entry)) a)) ⌝ }
+{
+    let k = FIRST_ACTION + a as usize;
+    let from = offset(w, k);
+    let precondition = from + ACTION_HEADER;
+    ActionParts {
+        precondition,
+        effect: precondition + number(w, from + 1),
+        end: from + size(w, k),
+    }
+}
+
 // Where the precondition of action a begins.
 pub fn precondition_at(w: &[u32], a: u32) -> usize
     ensures { λ r. ⌜ (r ≡ precondition-start (now (w .entry)) a) × (r < 2 ^ 33) ⌝ }

@@ -1,8 +1,10 @@
 -- `walk_rest` meets its contract. The loop's invariant: from the next index on the walk ends as it was to end. Assumes nothing.
 use borrow.Author.Needs.{needs}
+use native.Mathlib.Omega.{arith}
+use mathlib.Core.Path.{refl}
 use Prim.Native.Nat.{_-_}
 use lib.ListN.{length}
-use Rattle.elimination.proofs.WalkLaws.{Along, along-start, along-turn, along-walks}
+use Rattle.elimination.proofs.WalkLaws.{turns-skip, Along, along-start, along-turn, along-walks}
 use Rattle.elimination.proofs.walk.walk_rest.Statement.{statement}
 use Rattle.elimination.proofs.walk.walk_rest.Tie as tie
 
@@ -15,6 +17,9 @@ abbrev μ-loop : tie.MeasureT-loop
 loop-holds : tie.Need-loop-holds Inv-loop μ-loop
 loop-holds c = along-start _ _ _ _ _ _
 
+slice-read-if1 : tie.Need-slice-read-if1 Inv-loop μ-loop
+slice-read-if1 c = let turn = c .before .before in omega (arith, turn .loop .inv .long, turn .before .before .before .before .before .pre, c .before .loop-test .taken)
+
 mul-do-or-strike : tie.Need-mul-do-or-strike Inv-loop μ-loop
 mul-do-or-strike c = search needs
 
@@ -22,7 +27,7 @@ shared-slice-read-do-or-strike : tie.Need-shared-slice-read-do-or-strike Inv-loo
 shared-slice-read-do-or-strike c = search needs
 
 do-or-strike-requires : tie.Need-do-or-strike-requires Inv-loop μ-loop
-do-or-strike-requires c κs = search needs
+do-or-strike-requires c κs = c .before .before .before .if1 .taken
 
 add-j : tie.Need-add-j Inv-loop μ-loop
 add-j c = search needs
@@ -31,7 +36,16 @@ loop-less : tie.Need-loop-less Inv-loop μ-loop
 loop-less c = search needs
 
 loop-again : tie.Need-loop-again Inv-loop μ-loop
-loop-again c = let turn = c .before .before .before .before .before .before .before .before .before in let done = c .before .before .before .before .do-or-strike in along-turn _ _ _ _ _ _ _ _ _ _ (turn .loop .inv) _ _ _ (turn .before .before .before .before .before .pre) (c .before .before .before .before .before .before .before .before .loop-test .taken) (done .kept .1 .0) (done .kept .1 .1 .0) (done .ensures)
+loop-again c = let turn = c .before .before .before .before .before .before .before .before .before .before .before in let done = c .before .before .before .before .do-or-strike in along-turn _ _ _ _ _ _ _ _ _ _ (turn .loop .inv) _ _ _ (turn .before .before .before .before .before .pre) (c .before .before .before .before .before .before .before .before .before .before .loop-test .taken) (done .kept .1 .0) (done .kept .1 .1 .0) (done .ensures)
+
+add-j-2 : tie.Need-add-j-2 Inv-loop μ-loop
+add-j-2 c = search needs
+
+loop-less-2 : tie.Need-loop-less-2 Inv-loop μ-loop
+loop-less-2 c = search needs
+
+loop-again-2 : tie.Need-loop-again-2 Inv-loop μ-loop
+loop-again-2 c = let turn = c .before .before .before in along-turn _ _ _ _ _ _ _ _ _ _ (turn .loop .inv) _ _ _ (turn .before .before .before .before .before .pre) (c .before .before .loop-test .taken) refl refl (turns-skip _ _ _ _ _ _ (c .if1 .left))
 
 same-length : tie.Need-same-length Inv-loop μ-loop
 same-length c = c .before .loop .inv .long
@@ -49,12 +63,16 @@ walk-rest-spec =
     Inv-loop
     μ-loop
     loop-holds
+    slice-read-if1
     mul-do-or-strike
     shared-slice-read-do-or-strike
     do-or-strike-requires
     add-j
     loop-less
     loop-again
+    add-j-2
+    loop-less-2
+    loop-again-2
     same-length
     same-length-2
     returns)
