@@ -118,9 +118,9 @@ module _ (w l : List ℕ) (g : Reduction) (bits : List ℕ) (i : ℕ) (s : State
                 rw (steps-next, keep-not-lower (goal w) (steps w l) i here behind (drop i g) s m b (lower-right ready m b tells same told ∙ e)) told;
           }
 
-      module _ (is-lower : low ≡ true) (a : ℕ) (done : Bool) (next : State) (read : a ≡ getD l i 0) (advances : Advances w s a done next) where
+      module _ (is-lower : low ≡ true) (a : ℕ) (done : Bool) (copy next : State) (copies : copy ≡ s) (read : a ≡ getD l i 0) (advances : Advances w copy a done next) where
         applied : done ≡ applicable s here
-        applied = advances .applied ∙ rw read
+        applied = advances .applied ∙ rw (read, copies)
 
         pub not-done : done ≡ false → Turns w l g bits keep i s k best best
         not-done e =
@@ -129,7 +129,7 @@ module _ (w l : List ℕ) (g : Reduction) (bits : List ℕ) (i : ℕ) (s : State
         pub kept-on : (first after : Kept) → done ≡ true → Turns w l g bits strike (i + 1) next with best first → Turns w l g bits keep (i + 1) next with first after
             → Turns w l g bits keep i s k best after
         kept-on first after e strikes-first then-keeps =
-            let reached : next ≡ apply s here = rw e at (advances .state) ∙ rw read in
+            let reached : next ≡ apply s here = rw e at (advances .state) ∙ rw (read, copies) in
             record {
               tells = λ ready m b tells same told.
                   let with-tells : Tells w l (set m i true) with = with-told ready m b tells same told in

@@ -43,6 +43,6 @@ pub fn minimal(words: &[u32], plan: &[u32], flags: &[bool]) -> Kept
     let kept = told(words, plan, flags);
     let whole = lodged(words, plan);
     let values = initial(words);
-    let struck = strike(words, plan, flags, &bits, 0, values, kept, whole);
-    keep(words, plan, flags, &bits, 0, values, kept, struck)
+    let struck = strike(words, plan, flags, &bits, 0, &values, kept, whole);
+    keep(words, plan, flags, &bits, 0, &values, kept, struck)
 }

@@ -7,8 +7,16 @@ use step::advance::advance;
 use step::advance::goal_holds;
 use task::limits::Task;
 use wanted::hold::may_strike;
+ghost use mathlib.Core.Path.{_≡_};
 ghost use Rattle.exact.specs.Search.Turn.{strike as striking, keep as keeping};
 ghost use Rattle.search.specs.Told.{Turns};
+
+// The values of a lent state. A call's result has its length in its type, which what is read behind a reference has not.
+fn copied(values: &[u32; Task::VARIABLES]) -> [u32; Task::VARIABLES]
+    ensures { λ r. ⌜ r ≡ now (values .entry) ⌝ }
+{
+    *values
+}
 
 // Strikes the step at index i, where that may be, and goes on with both turns at the next. At the end of the plan it takes what is kept, where that is
 // lower than the best and the goal holds.
@@ -18,21 +26,21 @@ pub(crate) fn strike(
     flags: &[bool],
     bits: &[u64],
     i: usize,
-    values: [u32; Task::VARIABLES],
+    values: &[u32; Task::VARIABLES],
     held: Kept,
     best: Kept,
 ) -> Kept
-    ensures { λ r. ⌜ Turns (now (words .entry)) (now (plan .entry)) (now (flags .entry)) (now (bits .entry)) striking i values held best r ⌝ }
+    ensures { λ r. ⌜ Turns (now (words .entry)) (now (plan .entry)) (now (flags .entry)) (now (bits .entry)) striking i (now (values .entry)) held best r ⌝ }
 {
     if i < plan.len() {
-        if may_strike(words, plan, flags, bits, &values, i) {
+        if may_strike(words, plan, flags, bits, values, i) {
             let struck = strike(words, plan, flags, bits, i + 1, values, held, best);
             return keep(words, plan, flags, bits, i + 1, values, held, struck);
         }
         return best;
     }
     if is_lower(held.tally, best.tally) {
-        if goal_holds(words, &values) {
+        if goal_holds(words, values) {
             return held;
         }
         return best;
@@ -47,19 +55,19 @@ pub(crate) fn keep(
     flags: &[bool],
     bits: &[u64],
     i: usize,
-    values: [u32; Task::VARIABLES],
+    values: &[u32; Task::VARIABLES],
     held: Kept,
     best: Kept,
 ) -> Kept
-    ensures { λ r. ⌜ Turns (now (words .entry)) (now (plan .entry)) (now (flags .entry)) (now (bits .entry)) keeping i values held best r ⌝ }
+    ensures { λ r. ⌜ Turns (now (words .entry)) (now (plan .entry)) (now (flags .entry)) (now (bits .entry)) keeping i (now (values .entry)) held best r ⌝ }
 {
     if i < plan.len() {
         let with = keep_step(words, plan, flags, i, held);
         if is_lower(with.tally, best.tally) {
-            let mut next = values;
+            let mut next = copied(values);
             if advance(words, &mut next, word(plan, i)) {
-                let struck = strike(words, plan, flags, bits, i + 1, next, with, best);
-                return keep(words, plan, flags, bits, i + 1, next, with, struck);
+                let struck = strike(words, plan, flags, bits, i + 1, &next, with, best);
+                return keep(words, plan, flags, bits, i + 1, &next, with, struck);
             }
             return best;
         }

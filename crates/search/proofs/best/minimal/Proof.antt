@@ -30,8 +30,8 @@ keep-requires c κs = search needs
 
 returns : tie.Need-returns
 returns c =
-    finds _ _ _ _ _ _ _ _ _ (c .before .before .before .before .before .before .before .wanted-bits .ensures) (c .before .before .before .before .before .before .told .ensures) (c .before .before .before .before .before .lodged .ensures)
-    (c .before .before .before .before .initial .ensures) (c .before .before .strike .ensures) (c .keep .ensures)
+    finds _ _ _ _ _ _ _ _ _ (c .before .before .before .before .before .before .before .before .before .wanted-bits .ensures) (c .before .before .before .before .before .before .before .before .told .ensures) (c .before .before .before .before .before .before .before .lodged .ensures)
+    (c .before .before .before .before .before .before .initial .ensures) (c .before .before .before .strike .ensures) (c .keep .ensures)
 
 pub minimal-spec : {M : Type 1} → statement M
 minimal-spec =

@@ -15,33 +15,34 @@ use Rattle.search.proofs.turns.+keep+strike.Lts-strike as strike-lts
 use Rattle.common.proofs.access.word.Reads as word-reads
 use Rattle.search.proofs.kept.is_lower.Reads as is-lower-reads
 use Rattle.search.proofs.kept.keep_step.Reads as keep-step-reads
+use Rattle.search.proofs.turns.copied.Reads as copied-reads
 use Rattle.step.proofs.advance.advance.Reads as advance-reads
 use Rattle.step.proofs.advance.goal_holds.Reads as goal-holds-reads
 use Rattle.wanted.proofs.hold.may_strike.Reads as may-strike-reads
 use Rattle.search.proofs.turns.+keep+strike.{statement}
 use Rattle.search.proofs.turns.+keep+strike.Tie.{close}
 
-abbrev μ-keep : Measures 4 keep-kinds.ps ℕ
+abbrev μ-keep : Measures 5 keep-kinds.ps ℕ
 μ-keep κs a = length (a .1 .0 .now) - a .1 .1 .1 .1 .0
 
-abbrev μ-strike : Measures 4 strike-kinds.ps ℕ
+abbrev μ-strike : Measures 5 strike-kinds.ps ℕ
 μ-strike κs a = length (a .1 .0 .now) - a .1 .1 .1 .1 .0
 
-abbrev keep-at : ℕ → In 4 keep-kinds.ps
-keep-at t = and 4 keep-kinds.ps (is 4 keep-kinds.ps μ-keep t) keep.Pre
+abbrev keep-at : ℕ → In 5 keep-kinds.ps
+keep-at t = and 5 keep-kinds.ps (is 5 keep-kinds.ps μ-keep t) keep.Pre
 
-abbrev keep-below : ℕ → In 4 keep-kinds.ps
-keep-below t = and 4 keep-kinds.ps (falls 4 keep-kinds.ps _<_ μ-keep t) keep.Pre
+abbrev keep-below : ℕ → In 5 keep-kinds.ps
+keep-below t = and 5 keep-kinds.ps (falls 5 keep-kinds.ps _<_ μ-keep t) keep.Pre
 
-abbrev strike-at : ℕ → In 4 strike-kinds.ps
-strike-at t = and 4 strike-kinds.ps (is 4 strike-kinds.ps μ-strike t) strike.Pre
+abbrev strike-at : ℕ → In 5 strike-kinds.ps
+strike-at t = and 5 strike-kinds.ps (is 5 strike-kinds.ps μ-strike t) strike.Pre
 
-abbrev strike-below : ℕ → In 4 strike-kinds.ps
-strike-below t = and 4 strike-kinds.ps (falls 4 strike-kinds.ps _<_ μ-strike t) strike.Pre
+abbrev strike-below : ℕ → In 5 strike-kinds.ps
+strike-below t = and 5 strike-kinds.ps (falls 5 strike-kinds.ps _<_ μ-strike t) strike.Pre
 
 -- what the calls of each turn are given and give at the measure t
 abbrev keep-calls : ℕ → keep-lts.Claims
-keep-calls t = (keep-step-reads.Asked, keep-step-reads.Learnt, is-lower-reads.Asked, is-lower-reads.Learnt, word-reads.Asked, word-reads.Learnt, advance-reads.Asked, advance-reads.Learnt, strike-below t, strike.Post, keep-below t, keep.Post)
+keep-calls t = (keep-step-reads.Asked, keep-step-reads.Learnt, is-lower-reads.Asked, is-lower-reads.Learnt, copied-reads.Asked, copied-reads.Learnt, word-reads.Asked, word-reads.Learnt, advance-reads.Asked, advance-reads.Learnt, strike-below t, strike.Post, keep-below t, keep.Post)
 
 abbrev strike-calls : ℕ → strike-lts.Claims
 strike-calls t = (may-strike-reads.Asked, may-strike-reads.Learnt, strike-below t, strike.Post, keep-below t, keep.Post, is-lower-reads.Asked, is-lower-reads.Learnt, goal-holds-reads.Asked, goal-holds-reads.Learnt)
@@ -51,6 +52,9 @@ keep-keep-step-requires t c κs = search needs
 
 keep-is-lower-requires : (t : ℕ) → keep-lts.Need-is-lower-requires (keep-calls t) (keep-at t) keep.Post
 keep-is-lower-requires t c κs = search needs
+
+keep-copied-requires : (t : ℕ) → keep-lts.Need-copied-requires (keep-calls t) (keep-at t) keep.Post
+keep-copied-requires t c κs = search needs
 
 keep-slice-aggregate-advance : (t : ℕ) → keep-lts.Need-slice-aggregate-advance (keep-calls t) (keep-at t) keep.Post
 keep-slice-aggregate-advance t c = search needs
@@ -68,31 +72,28 @@ keep-strike-requires : (t : ℕ) → keep-lts.Need-strike-requires (keep-calls t
 keep-strike-requires t c κs = search needs
 
 keep-add-keep : (t : ℕ) → keep-lts.Need-add-keep (keep-calls t) (keep-at t) keep.Post
-keep-add-keep t c = omega (arith, c .before .before .before .before .before .before .before .before .before .if1 .taken, c .before .before .before .before .before .before .before .before .before .before .before .before .before .before .good .1 .0 .0)
+keep-add-keep t c = omega (arith, c .before .before .before .before .before .before .before .before .before .before .before .if1 .taken, c .before .before .before .before .before .before .before .before .before .before .before .before .before .before .before .before .good .1 .0 .0)
 
 keep-keep-requires : (t : ℕ) → keep-lts.Need-keep-requires (keep-calls t) (keep-at t) keep.Post
-keep-keep-requires t c κs = (omega (arith, c .before .before .before .before .before .before .before .before .before .if1 .taken, c .before .before .before .before .before .before .before .before .before .before .before .before .before .before .pre .0), tt)
+keep-keep-requires t c κs = (omega (arith, c .before .before .before .before .before .before .before .before .before .before .before .before .if1 .taken, c .before .before .before .before .before .before .before .before .before .before .before .before .before .before .before .before .before .pre .0), tt)
 
 keep-returns : (t : ℕ) → keep-lts.Need-returns (keep-calls t) (keep-at t) keep.Post
 keep-returns t c =
-    let asked = c .before .before .before .before .before .before .before .before .before in
-    kept-on _ _ _ _ _ _ _ _ (asked .before .if1 .taken) _ _ (asked .keep-step .ensures) (c .before .before .before .before .before .before .before .before .is-lower .ensures) (c .before .before .before .before .before .before .before .if2 .taken) _ _ _
-    (c .before .before .before .before .before .word .ensures .0) (c .before .before .before .before .advance .ensures) _ _ (c .before .before .if3 .taken) (c .before .strike .ensures) (c .keep .ensures)
+    let asked = c .before .before .before .before .before .before .before .before .before .before .before .before in
+    kept-on _ _ _ _ _ _ _ _ (asked .before .if1 .taken) _ _ (asked .keep-step .ensures) (c .before .before .before .before .before .before .before .before .before .before .before .is-lower .ensures) (c .before .before .before .before .before .before .before .before .before .before .if2 .taken) _ _ _ _
+    (c .before .before .before .before .before .before .before .before .before .copied .ensures) (c .before .before .before .before .before .before .before .word .ensures .0) (c .before .before .before .before .before .before .advance .ensures) _ _ (c .before .before .before .before .if3 .taken) (c .before .before .strike .ensures) (c .keep .ensures)
 
 keep-returns-2 : (t : ℕ) → keep-lts.Need-returns-2 (keep-calls t) (keep-at t) keep.Post
 keep-returns-2 t c =
-    let asked = c .before .before .before .before .before .before .before in
-    not-done _ _ _ _ _ _ _ _ (asked .before .if1 .taken) _ _ (asked .keep-step .ensures) (c .before .before .before .before .before .before .is-lower .ensures) (c .before .before .before .before .before .if2 .taken) _ _ _
-    (c .before .before .before .word .ensures .0) (c .before .before .advance .ensures) (c .if3 .left)
+    let asked = c .before .before .before .before .before .before .before .before in
+    not-done _ _ _ _ _ _ _ _ (asked .before .if1 .taken) _ _ (asked .keep-step .ensures) (c .before .before .before .before .before .before .before .is-lower .ensures) (c .before .before .before .before .before .before .if2 .taken) _ _ _ _
+    (c .before .before .before .before .before .copied .ensures) (c .before .before .before .word .ensures .0) (c .before .before .advance .ensures) (c .if3 .left)
 
 keep-returns-3 : (t : ℕ) → keep-lts.Need-returns-3 (keep-calls t) (keep-at t) keep.Post
 keep-returns-3 t c = not-lower-kept _ _ _ _ _ _ _ _ (c .before .before .before .if1 .taken) _ _ (c .before .before .keep-step .ensures) (c .before .is-lower .ensures) (c .if2 .left)
 
 keep-returns-4 : (t : ℕ) → keep-lts.Need-returns-4 (keep-calls t) (keep-at t) keep.Post
 keep-returns-4 t c = kept-to-end _ _ _ _ _ _ _ _ (c .if1 .left)
-
-strike-slice-aggregate-may-strike : (t : ℕ) → strike-lts.Need-slice-aggregate-may-strike (strike-calls t) (strike-at t) strike.Post
-strike-slice-aggregate-may-strike t c = search needs
 
 strike-may-strike-requires : (t : ℕ) → strike-lts.Need-may-strike-requires (strike-calls t) (strike-at t) strike.Post
 strike-may-strike-requires t c κs = search needs
@@ -118,9 +119,6 @@ strike-returns-2 t c = not-struck _ _ _ _ _ _ _ _ (c .before .before .before .if
 strike-is-lower-requires : (t : ℕ) → strike-lts.Need-is-lower-requires (strike-calls t) (strike-at t) strike.Post
 strike-is-lower-requires t c κs = search needs
 
-strike-slice-aggregate-goal-holds : (t : ℕ) → strike-lts.Need-slice-aggregate-goal-holds (strike-calls t) (strike-at t) strike.Post
-strike-slice-aggregate-goal-holds t c = search needs
-
 strike-goal-holds-requires : (t : ℕ) → strike-lts.Need-goal-holds-requires (strike-calls t) (strike-at t) strike.Post
 strike-goal-holds-requires t c κs = search needs
 
@@ -139,6 +137,7 @@ pub +keep+strike-spec : {M : Type 1} → statement M
     keep.Post
     (keep-keep-step-requires t)
     (keep-is-lower-requires t)
+    (keep-copied-requires t)
     (keep-slice-aggregate-advance t)
     (keep-word-requires t)
     (keep-advance-requires t)
@@ -153,7 +152,6 @@ pub +keep+strike-spec : {M : Type 1} → statement M
     λ t. strike-lts.spec (strike-calls t)
     (strike-at t)
     strike.Post
-    (strike-slice-aggregate-may-strike t)
     (strike-may-strike-requires t)
     (strike-add-strike t)
     (strike-strike-requires t)
@@ -162,7 +160,6 @@ pub +keep+strike-spec : {M : Type 1} → statement M
     (strike-returns t)
     (strike-returns-2 t)
     (strike-is-lower-requires t)
-    (strike-slice-aggregate-goal-holds t)
     (strike-goal-holds-requires t)
     (strike-returns-3 t)
     (strike-returns-4 t)
