@@ -18,8 +18,6 @@ pub mod LowerLaws
 pub mod GreedyChoice
 -- EliminationTheorem: what the eliminations leave is valid, and no trial succeeds on what greedy elimination leaves.
 pub mod EliminationTheorem
--- Worked: the definitions on the worked lists of document 01.
-pub mod Worked
 -- BeforeLaws: the state before an index of a valid reduction, step by step, and flags past the end of a plan.
 pub mod BeforeLaws
 -- PaddedLaws: zeros at the end of a state change nothing for trials and eliminations.
