@@ -26,7 +26,7 @@ pub(crate) struct Best {
     pub struck: Tally,
 }
 
-// The better of the best so far and a trial: the one that strikes the larger price, then the more steps, the earlier where they are equal.
+// The better of the best so far and a trial: the larger cost struck, then the more steps, the earlier where they are equal.
 fn better(best: Best, tried: Tried) -> Best
     ensures { λ r. ⌜ r ≡ better-of best tried ⌝ }
 {
