@@ -29,6 +29,22 @@ pub fn put64(words: &mut [u64], i: usize, x: u64)
     }
 }
 
+// The byte at index i.
+pub fn byte(bytes: &[u8], i: usize) -> u8
+    ensures { λ r. ⌜ r ≡ getD (now (bytes .entry)) i 0 ⌝ }
+{
+    if i < bytes.len() { bytes[i] } else { 0 }
+}
+
+// Writes x at index i, among bytes.
+pub fn put8(bytes: &mut [u8], i: usize, x: u8)
+    ensures { λ _. ⌜ now (bytes .exit) ≡ set (now (bytes .entry)) i x ⌝ }
+{
+    if i < bytes.len() {
+        bytes[i] = x;
+    }
+}
+
 // The flag at index i: past the end none is up.
 pub fn flag(flags: &[bool], i: usize) -> bool
     ensures { λ r. ⌜ r ≡ getD (now (flags .entry)) i false ⌝ }

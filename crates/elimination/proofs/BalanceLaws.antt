@@ -10,7 +10,7 @@ use lib.Dec.{ltb, eqb}
 use borrow.Author.Tests.{ltb-true, ltb-false, lt-ltb, le-ltb, eqb-true, eqb-false, eq-eqb, ne-eqb}
 use Rattle.sas.specs.Plan.{cost}
 use Rattle.tally.specs.declared.Tally.{Tally}
-use Rattle.tally.specs.Tally.{bounds, nothing, one-more, comparison}
+use Rattle.tally.specs.Tally.{nothing, one-more, comparison}
 use Rattle.tally.proofs.TallyLaws.{counted}
 use Rattle.task.specs.Layout.{cost-word}
 use Rattle.task.specs.Decode.{action}

@@ -1,18 +1,14 @@
 // Greedy elimination (document 01): rounds of trials, of which each takes the best success.
 use crate::trial::Tried;
 use crate::trial::trial;
-use common::access::flag;
-use common::access::word;
 use plan::limits::Plan;
 use plan::start::initial;
 use reduced::held::all_kept;
 use step::advance::advance;
 use tally::Order;
 use tally::Tally;
-use task::limits::Task;
 ghost use mathlib.Core.Path.{_≡_};
 ghost use mathlib.Core.Bool.{true};
-ghost use Prim.Native.Nat.{_+_, _<_};
 ghost use lib.ListN.{length};
 ghost use Rattle.reduction.specs.Reduction.{valid};
 ghost use Rattle.reduction.specs.Elimination.{greedy as greedy-of};
@@ -21,7 +17,7 @@ ghost use Rattle.plan.specs.Valid.{steps};
 ghost use Rattle.plan.proofs.PlanTheorem.{Readable};
 ghost use Rattle.reduced.specs.Held.{start, mask, held};
 ghost use Rattle.elimination.specs.Current.{Current};
-ghost use Rattle.elimination.specs.Round.{Picks, Looks, better-of};
+ghost use Rattle.elimination.specs.Round.{Picks, better-of};
 
 // The best success of a round so far, if there is one, with the tally of what it strikes.
 pub(crate) struct Best {
@@ -30,13 +26,7 @@ pub(crate) struct Best {
     pub struck: Tally,
 }
 
-// The best success so far, and the state before the next step.
-pub(crate) struct Looked {
-    pub best: Best,
-    pub values: [u32; Task::VARIABLES],
-}
-
-// The better of the best so far and a trial: the one that strikes the larger price, then the more steps, the earlier where they are equal.
+// The better of the best so far and a trial: the larger cost struck, then the more steps, the earlier where they are equal.
 fn better(best: Best, tried: Tried) -> Best
     ensures { λ r. ⌜ r ≡ better-of best tried ⌝ }
 {
@@ -64,33 +54,6 @@ fn better(best: Best, tried: Tried) -> Best
     best
 }
 
-// Makes the trial at index i, and goes on to the state before the next step.
-fn try_at(
-    words: &[u32],
-    plan: &[u32],
-    flags: [bool; Plan::STEPS],
-    values: [u32; Task::VARIABLES],
-    best: Best,
-    i: usize,
-) -> Looked
-    requires { ⌜ Readable (now words) (now plan) ⌝ }
-    requires { ⌜ Current (now words) (now plan) flags ⌝ }
-    requires { ⌜ i < length (now plan) ⌝ }
-    requires { ⌜ Looks (now words) (now plan) (mask (now plan) flags) i best values ⌝ }
-    ensures { λ r. ⌜ Looks (now (words .entry)) (now (plan .entry)) (mask (now (plan .entry)) flags) (i + 1) (r .best) (r .values) ⌝ }
-{
-    if flag(&flags, i) {
-        let chosen = better(best, trial(words, plan, flags, values, i));
-        let mut next = values;
-        advance(words, &mut next, word(plan, i));
-        return Looked {
-            best: chosen,
-            values: next,
-        };
-    }
-    Looked { best, values }
-}
-
 // The best success of the trials at every position of the current list.
 fn round(words: &[u32], plan: &[u32], flags: [bool; Plan::STEPS]) -> Best
     requires { ⌜ Readable (now words) (now plan) ⌝ }
@@ -105,12 +68,13 @@ fn round(words: &[u32], plan: &[u32], flags: [bool; Plan::STEPS]) -> Best
     };
     let mut i = 0;
     while i < plan.len() {
-        let looked = try_at(words, plan, flags, values, best, i);
-        let chosen = looked.best;
-        let state = looked.values;
-        best = chosen;
-        values = state;
-        i += 1;
+        if flags[i] {
+            best = better(best, trial(words, plan, flags, values, i));
+            advance(words, &mut values, plan[i]);
+            i += 1;
+        } else {
+            i += 1;
+        }
     }
     best
 }

@@ -5,12 +5,12 @@ use Prim.Native.Nat.{ℕ, _+_, _≤_, _<_}
 use native.Mathlib.Nat.{div-add-mod'}
 use native.Mathlib.Omega.{arith}
 use mathlib.Core.Path.{_≡_, refl, sym, _∙_, ap}
-use mathlib.Core.Bool.{Bool, true, false, cond, true≢false}
+use mathlib.Core.Bool.{Bool, true, false, cond, and-false, true≢false}
 use mathlib.Core.List.{List, [], _∷_, List·Memᴰ, List·Memᴰ·head, List·Memᴰ·tail}
 use lib.ListN.{length, getD, set, length-set}
 use lib.Seq.{getD-set-same, getD-set-other}
 use lib.Dec.{eqb}
-use borrow.Author.Tests.{le-leb, lt-leb}
+use borrow.Author.Tests.{le-leb, lt-leb, ne-eqb}
 use Rattle.sas.specs.Task.{Fact, Assignment}
 use Rattle.sas.specs.Plan.{holds}
 use Rattle.reduction.specs.Wanted.{some-fact, same-fact, has}
@@ -55,19 +55,24 @@ module _ (test : Fact → Bool) (w : List ℕ) (i end : ℕ) where
   later-passes h e = rw (facts-next w i end h, e)
 
 -- whether a step is to write a fact, by the tests of its word
-module _ (s first wanted : List ℕ) (i x : ℕ) (held : Bool) (holding : held ≡ holds s (fact-of x)) where
-  pub held-not-sought : held ≡ true → false ≡ sought s first wanted i (fact-of x)
+module _ (s first wanted : List ℕ) (i x y : ℕ) (wanting : y ≡ getD wanted x 0) where
+  pub unwanted-not-sought : (y ≡ is-wanted → ⊥) → false ≡ sought s first wanted i (fact-of x)
   unfolding sought
-  held-not-sought e = rw (← holding, e)
+  unwanted-not-sought h = rw (word-of-fact x, ← wanting, ne-eqb y is-wanted h, and-false)
 
-  module _ (unheld : held ≡ false) (k : ℕ) (writer : k ≡ getD first x 0) where
+  module _ (wants : y ≡ is-wanted) (k : ℕ) (writer : k ≡ getD first x 0) where
     pub written-not-sought : k < i → false ≡ sought s first wanted i (fact-of x)
     unfolding sought
-    written-not-sought h = rw (← holding, unheld, word-of-fact x, ← writer, lt-leb _ _ h)
+    written-not-sought h = rw (word-of-fact x, ← writer, lt-leb i k h, and-false)
 
-    pub sought-where-wanted : i ≤ k → (y : ℕ) → y ≡ getD wanted x 0 → eqb y is-wanted ≡ sought s first wanted i (fact-of x)
-    unfolding sought
-    sought-where-wanted h y e = rw (← holding, unheld, word-of-fact x, ← writer, ← e, le-leb _ _ h)
+    module _ (unwritten : i ≤ k) (held : Bool) (holding : held ≡ holds s (fact-of x)) where
+      pub held-not-sought : held ≡ true → false ≡ sought s first wanted i (fact-of x)
+      unfolding sought
+      held-not-sought e = rw (← holding, e)
+
+      pub sought-here : held ≡ false → true ≡ sought s first wanted i (fact-of x)
+      unfolding sought
+      sought-here e = rw (← holding, e, word-of-fact x, ← writer, ← wanting, le-leb i k unwritten, wants)
 
 -- a fact with a value below the limit, as the facts of a task have
 abbrev pub Small : Fact → Type 0

@@ -23,7 +23,7 @@ pub(crate) fn landmarks(words: &[u32], plan: &[u32]) -> [bool; Plan::STEPS]
     if Plan::STEPS < plan.len() {
         return [false; Plan::STEPS];
     }
-    let mut first = [Plan::STEPS as u32; FACTS];
+    let mut first = [Plan::STEPS as u8; FACTS];
     write_first(words, plan, &mut first);
     let mut wanted = [UNWANTED; FACTS];
     stamp(words, &mut wanted, goal_at(words), goal_end(words), WANTED);

@@ -1,5 +1,6 @@
-// Tables with a word for each fact, at the index that is the fact's word.
-use common::access::put;
+// Tables with a byte for each fact, at the index that is the fact's word. The index of a step fits a byte, and so does their limit, for no step.
+use common::access::byte;
+use common::access::put8;
 use common::access::word;
 use step::facts::holds;
 use task::limits::Task;
@@ -11,41 +12,44 @@ ghost use Rattle.landmark.specs.Tables.{stamped, sought as sought-fact};
 // The size of a table: an accepted task has no fact past it.
 pub const FACTS: usize = Task::VARIABLES * Task::VALUES;
 // What stands at a fact that is wanted, and at one that is not.
-pub const WANTED: u32 = 1;
+pub const WANTED: u8 = 1;
 
-pub const UNWANTED: u32 = 0;
+pub const UNWANTED: u8 = 0;
 
 // Writes x at each fact from word i up to end.
-pub fn stamp(words: &[u32], table: &mut [u32], i: usize, end: usize, x: u32)
+pub fn stamp(words: &[u32], table: &mut [u8], i: usize, end: usize, x: u8)
     ensures { λ _. ⌜ now (table .exit) ≡ stamped (now (table .entry)) (facts (now (words .entry)) i end) x ⌝ }
 {
     let mut at = i;
     while at < end {
-        put(table, word(words, at) as usize, x);
+        put8(table, word(words, at) as usize, x);
         at += 1;
     }
 }
 
 // Whether the step at index i is to write a fact: one that the start does not hold, that no step before writes, and that is wanted.
-fn sought(start: &[u32], first: &[u32], wanted: &[u32], i: u32, fact: u32) -> bool
+fn sought(start: &[u32], first: &[u8], wanted: &[u8], i: u8, fact: u32) -> bool
     ensures { λ r. ⌜ r ≡ sought-fact (now (start .entry)) (now (first .entry)) (now (wanted .entry)) i (fact-of fact) ⌝ }
 {
-    if holds(start, fact) {
-        return false;
+    if byte(wanted, fact as usize) == WANTED {
+        if byte(first, fact as usize) < i {
+            return false;
+        }
+        if holds(start, fact) {
+            return false;
+        }
+        return true;
     }
-    if word(first, fact as usize) < i {
-        return false;
-    }
-    word(wanted, fact as usize) == WANTED
+    false
 }
 
 // Whether the step at index i is to write some fact of those from word `from` up to end.
 pub(crate) fn some_sought(
     words: &[u32],
     start: &[u32],
-    first: &[u32],
-    wanted: &[u32],
-    i: u32,
+    first: &[u8],
+    wanted: &[u8],
+    i: u8,
     from: usize,
     end: usize,
 ) -> bool

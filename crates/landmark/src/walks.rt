@@ -16,7 +16,7 @@ ghost use Rattle.plan.specs.Valid.{steps};
 ghost use Rattle.landmark.specs.Tables.{written-first, flags-walked, Marks-step};
 
 // Stamps each fact that a plan's steps write with the index of the first step that writes it.
-pub(crate) fn write_first(words: &[u32], plan: &[u32], first: &mut [u32])
+pub(crate) fn write_first(words: &[u32], plan: &[u32], first: &mut [u8])
     requires { ⌜ length (now plan) ≤ most-steps ⌝ }
     ensures { λ _. ⌜ now (first .exit) ≡ written-first (now (first .entry)) 0 (steps (now (words .entry)) (now (plan .entry))) ⌝ }
 {
@@ -29,7 +29,7 @@ pub(crate) fn write_first(words: &[u32], plan: &[u32], first: &mut [u32])
             first,
             effect_at(words, action),
             action_end(words, action),
-            i as u32,
+            i as u8,
         );
     }
 }
@@ -38,9 +38,9 @@ pub(crate) fn write_first(words: &[u32], plan: &[u32], first: &mut [u32])
 fn mark_step(
     words: &[u32],
     start: &[u32],
-    first: &[u32],
-    wanted: &mut [u32],
-    i: u32,
+    first: &[u8],
+    wanted: &mut [u8],
+    i: u8,
     action: u32,
 ) -> bool
     ensures { λ r. ⌜ Marks-step (now (start .entry)) (now (first .entry)) (now (wanted .entry)) i (action-of (now (words .entry)) action) r (now (wanted .exit)) ⌝ }
@@ -67,8 +67,8 @@ pub(crate) fn mark_steps(
     words: &[u32],
     plan: &[u32],
     start: &[u32],
-    first: &[u32],
-    wanted: &mut [u32],
+    first: &[u8],
+    wanted: &mut [u8],
 ) -> [bool; Plan::STEPS]
     requires { ⌜ length (now plan) ≤ most-steps ⌝ }
     ensures { λ r. ⌜ r ≡ flags-walked (now (start .entry)) (now (first .entry)) (now (wanted .entry)) (now (words .entry)) (now (plan .entry)) ⌝ }
@@ -77,7 +77,7 @@ pub(crate) fn mark_steps(
     let mut i = plan.len();
     while 0 < i {
         i -= 1;
-        flags[i] = mark_step(words, start, first, wanted, i as u32, plan[i]);
+        flags[i] = mark_step(words, start, first, wanted, i as u8, plan[i]);
     }
     flags
 }

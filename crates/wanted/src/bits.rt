@@ -1,4 +1,5 @@
 // A word for each step of a plan: bit k is one when fact k of the step's effect is wanted behind the step.
+use common::access::byte;
 use common::access::flag;
 use common::access::word;
 use landmark::tables::FACTS;
@@ -35,10 +36,10 @@ fn with_bit(from: usize, end: usize) -> usize
 }
 
 // One for a fact that the table has as wanted.
-fn digit(wanted: &[u32], fact: u32) -> u64
+fn digit(wanted: &[u8], fact: u32) -> u64
     ensures { λ r. ⌜ r ≡ digit-of (has-wanted (now (wanted .entry)) fact) ⌝ }
 {
-    if word(wanted, fact as usize) == WANTED {
+    if byte(wanted, fact as usize) == WANTED {
         1
     } else {
         0
@@ -46,7 +47,7 @@ fn digit(wanted: &[u32], fact: u32) -> u64
 }
 
 // The bits of the facts from word `from` up to end, the first the lowest.
-fn pack(words: &[u32], wanted: &[u32], from: usize, end: usize) -> u64
+fn pack(words: &[u32], wanted: &[u8], from: usize, end: usize) -> u64
     ensures { λ r. ⌜ r ≡ packed (now (wanted .entry)) (now (words .entry)) from end ⌝ }
 {
     let mut bits = 0;
@@ -59,7 +60,7 @@ fn pack(words: &[u32], wanted: &[u32], from: usize, end: usize) -> u64
 }
 
 // The bits of a step; the table then has the facts that are wanted before it.
-fn want_step(words: &[u32], wanted: &mut [u32], landmark: bool, action: u32) -> u64
+fn want_step(words: &[u32], wanted: &mut [u8], landmark: bool, action: u32) -> u64
     ensures { λ r. ⌜ Wants-step (now (words .entry)) (now (wanted .entry)) landmark action r (now (wanted .exit)) ⌝ }
 {
     let effect = effect_at(words, action);
@@ -80,7 +81,7 @@ fn want_step(words: &[u32], wanted: &mut [u32], landmark: bool, action: u32) -> 
 }
 
 // The bits of each step, from the facts that the goal wants.
-fn want_steps(words: &[u32], plan: &[u32], flags: &[bool], wanted: &mut [u32]) -> [u64; Plan::STEPS]
+fn want_steps(words: &[u32], plan: &[u32], flags: &[bool], wanted: &mut [u8]) -> [u64; Plan::STEPS]
     requires { ⌜ length (now plan) ≤ most-steps ⌝ }
     ensures { λ r. ⌜ r ≡ bits-walked (now (words .entry)) (now (wanted .entry)) (now (plan .entry)) (now (flags .entry)) ⌝ }
 {

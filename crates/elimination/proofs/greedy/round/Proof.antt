@@ -1,7 +1,9 @@
--- `round` meets its contract. The loop's invariant: the best so far is that of the positions passed. Assumes nothing.
+-- `round` meets its contract. The loop's invariant: the best so far is that of the positions passed, and the state is the one before the next. Assumes nothing.
+use Rattle.elimination.proofs.PickLaws.{looks-kept, looks-struck}
 use Rattle.elimination.proofs.GreedyLaws.{looks-all, looks-start}
 use borrow.Author.Needs.{needs}
-use mathlib.Core.Path.{refl}
+use native.Mathlib.Omega.{arith}
+use mathlib.Core.Path.{_≡_, refl, _∙_}
 use Prim.Native.Nat.{_-_, _≤_}
 use lib.ListN.{length}
 use Rattle.reduced.specs.Held.{mask}
@@ -10,7 +12,7 @@ use Rattle.elimination.proofs.greedy.round.Statement.{statement}
 use Rattle.elimination.proofs.greedy.round.Tie as tie
 
 abbrev Inv-loop : tie.InvT-loop
-Inv-loop words plan flags values₀ best₀ i₀ values best i = (i ≤ length plan) × Looks words plan (mask plan flags) i best values
+Inv-loop words plan flags values₀ best₀ i₀ values best i = (i ≤ length plan) × ((length values ≡ 64) × Looks words plan (mask plan flags) i best values)
 
 abbrev μ-loop : tie.MeasureT-loop
 μ-loop words plan flags values₀ best₀ i₀ values best i = length plan - i
@@ -22,10 +24,28 @@ new-requires : tie.Need-new-requires Inv-loop μ-loop
 new-requires c κs = search needs
 
 loop-holds : tie.Need-loop-holds Inv-loop μ-loop
-loop-holds c = (search needs, looks-start _ _ _ _ _ refl (c .before .initial .ensures))
+loop-holds c = (search needs, (search needs, looks-start _ _ _ _ _ refl (c .before .initial .ensures)))
 
-try-at-requires : tie.Need-try-at-requires Inv-loop μ-loop
-try-at-requires c κs = let entry = c .before .before .before .before .before .before in (entry .pre .0, (entry .pre .1, (c .loop-test .taken, c .before .loop .inv .1)))
+array-read-if1 : tie.Need-array-read-if1 Inv-loop μ-loop
+array-read-if1 c = omega (arith, c .before .before .before .before .before .before .pre .0 .few, c .loop-test .taken)
+
+trial-requires : tie.Need-trial-requires Inv-loop μ-loop
+trial-requires c κs = (c .before .before .before .before .before .before .before .pre .0 .few, c .before .loop-test .taken)
+
+better-requires : tie.Need-better-requires Inv-loop μ-loop
+better-requires c κs = search needs
+
+slice-aggregate-advance : tie.Need-slice-aggregate-advance Inv-loop μ-loop
+slice-aggregate-advance c = search needs
+
+mul-advance : tie.Need-mul-advance Inv-loop μ-loop
+mul-advance c = search needs
+
+shared-slice-read-advance : tie.Need-shared-slice-read-advance Inv-loop μ-loop
+shared-slice-read-advance c = search needs
+
+advance-requires : tie.Need-advance-requires Inv-loop μ-loop
+advance-requires c κs = search needs
 
 add-i : tie.Need-add-i Inv-loop μ-loop
 add-i c = search needs
@@ -34,10 +54,19 @@ loop-less : tie.Need-loop-less Inv-loop μ-loop
 loop-less c = search needs
 
 loop-again : tie.Need-loop-again Inv-loop μ-loop
-loop-again c = (search needs, c .before .before .try-at .ensures)
+loop-again c = let turn = c .before .before .before .before .before .before .before .before in let entry = turn .before .before .before .before .before in (search needs, (c .before .advance .kept .1 .0 ∙ turn .loop .inv .1 .0, looks-kept _ _ (entry .pre .0) _ (entry .pre .1) _ _ (c .before .before .before .before .before .before .before .loop-test .taken) (turn .loop .inv .1 .1 .before) _ _ _ _ _ (turn .loop .inv .1 .1 .picks) (c .before .before .before .before .before .trial .ensures) (c .before .before .before .before .before .before .if1 .taken) (c .before .before .before .before .better .ensures) (c .before .advance .ensures)))
+
+add-i-2 : tie.Need-add-i-2 Inv-loop μ-loop
+add-i-2 c = search needs
+
+loop-less-2 : tie.Need-loop-less-2 Inv-loop μ-loop
+loop-less-2 c = search needs
+
+loop-again-2 : tie.Need-loop-again-2 Inv-loop μ-loop
+loop-again-2 c = let turn = c .before .before in let entry = turn .before .before .before .before .before in (search needs, (turn .loop .inv .1 .0, looks-struck _ _ (entry .pre .0) _ (entry .pre .1) _ _ (c .before .loop-test .taken) (turn .loop .inv .1 .1 .before) _ (turn .loop .inv .1 .1 .picks) (c .if1 .left)))
 
 returns : tie.Need-returns Inv-loop μ-loop
-returns c = looks-all _ _ _ _ _ _ (c .before .loop .inv .1) (c .before .loop .inv .0) (c .loop-test .left)
+returns c = looks-all _ _ _ _ _ _ (c .before .loop .inv .1 .1) (c .before .loop .inv .0) (c .loop-test .left)
 
 pub round-spec : {M : Type 1} → statement M
 round-spec =
@@ -48,8 +77,17 @@ round-spec =
     initial-requires
     new-requires
     loop-holds
-    try-at-requires
+    array-read-if1
+    trial-requires
+    better-requires
+    slice-aggregate-advance
+    mul-advance
+    shared-slice-read-advance
+    advance-requires
     add-i
     loop-less
     loop-again
+    add-i-2
+    loop-less-2
+    loop-again-2
     returns)

@@ -22,11 +22,11 @@ loop-holds c = (refl, refl)
 word-requires : tie.Need-word-requires Inv-loop μ-loop
 word-requires c κs = search needs
 
-cast-put : tie.Need-cast-put Inv-loop μ-loop
-cast-put c = search needs
+cast-put8 : tie.Need-cast-put8 Inv-loop μ-loop
+cast-put8 c = search needs
 
-put-requires : tie.Need-put-requires Inv-loop μ-loop
-put-requires c κs = search needs
+put8-requires : tie.Need-put8-requires Inv-loop μ-loop
+put8-requires c κs = search needs
 
 add-at : tie.Need-add-at Inv-loop μ-loop
 add-at c = search needs
@@ -54,8 +54,8 @@ stamp-spec =
     μ-loop
     loop-holds
     word-requires
-    cast-put
-    put-requires
+    cast-put8
+    put8-requires
     add-at
     loop-less
     loop-again

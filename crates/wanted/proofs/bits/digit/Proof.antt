@@ -4,14 +4,14 @@ use borrow.Author.Needs.{needs}
 use Rattle.wanted.proofs.bits.digit.Statement.{statement}
 use Rattle.wanted.proofs.bits.digit.Tie as tie
 
-word-requires : tie.Need-word-requires
-word-requires c κs = search needs
+byte-requires : tie.Need-byte-requires
+byte-requires c κs = search needs
 
 returns : tie.Need-returns
-returns c = digit-one _ _ _ (c .before .word .ensures .0) (c .if1 .taken)
+returns c = digit-one _ _ _ (c .before .byte .ensures) (c .if1 .taken)
 
 returns-2 : tie.Need-returns-2
-returns-2 c = digit-zero _ _ _ (c .before .word .ensures .0) (c .if1 .left)
+returns-2 c = digit-zero _ _ _ (c .before .byte .ensures) (c .if1 .left)
 
 pub digit-spec : {M : Type 1} → statement M
-digit-spec = tie.close (tie.spec word-requires returns returns-2)
+digit-spec = tie.close (tie.spec byte-requires returns returns-2)
