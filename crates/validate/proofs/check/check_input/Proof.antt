@@ -6,8 +6,11 @@ use mathlib.Core.Path.{_≡_, sym}
 use borrow.Author.Needs.{needs}
 use lib.ListN.{length}
 use lib.Seq.{length-take-le}
+use Rattle.common.specs.Refusal.{told-refusal}
 use Rattle.form.specs.Form.{unpacked, most-words}
-use Rattle.validate.proofs.AnswerLaws.{words-length, long-fits, whole-fits, answers-broken, answers-long, answers-whole}
+use Rattle.form.proofs.DueLaws.{words-length, long-fits, whole-fits, answers-broken, answers-long, answers-whole}
+use Rattle.validate.specs.Validate.{outcome-of, refused, checked}
+use Rattle.validate.proofs.AnswerLaws.{answers-checked}
 use Rattle.validate.proofs.check.check_input.Statement.{statement}
 use Rattle.validate.proofs.check.check_input.Tie as tie
 
@@ -78,19 +81,20 @@ check-plan-requires c κs = search needs
 returns : tie.Need-returns
 returns c =
     let frame = c .before .before in
-    answers-broken _ _ _ (frame .frame .ensures) (unpacks frame) (c .enum-told .given .1)
+    answers-broken _ _ _ (frame .frame .ensures) (unpacks frame) refused checked (c .enum-told .given .1)
 
 returns-2 : tie.Need-returns-2
 returns-2 c =
     let framed = c .before .before .before in
     let frame = framed .before .before in
-    answers-long _ _ _ (frame .frame .ensures) (unpacks frame) _ (c .refuse-long .result) (framed .framed .given .1) (c .refuse-long .ensures)
+    answers-long _ _ _ (frame .frame .ensures) (unpacks frame) refused checked _ (told-refusal (c .refuse-long .result)) (framed .framed .given .1) (c .refuse-long .ensures)
 
 returns-3 : tie.Need-returns-3
 returns-3 c =
     let framed = c .before .before .before .before in
     let frame = framed .before .before in
-    answers-whole _ _ _ (frame .frame .ensures) (unpacks frame) _ _ (c .check-plan .result .answer) _ (framed .framed2 .given .1) (c .check-plan .ensures)
+    answers-whole _ _ _ (frame .frame .ensures) (unpacks frame) refused checked _ _ (outcome-of (c .check-plan .result .answer)) (framed .framed2 .given .1)
+    (answers-checked _ _ (c .check-plan .result .answer) _ (c .check-plan .ensures))
 
 pub check-input-spec : {M : Type 1} → statement M
 check-input-spec =
