@@ -1,13 +1,13 @@
 -- What is due to the bytes of an input, by their form, as the code tells it from the unpacked words: the task and the plan lie inside them. What the code
 -- calls is a variable here, with what is known of it as a premise. Assumes nothing.
-use Prim.Native.Nat.{ℕ, _+_, _-_, _≤_}
+use Prim.Native.Nat.{ℕ, _+_, _≤_}
 use native.Mathlib.Omega.{arith}
 use mathlib.Core.Path.{_≡_, sym, _∙_, ap}
 use mathlib.Core.List.{List}
-use lib.ListN.{length, take, drop}
+use lib.ListN.{length, take, drop, length-take}
 use Rattle.common.specs.declared.refusal.Refusal.the-variants.{Length}
 use Rattle.common.specs.Refusal.{Told, told-refusal}
-use Rattle.task.proofs.TableLaws.{table-length, table-take, table-part}
+use Rattle.task.proofs.TableLaws.{table-take, table-part}
 use Rattle.plan.specs.Limits.{most-steps}
 use Rattle.form.specs.declared.frame.Frame.{Frame}
 use Rattle.form.specs.declared.frame.Frame.the-variants.{Broken, Long, Whole}
@@ -33,35 +33,26 @@ module _ (bytes words : List ℕ) (framed : Frame) (frames : framed ≡ form byt
   says : (f : Frame) → framed ≡ f → Says bytes f
   says f is = rw (sym frames ∙ is) at (form-says bytes)
 
-  pub words-length : length words ≡ most-words
-  words-length = ap length unpacks ∙ table-length (word-at bytes) 0 most-words
-
-  pub long-fits : (n : ℕ) → framed ≡ Long n → n ≤ most-words
-  long-fits n is = let (low, there) = says (Long n) is in omega arith
-
-  pub whole-fits : (n m : ℕ) → framed ≡ Whole n m → n + 1 + m ≤ most-words
-  whole-fits n m is = let (low, few, ends) = says (Whole n m) is in omega arith
-
   task-part : (n : ℕ) → n ≤ most-words → take n words ≡ unpacked bytes n
   task-part n low = ap (take n) unpacks ∙ table-take (word-at bytes) 0 n most-words low
 
-  plan-part : (n m : ℕ) → n + 1 + m ≤ most-words → take (n + 1 + m - (n + 1)) (drop (n + 1) words) ≡ plan-words bytes n m
-  plan-part n m low = let count : n + 1 + m - (n + 1) ≡ m = omega arith in rw (count, unpacks) (table-part (word-at bytes) 0 (n + 1) m most-words (n + 1) low (omega arith))
+  plan-part : (n m : ℕ) → n + 1 + m ≤ most-words → take m (drop (n + 1) words) ≡ plan-words bytes n m
+  plan-part n m low = rw unpacks (table-part (word-at bytes) 0 (n + 1) m most-words (n + 1) low (omega arith))
 
   -- a plan that is read has no more steps than a plan may have
-  pub whole-few : (n m : ℕ) → framed ≡ Whole n m → length (take (n + 1 + m - (n + 1)) (drop (n + 1) words)) ≤ most-steps
-  whole-few n m is =
-      let (low, few, ends) = says (Whole n m) is in
-      rw (plan-part n m (whole-fits n m is)) (omega (arith, table-length (word-at bytes) (n + 1) m))
+  pub whole-few : (n m : ℕ) (l : List ℕ) → framed ≡ Whole n m → l ≡ take m (drop (n + 1) words) → length l ≤ most-steps
+  whole-few n m l is plan = let (low, few, ends) = says (Whole n m) is in rw (plan, length-take) (omega arith)
 
   module _ {A : Type 0} (refused : Told → A) (answered : List ℕ → List ℕ → A) where
     pub answers-broken : framed ≡ Broken → refused (told-refusal Length) ≡ due refused answered bytes
     answers-broken is = sym (due-broken refused answered bytes (sym frames ∙ is))
 
-    pub answers-long : (n : ℕ) (t : Told) → framed ≡ Long n → t ≡ long-refusal (take n words) → refused t ≡ due refused answered bytes
-    answers-long n t is refuses = ap refused (refuses ∙ ap long-refusal (task-part n (long-fits n is))) ∙ sym (due-long refused answered bytes n (sym frames ∙ is))
+    pub answers-long : (n : ℕ) (w : List ℕ) (t : Told) → framed ≡ Long n → w ≡ take n words → t ≡ long-refusal w → refused t ≡ due refused answered bytes
+    answers-long n w t is task refuses =
+        let (low, there) = says (Long n) is in
+        ap refused (refuses ∙ ap long-refusal (task ∙ task-part n (omega arith))) ∙ sym (due-long refused answered bytes n (sym frames ∙ is))
 
-    pub answers-whole : (n m : ℕ) (x : A) → framed ≡ Whole n m → x ≡ answered (take n words) (take (n + 1 + m - (n + 1)) (drop (n + 1) words)) → x ≡ due refused answered bytes
-    answers-whole n m x is answers =
-        let fits : n + 1 + m ≤ most-words = whole-fits n m is in
-        answers ∙ rw (task-part n (omega arith), plan-part n m fits) (sym (due-whole refused answered bytes n m (sym frames ∙ is)))
+    pub answers-whole : (n m : ℕ) (w l : List ℕ) (x : A) → framed ≡ Whole n m → w ≡ take n words → l ≡ take m (drop (n + 1) words) → x ≡ answered w l → x ≡ due refused answered bytes
+    answers-whole n m w l x is task plan answers =
+        let (low, few, ends) = says (Whole n m) is in
+        answers ∙ rw (task ∙ task-part n (omega arith), plan ∙ plan-part n m (omega arith)) (sym (due-whole refused answered bytes n m (sym frames ∙ is)))
