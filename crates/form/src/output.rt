@@ -13,7 +13,7 @@ pub fn print_number(number: u64) {
     io::print_decimal(STDOUT_FILENO, number);
 }
 
-pub fn end_line() {
+fn end_line() {
     print_text(b"\n");
 }
 
