@@ -1,0 +1,109 @@
+-- What a text means: the words that stand in its lines between white space, comments left out, or the line at which it is no text of words. Assumes nothing.
+use Prim.Native.Nat.{ℕ, zero, suc, _+_, _-_, _*_, _^_}
+use mathlib.Core.Bool.{Bool, true, false, cond, _&&_, _||_}
+use mathlib.Core.Option.{Option, none, some}
+use mathlib.Core.List.{List, [], _∷_, _++_, map}
+use lib.Dec.{leb, ltb, eqb}
+
+-- the bytes that count in a text, as ASCII has them: a line ends with byte 10, and `#` begins a comment
+abbrev pub ends-line : ℕ → Bool
+ends-line b = eqb b 10
+
+abbrev pub begins-comment : ℕ → Bool
+begins-comment b = eqb b 35
+
+-- white space within a line: a space, a tab or a carriage return
+abbrev pub blank : ℕ → Bool
+blank b = eqb b 32 || eqb b 9 || eqb b 13
+
+-- a digit, and the number that it stands for
+abbrev pub zero-digit : ℕ
+zero-digit = 48
+
+abbrev pub digit : ℕ → Bool
+digit b = leb zero-digit b && leb b 57
+
+-- bytes cut at each byte for which a test holds, which is left out: the bytes to the first such byte, and the other runs of bytes
+pub record Cut : Type 0 where
+  pub first : List ℕ
+  pub others : List (List ℕ)
+
+abbrev pub runs : Cut → List (List ℕ)
+runs c = c .first ∷ c .others
+
+unfoldable pub cut : (ℕ → Bool) → List ℕ → Cut
+cut test [] = record { first = []; others = [] }
+cut test (b ∷ bs) =
+    elim (test b) [
+      | true ↦ record { first = []; others = runs (cut test bs) }
+      | false ↦ record { first = b ∷ cut test bs .first; others = cut test bs .others }
+    ]
+
+-- those runs that are not empty
+unfoldable pub filled : List (List ℕ) → List (List ℕ)
+filled [] = []
+filled ([] ∷ rs) = filled rs
+filled ((b ∷ bs) ∷ rs) = (b ∷ bs) ∷ filled rs
+
+-- a line before its comment
+abbrev pub uncommented : List ℕ → List ℕ
+uncommented line = cut begins-comment line .first
+
+-- what stands there between white space
+unfoldable pub fields : List ℕ → List (List ℕ)
+fields line = filled (runs (cut blank (uncommented line)))
+
+-- a field of a text, with the number of its line
+pub record Field : Type 0 where
+  pub line : ℕ
+  pub bytes : List ℕ
+
+abbrev pub on-line : ℕ → List (List ℕ) → List Field
+on-line n fs = map (λ f. record { line = n; bytes = f }) fs
+
+-- the fields of lines, of which the first has number n
+unfoldable pub fields-from : ℕ → List (List ℕ) → List Field
+fields-from n [] = []
+fields-from n (l ∷ ls) = on-line n (fields l) ++ fields-from (n + 1) ls
+
+-- whether all bytes are digits
+unfoldable pub all-digits : List ℕ → Bool
+all-digits [] = true
+all-digits (b ∷ bs) = digit b && all-digits bs
+
+-- the number that digits stand for in decimal, where those in front of them stand for v
+unfoldable pub decimal-from : ℕ → List ℕ → ℕ
+decimal-from v [] = v
+decimal-from v (b ∷ bs) = decimal-from (10 * v + (b - zero-digit)) bs
+
+-- the word that bytes stand for behind digits that stand for v: there is one where all are digits and the number fits a word
+unfoldable pub word-from : ℕ → List ℕ → Option ℕ
+word-from v bs = cond (all-digits bs && ltb (decimal-from v bs) (2 ^ 32)) (some (decimal-from v bs)) none
+
+abbrev pub word-of : List ℕ → Option ℕ
+word-of bs = word-from 0 bs
+
+-- what reading a text finds: its words; or the line of a field that is no word; or the line of a word for which there is no room
+pub data Reading : Type 0 where
+  Words : List ℕ → Reading
+  NoWord : ℕ → Reading
+  NoRoom : ℕ → Reading
+
+-- a reading with one word in front
+abbrev pub before : ℕ → Reading → Reading
+before x (Words xs) = Words (x ∷ xs)
+before x (NoWord n) = NoWord n
+before x (NoRoom n) = NoRoom n
+
+-- what reading fields in turn finds, where there is room for so many words: it ends at the first that is no word or has no room
+unfoldable pub read : ℕ → List Field → Reading
+read room [] = Words []
+read room (f ∷ fs) =
+    elim (word-of (f .bytes)) [
+      | none ↦ NoWord (f .line)
+      | some x ↦ elim room [ zero ↦ NoRoom (f .line) | suc k ↦ before x (read k fs) ]
+    ]
+
+-- what reading a text finds, where there is room for so many words; its lines are numbered from 1
+unfoldable pub words-of : ℕ → List ℕ → Reading
+words-of room text = read room (fields-from 1 (runs (cut ends-line text)))
