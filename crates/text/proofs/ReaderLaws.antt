@@ -8,8 +8,8 @@ use mathlib.Core.Path.{_≡_, refl, sym, _∙_, ap, subst}
 use mathlib.Core.Bool.{Bool, true, false, cond, _&&_, _||_}
 use mathlib.Core.Option.{Option, none, some}
 use mathlib.Core.List.{List, [], _∷_, _++_, append-assoc, append-nil}
-use lib.ListN.{length, take, set, length-append, length-set}
-use lib.Seq.{take-suc-set}
+use lib.ListN.{length, take, getD, set, length-append, length-set}
+use lib.Seq.{take-suc, take-suc-set}
 use lib.Dec.{ltb, leb}
 use borrow.Author.Tests.{ltb-true, ltb-false, lt-ltb, le-ltb, le-leb, lt-leb}
 use Rattle.common.proofs.PlaceLaws.{one-fewer, none-left}
@@ -110,7 +110,7 @@ at-no-word n k = record { mode = mode.NoWord; line = n; count = k }
 abbrev at-no-room : ℕ → ℕ → Reader
 at-no-room n k = record { mode = mode.NoRoom; line = n; count = k }
 
--- a reader that has read nothing, and one that has read one byte
+-- a reader that has read nothing, and one that reads bytes after others
 pub reads-nothing : (r : Reader) (ws : List ℕ) → Reads r ws [] r ws
 reads-nothing r ws = record { same = λ rest. refl; lines = omega arith }
 
@@ -141,14 +141,6 @@ module _ (n k b : ℕ) (ws : List ℕ) where
   pub passes-on : ends-line b ≡ false → Reads (at-comment n k) ws (b ∷ []) (at-comment n k) ws
   unfolding still
   passes-on on = record { same = λ rest. ap (λ fs. behind (take k ws) (read (length ws - k) fs)) (sym (comment-on n b rest on)); lines = omega arith }
-
-  pub stays-at-no-word : Reads (at-no-word n k) ws (b ∷ []) (at-no-word n k) ws
-  unfolding still
-  stays-at-no-word = record { same = λ rest. refl; lines = omega arith }
-
-  pub stays-at-no-room : Reads (at-no-room n k) ws (b ∷ []) (at-no-room n k) ws
-  unfolding still
-  stays-at-no-room = record { same = λ rest. refl; lines = omega arith }
 
   module _ (more : (ends-line b || begins-comment b || blank b) ≡ false) where
     -- a field that goes on, by what its first bytes are
@@ -244,6 +236,25 @@ module _ (r : Reader) (m : Mode) (is : r .mode ≡ m) where
   pub still-in-mode : (ws rest : List ℕ) → still (record { mode = m; line = r .line; count = r .count }) ws rest ≡ still r ws rest
   still-in-mode ws rest = ap (λ x. still (record { mode = x; line = r .line; count = r .count }) ws rest) (sym is)
 
+-- a reader that has stopped stays where it is
+module _ (r : Reader) (b : ℕ) (ws : List ℕ) where
+  pub stays-at-no-word : r .mode ≡ mode.NoWord → Reads r ws (b ∷ []) r ws
+  unfolding still
+  stays-at-no-word is = record { same = λ rest. sym (still-in-mode r mode.NoWord is ws rest) ∙ still-in-mode r mode.NoWord is ws (b ∷ rest); lines = omega arith }
+
+  pub stays-at-no-room : r .mode ≡ mode.NoRoom → Reads r ws (b ∷ []) r ws
+  unfolding still
+  stays-at-no-room is = record { same = λ rest. sym (still-in-mode r mode.NoRoom is ws rest) ∙ still-in-mode r mode.NoRoom is ws (b ∷ rest); lines = omega arith }
+
+-- what there was room for
+pub room-for : (ws : List ℕ) (k v : ℕ) (room : Bool) (ws′ : List ℕ) → Stores ws k v room ws′ → room ≡ true → k < length ws
+room-for ws k v room ws′ stores is = ltb-true k (length ws) (sym (stores .room) ∙ is)
+
+-- one byte more of some bytes
+pub reads-one-more : (r r′ r″ : Reader) (ws ws′ ws″ bytes : List ℕ) (i : ℕ) → i < length bytes
+    → Reads r ws (take i bytes) r′ ws′ → Reads r′ ws′ (getD bytes i 0 ∷ []) r″ ws″ → Reads r ws (take (i + 1) bytes) r″ ws″
+reads-one-more r r′ r″ ws ws′ ws″ bytes i low first second = rw (add-one, take-suc bytes i 0 low) (reads-both (getD bytes i 0 ∷ []) first second)
+
 -- at the end of a text
 pub ends-blank : (n k : ℕ) (ws : List ℕ) → Words (take k ws) ≡ still (at-blank n k) ws []
 unfolding still cut fields fields-from filled read
@@ -252,6 +263,14 @@ ends-blank n k ws = sym (behind-words (take k ws) [] ∙ ap Words (append-nil (t
 pub ends-comment : (n k : ℕ) (ws : List ℕ) → Words (take k ws) ≡ still (at-comment n k) ws []
 unfolding still cut fields-from read
 ends-comment n k ws = sym (behind-words (take k ws) [] ∙ ap Words (append-nil (take k ws)))
+
+pub ends-no-word : (n k : ℕ) (ws : List ℕ) → NoWord n ≡ still (at-no-word n k) ws []
+unfolding still
+ends-no-word n k ws = refl
+
+pub ends-no-room : (n k : ℕ) (ws : List ℕ) → NoRoom n ≡ still (at-no-room n k) ws []
+unfolding still
+ends-no-room n k ws = refl
 
 module _ (v n k : ℕ) (ws ws′ : List ℕ) (room : Bool) (stores : Stores ws k v room ws′) where
   nothing-left : field-left [] ≡ []

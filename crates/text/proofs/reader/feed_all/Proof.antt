@@ -1,46 +1,48 @@
+-- `feed_all` meets its contract. The loop's invariant: the bytes passed have been read, and no length changes. The measure is the number of bytes left. Assumes nothing.
+use Prim.Native.Nat.{_-_, _≤_}
+use native.Mathlib.Omega.{arith}
+use mathlib.Core.Path.{_≡_, refl}
+use borrow.Author.Needs.{needs}
+use lib.ListN.{length, take, length-take}
+use lib.Seq.{take-all}
+use Rattle.text.specs.Reading.{Reads}
+use Rattle.text.proofs.ReaderLaws.{reads-nothing, reads-one-more}
 use Rattle.text.proofs.reader.feed_all.Statement.{statement}
 use Rattle.text.proofs.reader.feed_all.Tie as tie
-use Rattle.text.proofs.reader.feed_all.Reads as reads
-use Rattle.text.proofs.reader.feed_all.Lts as lts
-use Rattle.text.proofs.reader.feed.Reads as feed-reads
 
 abbrev Inv-loop : tie.InvT-loop
-Inv-loop bytes words₀ now₀ i₀ words now i = ?
+Inv-loop bytes words₀ now₀ i₀ words now i = Reads now₀ words₀ (take i bytes) now words × (i ≤ length bytes) × (length words ≡ length words₀)
 
 abbrev μ-loop : tie.MeasureT-loop
-μ-loop bytes words₀ now₀ i₀ words now i = ?
+μ-loop bytes words₀ now₀ i₀ words now i = length bytes - i
 
--- src/reader.rt:148:5
 loop-holds : tie.Need-loop-holds Inv-loop μ-loop
-loop-holds c = ?
+loop-holds c = (reads-nothing _ _, search needs, refl)
 
--- src/reader.rt:149:25
 shared-slice-read-feed : tie.Need-shared-slice-read-feed Inv-loop μ-loop
-shared-slice-read-feed c = ?
+shared-slice-read-feed c = search needs
 
--- src/reader.rt:149:9
 feed-requires : tie.Need-feed-requires Inv-loop μ-loop
-feed-requires c κs = ?
+feed-requires c κs =
+    let turn = c .before .before .before in
+    omega (arith, turn .loop .inv .0 .lines, length-take (turn .loop .i) (turn .before .before .before .args .bytes .now))
 
--- src/reader.rt:150:9
 add-i : tie.Need-add-i Inv-loop μ-loop
-add-i c = ?
+add-i c = search needs
 
--- src/reader.rt:148:5
 loop-less : tie.Need-loop-less Inv-loop μ-loop
-loop-less c = ?
+loop-less c = search needs
 
--- src/reader.rt:148:5
 loop-again : tie.Need-loop-again Inv-loop μ-loop
-loop-again c = ?
+loop-again c =
+    let turn = c .before .before .before .before .before in
+    (reads-one-more _ _ _ _ _ _ _ (turn .before .loop .i) (turn .loop-test .taken) (turn .before .loop .inv .0) (c .before .before .feed .ensures), search needs, search needs)
 
--- src/reader.rt:142:1
 same-length : tie.Need-same-length Inv-loop μ-loop
-same-length c = ?
+same-length c = search needs
 
--- src/reader.rt:142:1
 returns : tie.Need-returns Inv-loop μ-loop
-returns c = ?
+returns c = rw (take-all (c .before .loop .i) (c .before .before .before .before .args .bytes .now) (c .loop-test .left)) at (c .before .loop .inv .0)
 
 pub feed-all-spec : {M : Type 1} → statement M
 feed-all-spec =

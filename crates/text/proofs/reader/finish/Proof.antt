@@ -1,69 +1,59 @@
+-- `finish` meets its contract: each mode of the reader is a case. Assumes nothing.
+use native.Mathlib.Omega.{arith}
+use mathlib.Core.Path.{_∙_}
+use Rattle.text.proofs.ReaderLaws.{still-in-mode, ends-blank, ends-comment, ends-word, ends-full, ends-no-word, ends-no-room, room-for}
 use borrow.Author.Needs.{needs}
 use Rattle.text.proofs.reader.finish.Statement.{statement}
 use Rattle.text.proofs.reader.finish.Tie as tie
-use Rattle.text.proofs.reader.finish.Reads as reads
-use Rattle.text.proofs.reader.finish.Lts as lts
-use Rattle.text.proofs.reader.store.Reads as store-reads
 
--- src/reader.rt:163:24
 enum-told : tie.Need-enum-told
 enum-told c = search needs
 
--- src/reader.rt:164:26
 enum-told-2 : tie.Need-enum-told-2
 enum-told-2 c = search needs
 
--- src/reader.rt:165:20
 enum-known-mode : tie.Need-enum-known-mode
 enum-known-mode c = search needs
 
--- src/reader.rt:166:16
 store-requires : tie.Need-store-requires
 store-requires c κs = search needs
 
--- src/reader.rt:167:39
 add-t11 : tie.Need-add-t11
-add-t11 c = ?
+add-t11 c = omega (arith, room-for _ _ _ _ _ (c .before .before .before .store .ensures) (c .if1 .taken))
 
--- src/reader.rt:167:17
 same-length : tie.Need-same-length
 same-length c = search needs
 
--- src/reader.rt:167:17
 returns : tie.Need-returns
-returns c = ?
+returns c =
+    let stored = c .before .before .before in
+    ends-word _ _ _ _ _ _ (stored .store .ensures) (c .if1 .taken) ∙ still-in-mode _ _ (stored .before .before .before .mode .given .1) _ _
 
--- src/reader.rt:171:25
 enum-told-3 : tie.Need-enum-told-3
 enum-told-3 c = search needs
 
--- src/reader.rt:172:25
 enum-told-4 : tie.Need-enum-told-4
 enum-told-4 c = search needs
 
--- src/reader.rt:156:1
 returns-2 : tie.Need-returns-2
-returns-2 c = ?
+returns-2 c = ends-blank _ _ _ ∙ still-in-mode _ _ (c .enum-told .given .1) _ _
 
--- src/reader.rt:156:1
 returns-3 : tie.Need-returns-3
-returns-3 c = ?
+returns-3 c = ends-comment _ _ _ ∙ still-in-mode _ _ (c .enum-told2 .given .1) _ _
 
--- src/reader.rt:156:1
 same-length-2 : tie.Need-same-length-2
 same-length-2 c = search needs
 
--- src/reader.rt:156:1
 returns-4 : tie.Need-returns-4
-returns-4 c = ?
+returns-4 c =
+    let stored = c .before .before .before in
+    ends-full _ _ _ _ _ _ (stored .store .ensures) (c .if1 .left) ∙ still-in-mode _ _ (stored .before .before .before .mode .given .1) _ _
 
--- src/reader.rt:156:1
 returns-5 : tie.Need-returns-5
-returns-5 c = ?
+returns-5 c = ends-no-word _ _ _ ∙ still-in-mode _ _ (c .enum-told3 .given .1) _ _
 
--- src/reader.rt:156:1
 returns-6 : tie.Need-returns-6
-returns-6 c = ?
+returns-6 c = ends-no-room _ _ _ ∙ still-in-mode _ _ (c .enum-told4 .given .1) _ _
 
 pub finish-spec : {M : Type 1} → statement M
 finish-spec =
