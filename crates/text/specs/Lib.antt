@@ -1,3 +1,5 @@
--- Text: what a text means. Reading: what the rest of it means to a reader that stands within it.
+-- Text: what a text means. Reading: what the rest of it means to a reader that stands within it. Input: its reading in chunks. Pack: words as bytes.
 pub mod Text
 pub mod Reading
+pub mod Input
+pub mod Pack

@@ -1,3 +1,5 @@
 // Words as a text for people.
-// reader: the reading of a text.
+// reader: the reading of a text. input: its reading from standard input. pack: words as bytes.
+pub mod input;
+pub mod pack;
 pub mod reader;

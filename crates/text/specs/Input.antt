@@ -1,0 +1,37 @@
+-- The reading of a text in chunks. No contract can say which bytes a call of C reads, so these say that there is a text of which they hold. Assumes nothing.
+use Prim.Native.Nat.{ℕ, _≤_}
+use mathlib.Core.Path.{_≡_}
+use mathlib.Core.List.{List}
+use lib.ListN.{length}
+use Rattle.text.specs.declared.input.Found.{Found}
+use Rattle.text.specs.declared.input.Found.the-variants as found
+use Rattle.text.specs.declared.input.Turn.{Turn}
+use Rattle.text.specs.declared.input.Turn.the-variants as turn
+use Rattle.text.specs.declared.reader.Reader.{Reader}
+use Rattle.text.specs.Text.{Reading, words-of}
+use Rattle.text.specs.Reading.{Reads, told}
+
+-- the most bytes of a chunk
+abbrev pub chunk : ℕ
+chunk = 4096
+
+-- some bytes have been read
+pub record Read-on (r : Reader) (ws : List ℕ) (r′ : Reader) (ws′ : List ℕ) : Type 0 where
+  pub bytes : List ℕ
+  pub few : length bytes ≤ chunk
+  pub reads : Reads r ws bytes r′ ws′
+
+-- what a turn finds: some bytes more; or no more; where the input can't be read, nothing is said
+abbrev pub Turns : Reader → List ℕ → Turn → List ℕ → Type 0
+Turns r ws (turn.More r′) ws′ = Read-on r ws r′ ws′
+Turns r ws turn.End ws′ = ws′ ≡ ws
+Turns r ws turn.Failed ws′ = Unit
+
+-- what is found of a text, with its words at the front of ws
+pub record Of-text (told-of : Reading) (ws : List ℕ) : Type 0 where
+  pub text : List ℕ
+  pub meant : told-of ≡ words-of (length ws) text
+
+abbrev pub Tells : Found → List ℕ → Type 0
+Tells (found.Text o) ws = Of-text (told o ws) ws
+Tells found.Failed ws = Unit
