@@ -36,7 +36,7 @@ module _ (s r : Reader) (ws₀ ws ws′ : List ℕ) (t : Turn) (turns : Turns r 
             ∙ read .1 .same []
             ∙ starts .whole ws₀ (text ++ [])
             ∙ ap (words-of (length ws₀)) (append-nil text)
-            ∙ ap (λ n. words-of n text) (sym long)
+            ∙ ap (λ n. words-of n text) (sym long);
       }
 
 -- the part of a chunk that a call filled

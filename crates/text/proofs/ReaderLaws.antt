@@ -118,7 +118,7 @@ pub reads-both : {r r′ r″ : Reader} {ws ws′ ws″ xs : List ℕ} (ys : Lis
 reads-both {r} {xs = xs} ys first second =
     record {
       same = λ rest. second .same rest ∙ first .same (ys ++ rest) ∙ ap (still r _) (sym (append-assoc xs ys rest));
-      lines = rw length-append (omega (arith, first .lines, second .lines))
+      lines = rw length-append (omega (arith, first .lines, second .lines));
     }
 
 module _ (n k b : ℕ) (ws : List ℕ) where
@@ -157,7 +157,7 @@ module _ (n k b : ℕ) (ws : List ℕ) where
     grows-no-word v nothing =
         record {
           same = λ rest. sym (goes v rest ∙ ap (λ o. behind (take k ws) (read-field (length ws - k) n o (after-field n rest))) (nothing rest) ∙ behind-no-word (take k ws) n);
-          lines = omega arith
+          lines = omega arith;
         }
 
     pub grows-low : (v : ℕ) → b < zero-digit → Reads (at-word v n k) ws (b ∷ []) (at-no-word n k) ws
@@ -174,7 +174,7 @@ module _ (n k b : ℕ) (ws : List ℕ) where
     grows-digit v low high =
         record {
           same = λ rest. sym (goes v rest ∙ ap (λ o. behind (take k ws) (read-field (length ws - k) n o (after-field n rest))) (grown-word v b (field-left rest) low high));
-          lines = omega arith
+          lines = omega arith;
         }
 
     -- a field begins
@@ -221,7 +221,7 @@ module _ (v n k b : ℕ) (ws ws′ : List ℕ) (room : Bool) (stores : Stores ws
             skips .same rest
             ∙ ap (λ l. still (at-blank n (k + 1)) l (b ∷ rest)) (stores .stored)
             ∙ closes v n k ws (b ∷ rest) (stores .small) (field-ends b rest ends) (ltb-true k (length ws) (sym (stores .room) ∙ is));
-        lines = skips .lines
+        lines = skips .lines;
       }
 
   pub stops-full : room ≡ false → Reads (at-word v n k) ws (b ∷ []) (at-no-room n k) ws′

@@ -1,8 +1,9 @@
 -- The reading of a text in chunks. No contract can say which bytes a call of C reads, so these say that there is a text of which they hold. Assumes nothing.
-use Prim.Native.Nat.{ℕ, _≤_}
+use Prim.Native.Nat.{ℕ, _+_, _≤_}
 use mathlib.Core.Path.{_≡_}
 use mathlib.Core.List.{List}
 use lib.ListN.{length}
+use Rattle.form.specs.Form.{most-words}
 use Rattle.text.specs.declared.input.Found.{Found}
 use Rattle.text.specs.declared.input.Found.the-variants as found
 use Rattle.text.specs.declared.input.Turn.{Turn}
@@ -10,6 +11,10 @@ use Rattle.text.specs.declared.input.Turn.the-variants as turn
 use Rattle.text.specs.declared.reader.Reader.{Reader}
 use Rattle.text.specs.Text.{Reading, words-of}
 use Rattle.text.specs.Reading.{Reads, told}
+
+-- the most words of a text, one more than input that is whole has
+abbrev pub most : ℕ
+most = most-words + 1
 
 -- the most bytes of a chunk
 abbrev pub chunk : ℕ

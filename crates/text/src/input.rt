@@ -4,9 +4,13 @@ use crate::reader::Reader;
 use crate::reader::feed_all;
 use crate::reader::finish;
 use crate::reader::start;
+use form::framing::WORDS;
 use libc::STDIN_FILENO;
 ghost use Prim.Native.Nat.{_+_, _<_, _^_};
 ghost use Rattle.text.specs.Input.{chunk, Turns, Tells};
+
+// The most words of a text: one more than input that is whole has, so that a program which reads them still sees that they run on.
+pub const MOST: usize = WORDS + 1;
 
 const CHUNK: usize = 4096;
 

@@ -69,16 +69,32 @@ fn grow(line: u64, count: usize, value: u32, byte: u8) -> Reader
     ensures { λ r. ⌜ ((ws : List ℕ) → Reads (record { mode = Mode.Word value; line = line; count = count }) ws (byte ∷ []) r ws) ⌝ }
 {
     if byte < b'0' {
-        return Reader { mode: Mode::NoWord, line, count };
+        return Reader {
+            mode: Mode::NoWord,
+            line,
+            count,
+        };
     }
     if b'9' < byte {
-        return Reader { mode: Mode::NoWord, line, count };
+        return Reader {
+            mode: Mode::NoWord,
+            line,
+            count,
+        };
     }
     let grown = 10 * (value as u64) + (byte - b'0') as u64;
     if (u32::MAX as u64) < grown {
-        return Reader { mode: Mode::NoWord, line, count };
+        return Reader {
+            mode: Mode::NoWord,
+            line,
+            count,
+        };
     }
-    Reader { mode: Mode::Word(grown as u32), line, count }
+    Reader {
+        mode: Mode::Word(grown as u32),
+        line,
+        count,
+    }
 }
 
 // Takes one more byte in white space.
@@ -87,13 +103,25 @@ fn skip(line: u64, count: usize, byte: u8) -> Reader
     ensures { λ r. ⌜ ((ws : List ℕ) → Reads (record { mode = Mode.Blank; line = line; count = count }) ws (byte ∷ []) r ws) ⌝ }
 {
     if byte == LINE_END {
-        return Reader { mode: Mode::Blank, line: line + 1, count };
+        return Reader {
+            mode: Mode::Blank,
+            line: line + 1,
+            count,
+        };
     }
     if byte == COMMENT {
-        return Reader { mode: Mode::Comment, line, count };
+        return Reader {
+            mode: Mode::Comment,
+            line,
+            count,
+        };
     }
     if blank(byte) {
-        return Reader { mode: Mode::Blank, line, count };
+        return Reader {
+            mode: Mode::Blank,
+            line,
+            count,
+        };
     }
     grow(line, count, 0, byte)
 }
@@ -104,9 +132,17 @@ fn pass(line: u64, count: usize, byte: u8) -> Reader
     ensures { λ r. ⌜ ((ws : List ℕ) → Reads (record { mode = Mode.Comment; line = line; count = count }) ws (byte ∷ []) r ws) ⌝ }
 {
     if byte == LINE_END {
-        return Reader { mode: Mode::Blank, line: line + 1, count };
+        return Reader {
+            mode: Mode::Blank,
+            line: line + 1,
+            count,
+        };
     }
-    Reader { mode: Mode::Comment, line, count }
+    Reader {
+        mode: Mode::Comment,
+        line,
+        count,
+    }
 }
 
 // Stores a word, and answers whether there was room for it.
@@ -122,7 +158,11 @@ fn store(words: &mut [u32], count: usize, value: u32) -> bool
 pub fn start() -> Reader
     ensures { λ r. ⌜ Starts r ⌝ }
 {
-    Reader { mode: Mode::Blank, line: 1, count: 0 }
+    Reader {
+        mode: Mode::Blank,
+        line: 1,
+        count: 0,
+    }
 }
 
 // Takes one more byte.
@@ -141,7 +181,11 @@ fn feed(reader: Reader, byte: u8, words: &mut [u32]) -> Reader
                 if store(words, count, value) {
                     return skip(line, count + 1, byte);
                 }
-                return Reader { mode: Mode::NoRoom, line, count };
+                return Reader {
+                    mode: Mode::NoRoom,
+                    line,
+                    count,
+                };
             }
             grow(line, count, value, byte)
         }

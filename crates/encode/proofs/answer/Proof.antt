@@ -1,0 +1,59 @@
+-- `answer` meets its contract: the words read are no more than those lent. Assumes nothing.
+use native.Mathlib.Omega.{arith}
+use borrow.Author.Needs.{needs}
+use lib.ListN.{length-take}
+use Rattle.encode.proofs.answer.Statement.{statement}
+use Rattle.encode.proofs.answer.Tie as tie
+
+enum-known-outcome : tie.Need-enum-known-outcome
+enum-known-outcome c = search needs
+
+front-requires : tie.Need-front-requires
+front-requires c κs = search needs
+
+write-words-requires : tie.Need-write-words-requires
+write-words-requires c κs = rw (c .front .ensures, length-take) (omega arith)
+
+enum-known-outcome-2 : tie.Need-enum-known-outcome-2
+enum-known-outcome-2 c = search needs
+
+slice-aggregate-say-at : tie.Need-slice-aggregate-say-at
+slice-aggregate-say-at c = search needs
+
+say-at-requires : tie.Need-say-at-requires
+say-at-requires c κs = search needs
+
+enum-known-outcome-3 : tie.Need-enum-known-outcome-3
+enum-known-outcome-3 c = search needs
+
+slice-aggregate-say-at-2 : tie.Need-slice-aggregate-say-at-2
+slice-aggregate-say-at-2 c = search needs
+
+say-at-requires-2 : tie.Need-say-at-requires-2
+say-at-requires-2 c κs = search needs
+
+returns : tie.Need-returns
+returns c = search needs
+
+returns-2 : tie.Need-returns-2
+returns-2 c = search needs
+
+returns-3 : tie.Need-returns-3
+returns-3 c = search needs
+
+pub answer-spec : {M : Type 1} → statement M
+answer-spec =
+    tie.close
+    (tie.spec
+    enum-known-outcome
+    front-requires
+    write-words-requires
+    enum-known-outcome-2
+    slice-aggregate-say-at
+    say-at-requires
+    enum-known-outcome-3
+    slice-aggregate-say-at-2
+    say-at-requires-2
+    returns
+    returns-2
+    returns-3)

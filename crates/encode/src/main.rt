@@ -1,0 +1,59 @@
+// The program that turns a text of words (`text`) into the form in which the programs read a task and a plan. Where the text is no
+// text of words it says so, with the line, and writes no word.
+use common::access::front;
+use form::word::WORD;
+use libc::STDERR_FILENO;
+use libc::STDOUT_FILENO;
+use text::input::Found;
+use text::input::MOST;
+use text::input::read_text;
+use text::pack::pack;
+use text::reader::Outcome;
+ghost use Prim.Native.Nat.{_≤_};
+ghost use lib.ListN.{length};
+ghost use Rattle.text.specs.Input.{most};
+
+// Says what is wrong.
+fn say(what: &[u8]) {
+    io::write_all(STDERR_FILENO, what);
+    io::write_all(STDERR_FILENO, b"\n");
+}
+
+// Says what is wrong at a line.
+fn say_at(line: u64, what: &[u8]) {
+    io::write_all(STDERR_FILENO, b"line ");
+    io::print_decimal(STDERR_FILENO, line);
+    say(what);
+}
+
+// Writes the words as bytes.
+fn write_words(words: &[u32])
+    requires { ⌜ length (now words) ≤ most ⌝ }
+{
+    let mut bytes = [0u8; WORD * MOST];
+    pack(words, &mut bytes);
+    let n = WORD * words.len();
+    if !io::write_all(STDOUT_FILENO, &bytes[..n]) {
+        say(b"the words can't be written");
+    }
+}
+
+// Writes what was read, or says what is wrong with it.
+fn answer(outcome: Outcome, words: &[u32])
+    requires { ⌜ length (now words) ≤ most ⌝ }
+{
+    match outcome {
+        Outcome::Words(n) => write_words(front(words, n)),
+        Outcome::NoWord(line) => say_at(line, b": not a word of 0 to 4294967295"),
+        Outcome::NoRoom(line) => say_at(line, b": more words than a sheet and its list have"),
+    }
+}
+
+fn main() {
+    let mut words = [0u32; MOST];
+    let found = read_text(&mut words);
+    match found {
+        Found::Text(outcome) => answer(outcome, &words),
+        Found::Failed => say(b"the text can't be read"),
+    }
+}
