@@ -6,3 +6,5 @@ pub mod ReaderLaws
 pub mod PackLaws
 -- InputLaws: the reading of a text in chunks.
 pub mod InputLaws
+-- SpellLaws: words as they are spelled.
+pub mod SpellLaws

@@ -10,7 +10,7 @@ use Rattle.form.specs.Form.{word-bytes, byte-values}
 use Rattle.text.specs.Pack.{bytes-of, packed}
 
 -- one byte is stored behind those that are there
-stored-next : (l l′ : List ℕ) (i j b : ℕ) → i < length l → j ≡ i + 1 → l′ ≡ set l i b → take j l′ ≡ take i l ++ (b ∷ [])
+pub stored-next : (l l′ : List ℕ) (i j b : ℕ) → i < length l → j ≡ i + 1 → l′ ≡ set l i b → take j l′ ≡ take i l ++ (b ∷ [])
 stored-next l l′ i j b low e stores = ap (take j) stores ∙ rw (e, add-one) (take-suc-set l i b low)
 
 -- and so are the four of a word
