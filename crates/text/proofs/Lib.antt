@@ -8,3 +8,7 @@ pub mod PackLaws
 pub mod InputLaws
 -- SpellLaws: words as they are spelled.
 pub mod SpellLaws
+-- PackTheorem: reading the bytes of words gives the words back, and the words of a text fit their bytes.
+pub mod PackTheorem
+-- SpellTheorem: the words of a text in which words are laid out are those words.
+pub mod SpellTheorem

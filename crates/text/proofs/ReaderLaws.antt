@@ -58,12 +58,12 @@ module _ (v b : ℕ) (bs : List ℕ) where
   grown-word low high = rw (le-leb zero-digit b low, le-leb b 57 high)
 
 -- digits alone are a word where their value is
-whole-word : (v : ℕ) → v < 2 ^ 32 → word-from v [] ≡ some v
+pub whole-word : (v : ℕ) → v < 2 ^ 32 → word-from v [] ≡ some v
 unfolding word-from decimal-from all-digits
 whole-word v small = rw (lt-ltb v (2 ^ 32) small)
 
 -- reading a list of fields, by the first of them
-read-next : (room n : ℕ) (bs : List ℕ) (fs : List Field) → read room (record { line = n; bytes = bs } ∷ fs) ≡ read-field room n (word-from 0 bs) fs
+pub read-next : (room n : ℕ) (bs : List ℕ) (fs : List Field) → read room (record { line = n; bytes = bs } ∷ fs) ≡ read-field room n (word-from 0 bs) fs
 unfolding read read-field
 read-next room n bs fs = by-case room (word-from 0 bs)
   where
@@ -84,7 +84,7 @@ behind-no-room [] n = refl
 behind-no-room (x ∷ xs) n = ap (before x) (behind-no-room xs n)
 
 -- and otherwise stand in front of its words
-behind-words : (xs ys : List ℕ) → behind xs (Words ys) ≡ Words (xs ++ ys)
+pub behind-words : (xs ys : List ℕ) → behind xs (Words ys) ≡ Words (xs ++ ys)
 unfolding behind
 behind-words [] ys = refl
 behind-words (x ∷ xs) ys = ap (before x) (behind-words xs ys)

@@ -1,5 +1,5 @@
 -- Words as bytes, the lowest byte of each first; `little-endian` reads them back. Assumes nothing.
-use Prim.Native.Nat.{ℕ, zero, suc, _/_, _%_}
+use Prim.Native.Nat.{ℕ, zero, suc, _/_, _%_, _^_, _<_}
 use mathlib.Core.List.{List, [], _∷_, _++_}
 use Rattle.form.specs.Form.{word-bytes, byte-values}
 
@@ -12,3 +12,8 @@ bytes-of (suc n) x = x % byte-values ∷ bytes-of n (x / byte-values)
 unfoldable pub packed : List ℕ → List ℕ
 packed [] = []
 packed (x ∷ xs) = bytes-of word-bytes x ++ packed xs
+
+-- words: each fits four bytes
+pub data Small : List ℕ → Type 0 where
+  nothing : Small []
+  word : {x : ℕ} {xs : List ℕ} → x < 2 ^ 32 → Small xs → Small (x ∷ xs)
