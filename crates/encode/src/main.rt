@@ -2,29 +2,18 @@
 // text of words it says so, with the line, and writes no word.
 use common::access::front;
 use form::word::WORD;
-use libc::STDERR_FILENO;
 use libc::STDOUT_FILENO;
 use text::input::Found;
 use text::input::MOST;
 use text::input::read_text;
+use text::message::say;
+use text::message::say_line;
+use text::message::say_too_many;
 use text::pack::pack;
 use text::reader::Outcome;
 ghost use Prim.Native.Nat.{_≤_};
 ghost use lib.ListN.{length};
 ghost use Rattle.text.specs.Input.{most};
-
-// Says what is wrong.
-fn say(what: &[u8]) {
-    io::write_all(STDERR_FILENO, what);
-    io::write_all(STDERR_FILENO, b"\n");
-}
-
-// Says what is wrong at a line.
-fn say_at(line: u64, what: &[u8]) {
-    io::write_all(STDERR_FILENO, b"line ");
-    io::print_decimal(STDERR_FILENO, line);
-    say(what);
-}
 
 // Writes the words as bytes.
 fn write_words(words: &[u32])
@@ -44,8 +33,14 @@ fn answer(outcome: Outcome, words: &[u32])
 {
     match outcome {
         Outcome::Words(n) => write_words(front(words, n)),
-        Outcome::NoWord(line) => say_at(line, b": not a word of 0 to 4294967295"),
-        Outcome::NoRoom(line) => say_at(line, b": more words than a sheet and its list have"),
+        Outcome::NoWord(line) => {
+            say_line(line);
+            say(b"not a word of 0 to 4294967295");
+        }
+        Outcome::NoRoom(line) => {
+            say_line(line);
+            say_too_many();
+        }
     }
 }
 

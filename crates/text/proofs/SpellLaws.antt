@@ -56,7 +56,7 @@ module _ (x k : ℕ) (ds : List ℕ) (fewest : Fewest 10 1 x k) (small : x < 2 ^
             ∙ copied
             ∙ ap (λ t. t ++ take k ds) (stored-next out out₁ i (i + 1) space (omega arith) refl stores)
             ∙ append-assoc (take i out) (space ∷ []) (take k ds);
-        few = omega (arith, room-for-digits)
+        few = omega (arith, room-for-digits);
       }
 
 -- one word more on a line

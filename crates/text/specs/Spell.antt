@@ -43,6 +43,10 @@ pub data Lays : List ℕ → List ℕ → Type 0 where
 abbrev pub word-room : ℕ
 word-room = 11
 
+-- the most words of a line
+abbrev pub row : ℕ
+row = 10
+
 -- a word written behind the bytes before index i, up to index j
 pub record Writes-word (x : ℕ) (out : List ℕ) (i : ℕ) (out′ : List ℕ) (j : ℕ) : Type 0 where
   pub ds : List ℕ

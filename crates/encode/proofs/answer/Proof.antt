@@ -17,20 +17,23 @@ write-words-requires c κs = rw (c .front .ensures, length-take) (omega arith)
 enum-known-outcome-2 : tie.Need-enum-known-outcome-2
 enum-known-outcome-2 c = search needs
 
-slice-aggregate-say-at : tie.Need-slice-aggregate-say-at
-slice-aggregate-say-at c = search needs
+say-line-requires : tie.Need-say-line-requires
+say-line-requires c κs = search needs
 
-say-at-requires : tie.Need-say-at-requires
-say-at-requires c κs = search needs
+slice-aggregate-say : tie.Need-slice-aggregate-say
+slice-aggregate-say c = search needs
+
+say-requires : tie.Need-say-requires
+say-requires c κs = search needs
 
 enum-known-outcome-3 : tie.Need-enum-known-outcome-3
 enum-known-outcome-3 c = search needs
 
-slice-aggregate-say-at-2 : tie.Need-slice-aggregate-say-at-2
-slice-aggregate-say-at-2 c = search needs
+say-line-requires-2 : tie.Need-say-line-requires-2
+say-line-requires-2 c κs = search needs
 
-say-at-requires-2 : tie.Need-say-at-requires-2
-say-at-requires-2 c κs = search needs
+say-too-many-requires : tie.Need-say-too-many-requires
+say-too-many-requires c κs = search needs
 
 returns : tie.Need-returns
 returns c = search needs
@@ -49,11 +52,12 @@ answer-spec =
     front-requires
     write-words-requires
     enum-known-outcome-2
-    slice-aggregate-say-at
-    say-at-requires
+    say-line-requires
+    slice-aggregate-say
+    say-requires
     enum-known-outcome-3
-    slice-aggregate-say-at-2
-    say-at-requires-2
+    say-line-requires-2
+    say-too-many-requires
     returns
     returns-2
     returns-3)

@@ -1,0 +1,2 @@
+-- PartLaws: how many words a part has.
+pub mod PartLaws
