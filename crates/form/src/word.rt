@@ -7,7 +7,7 @@ ghost use Rattle.form.specs.Form.{word-at};
 // How many bytes a word has, and how many values a byte.
 pub const WORD: usize = 4;
 
-const BYTE: u32 = 256;
+pub const BYTE: u32 = 256;
 
 // The byte at index i.
 fn byte(bytes: &[u8], i: usize) -> u32

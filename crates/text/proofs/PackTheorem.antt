@@ -1,18 +1,17 @@
 -- Reading the bytes of words gives the words back, each by its four bytes; and every word of a text fits four bytes, since it is below 2 ^ 32.
 -- Assumes nothing.
-use Prim.Native.Nat.{ℕ, zero, suc, _+_, _*_, _/_, _%_, _^_, _≤_, _<_}
+use Prim.Native.Nat.{ℕ, zero, suc, _+_, _*_, _/_, _%_, _^_, _<_}
 use native.Mathlib.Omega.{arith}
 use native.Mathlib.Nat.{pow-suc, mod-add-div, div-lt-iff-lt-mul}
 use mathlib.Core.Path.{_≡_, refl, sym, _∙_, ap, subst}
 use mathlib.Core.Bool.{Bool, true, false, cond, _&&_}
 use mathlib.Core.Option.{Option, none, some}
 use mathlib.Core.List.{List, [], _∷_, _++_, append-assoc}
-use lib.ListN.{length, take, drop, length-append}
+use lib.ListN.{length, take, length-append}
 use lib.Seq.{take-at, drop-at}
 use lib.Dec.{ltb, lit<}
 use borrow.Author.Tests.{ltb-true}
 use Rattle.task.specs.Decode.{table}
-use Rattle.task.proofs.TableLaws.{table-nothing, table-more}
 use Rattle.form.specs.Form.{word-bytes, byte-values, little-endian, word-at, unpacked}
 use Rattle.text.specs.Text.{Field, all-digits, decimal-from, word-from, word-of, Reading, Words, NoWord, NoRoom, before, read, words-of}
 use Rattle.text.specs.Pack.{bytes-of, packed, Small, nothing, word}

@@ -5,7 +5,7 @@ use native.Mathlib.Numerals.{add-one}
 use native.Mathlib.Omega.{arith}
 use native.Mathlib.Nat.{sub-zero}
 use mathlib.Core.Path.{_≡_, refl, sym, _∙_, ap, subst}
-use mathlib.Core.Bool.{Bool, true, false, cond, _&&_, _||_}
+use mathlib.Core.Bool.{Bool, true, false, cond, _&&_}
 use mathlib.Core.Option.{Option, none, some}
 use mathlib.Core.List.{List, [], _∷_, _++_, append-assoc, append-nil}
 use lib.ListN.{length, take, getD, set, length-append, length-set}
@@ -16,15 +16,15 @@ use Rattle.common.proofs.PlaceLaws.{one-fewer, none-left}
 use Rattle.text.specs.declared.reader.Mode.{Mode}
 use Rattle.text.specs.declared.reader.Mode.the-variants as mode
 use Rattle.text.specs.declared.reader.Reader.{Reader}
-use Rattle.text.specs.Text.{ends-line, begins-comment, blank, zero-digit, cut, filled, fields, Field, fields-from, all-digits, decimal-from, word-from, Reading, Words, NoWord, NoRoom, before, read, words-of}
-use Rattle.text.specs.Reading.{after-blank, field-left, after-field, read-field, behind, still, Reads, Starts, Stores}
+use Rattle.text.specs.Text.{digit-zero, digit-nine, ends-line, begins-comment, blank, cut, filled, fields, Field, fields-from, all-digits, decimal-from, word-from, Reading, Words, NoWord, NoRoom, before, read, words-of}
+use Rattle.text.specs.Reading.{ends-field, after-blank, field-left, after-field, read-field, behind, still, Reads, Starts, Stores}
 use Rattle.text.proofs.TextLaws.{none-left-of-field, blank-at-line-end, comment-at-line-end, comment-on, blank-at-comment, blank-at-blank, field-at-other, after-field-at-other, blank-at-other, field-ends, goes-on}
 
 -- more digits make no smaller number
 decimal-grows : (v : ℕ) (bs : List ℕ) → v ≤ decimal-from v bs
 unfolding decimal-from
 decimal-grows v [] = omega arith
-decimal-grows v (b ∷ bs) = omega (arith, decimal-grows (10 * v + (b - zero-digit)) bs)
+decimal-grows v (b ∷ bs) = omega (arith, decimal-grows (10 * v + (b - digit-zero)) bs)
 
 -- the word that bytes stand for, by the first of them
 no-word : (v : ℕ) (bs : List ℕ) → all-digits bs ≡ false → word-from v bs ≡ none
@@ -32,30 +32,30 @@ unfolding word-from
 no-word v bs e = rw e
 
 module _ (v b : ℕ) (bs : List ℕ) where
-  low-no-word : b < zero-digit → word-from v (b ∷ bs) ≡ none
+  low-no-word : b < digit-zero → word-from v (b ∷ bs) ≡ none
   unfolding all-digits
-  low-no-word low = no-word v (b ∷ bs) (rw (lt-leb zero-digit b low))
+  low-no-word low = no-word v (b ∷ bs) (rw (lt-leb digit-zero b low))
 
-  high-no-word : 57 < b → word-from v (b ∷ bs) ≡ none
+  high-no-word : digit-nine < b → word-from v (b ∷ bs) ≡ none
   unfolding all-digits
-  high-no-word high = no-word v (b ∷ bs) (by-case (leb zero-digit b))
+  high-no-word high = no-word v (b ∷ bs) (by-case (leb digit-zero b))
     where
-      by-case : (t : Bool) → (t && leb b 57 && all-digits bs) ≡ false
-      by-case true = rw (lt-leb b 57 high)
+      by-case : (t : Bool) → (t && leb b digit-nine && all-digits bs) ≡ false
+      by-case true = rw (lt-leb b digit-nine high)
       by-case false = refl
 
-  large-no-word : 2 ^ 32 ≤ 10 * v + (b - zero-digit) → word-from v (b ∷ bs) ≡ none
+  large-no-word : 2 ^ 32 ≤ 10 * v + (b - digit-zero) → word-from v (b ∷ bs) ≡ none
   unfolding word-from decimal-from
-  large-no-word large = let past : 2 ^ 32 ≤ decimal-from (10 * v + (b - zero-digit)) bs = omega (arith, decimal-grows (10 * v + (b - zero-digit)) bs) in by-case (all-digits (b ∷ bs)) past
+  large-no-word large = let past : 2 ^ 32 ≤ decimal-from (10 * v + (b - digit-zero)) bs = omega (arith, decimal-grows (10 * v + (b - digit-zero)) bs) in by-case (all-digits (b ∷ bs)) past
     where
-      by-case : (t : Bool) → 2 ^ 32 ≤ decimal-from (10 * v + (b - zero-digit)) bs
-          → cond (t && ltb (decimal-from (10 * v + (b - zero-digit)) bs) (2 ^ 32)) (some (decimal-from (10 * v + (b - zero-digit)) bs)) none ≡ none
-      by-case true past = rw (le-ltb (decimal-from (10 * v + (b - zero-digit)) bs) (2 ^ 32) past)
+      by-case : (t : Bool) → 2 ^ 32 ≤ decimal-from (10 * v + (b - digit-zero)) bs
+          → cond (t && ltb (decimal-from (10 * v + (b - digit-zero)) bs) (2 ^ 32)) (some (decimal-from (10 * v + (b - digit-zero)) bs)) none ≡ none
+      by-case true past = rw (le-ltb (decimal-from (10 * v + (b - digit-zero)) bs) (2 ^ 32) past)
       by-case false past = refl
 
-  grown-word : zero-digit ≤ b → b ≤ 57 → word-from v (b ∷ bs) ≡ word-from (10 * v + (b - zero-digit)) bs
+  grown-word : digit-zero ≤ b → b ≤ digit-nine → word-from v (b ∷ bs) ≡ word-from (10 * v + (b - digit-zero)) bs
   unfolding word-from decimal-from all-digits
-  grown-word low high = rw (le-leb zero-digit b low, le-leb b 57 high)
+  grown-word low high = rw (le-leb digit-zero b low, le-leb b digit-nine high)
 
 -- digits alone are a word where their value is
 pub whole-word : (v : ℕ) → v < 2 ^ 32 → word-from v [] ≡ some v
@@ -142,7 +142,7 @@ module _ (n k b : ℕ) (ws : List ℕ) where
   unfolding still
   passes-on on = record { same = λ rest. ap (λ fs. behind (take k ws) (read (length ws - k) fs)) (sym (comment-on n b rest on)); lines = omega arith }
 
-  module _ (more : (ends-line b || begins-comment b || blank b) ≡ false) where
+  module _ (more : ends-field b ≡ false) where
     -- a field that goes on, by what its first bytes are
     goes : (v : ℕ) (rest : List ℕ)
         → still (at-word v n k) ws (b ∷ rest) ≡ behind (take k ws) (read-field (length ws - k) n (word-from v (b ∷ field-left rest)) (after-field n rest))
@@ -160,16 +160,16 @@ module _ (n k b : ℕ) (ws : List ℕ) where
           lines = omega arith;
         }
 
-    pub grows-low : (v : ℕ) → b < zero-digit → Reads (at-word v n k) ws (b ∷ []) (at-no-word n k) ws
+    pub grows-low : (v : ℕ) → b < digit-zero → Reads (at-word v n k) ws (b ∷ []) (at-no-word n k) ws
     grows-low v low = grows-no-word v (λ rest. low-no-word v b (field-left rest) low)
 
-    pub grows-high : (v : ℕ) → 57 < b → Reads (at-word v n k) ws (b ∷ []) (at-no-word n k) ws
+    pub grows-high : (v : ℕ) → digit-nine < b → Reads (at-word v n k) ws (b ∷ []) (at-no-word n k) ws
     grows-high v high = grows-no-word v (λ rest. high-no-word v b (field-left rest) high)
 
-    pub grows-large : (v : ℕ) → 2 ^ 32 ≤ 10 * v + (b - zero-digit) → Reads (at-word v n k) ws (b ∷ []) (at-no-word n k) ws
+    pub grows-large : (v : ℕ) → 2 ^ 32 ≤ 10 * v + (b - digit-zero) → Reads (at-word v n k) ws (b ∷ []) (at-no-word n k) ws
     grows-large v large = grows-no-word v (λ rest. large-no-word v b (field-left rest) large)
 
-    pub grows-digit : (v : ℕ) → zero-digit ≤ b → b ≤ 57 → Reads (at-word v n k) ws (b ∷ []) (at-word (10 * v + (b - zero-digit)) n k) ws
+    pub grows-digit : (v : ℕ) → digit-zero ≤ b → b ≤ digit-nine → Reads (at-word v n k) ws (b ∷ []) (at-word (10 * v + (b - digit-zero)) n k) ws
     unfolding still
     grows-digit v low high =
         record {
@@ -213,7 +213,7 @@ module _ (v n k : ℕ) (ws rest : List ℕ) (small : v < 2 ^ 32) (over : field-l
       sym (closes-to ∙ ap (λ m. behind (take k ws) (read-field m n (some v) (after-blank n rest))) (none-left k (length ws) full) ∙ behind-no-room (take k ws) n)
 
 -- a word is stored, and the byte that ends its field is read behind it
-module _ (v n k b : ℕ) (ws ws′ : List ℕ) (room : Bool) (stores : Stores ws k v room ws′) (ends : (ends-line b || begins-comment b || blank b) ≡ true) where
+module _ (v n k b : ℕ) (ws ws′ : List ℕ) (room : Bool) (stores : Stores ws k v room ws′) (ends : ends-field b ≡ true) where
   pub stores-then-skips : room ≡ true → (r : Reader) → Reads (at-blank n (k + 1)) ws′ (b ∷ []) r ws′ → Reads (at-word v n k) ws (b ∷ []) r ws′
   stores-then-skips is r skips =
       record {

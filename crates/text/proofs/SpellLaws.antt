@@ -1,17 +1,18 @@
 -- Words as they are spelled, byte by byte and word by word: what is written stands behind what was there. Assumes nothing.
-use Prim.Native.Nat.{ℕ, zero, suc, _+_, _-_, _*_, _^_, _≤_, _<_}
+use Prim.Native.Nat.{ℕ, _+_, _-_, _*_, _^_, _≤_, _<_}
 use native.Mathlib.Numerals.{add-one}
 use native.Mathlib.Omega.{arith}
 use native.Mathlib.Nat.{add-zero, pow-le-pow-right}
 use mathlib.Core.Path.{_≡_, refl, sym, _∙_, ap, subst}
 use mathlib.Core.Bool.{Bool, true, false}
 use mathlib.Core.List.{List, [], _∷_, _++_, append-assoc, append-nil}
-use lib.ListN.{length, take, getD, set, length-set, length-append, length-take}
+use lib.ListN.{length, take, getD, set}
 use lib.Seq.{take-suc, length-take-le}
 use lib.Dec.{ltb, lit≤, lit<}
 use borrow.Author.Tests.{ltb-true, ltb-false}
 use Rattle.io.specs.Digits.{digits, Fewest}
-use Rattle.text.specs.Spell.{space, line-end, Numeral, Spells, nothing, word, word-room, Writes-word, Writes-line}
+use Rattle.text.specs.Text.{line-end, space}
+use Rattle.text.specs.Spell.{Numeral, Spells, nothing, word, word-room, Writes-word, Writes-line}
 use Rattle.text.proofs.PackLaws.{stored-next}
 
 -- bytes are copied behind those before index i: none of them, and one more

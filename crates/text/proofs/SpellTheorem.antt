@@ -3,19 +3,19 @@
 use Prim.Native.Nat.{ℕ, zero, suc, _+_, _-_, _*_, _/_, _%_, _^_, _≤_, _<_}
 use native.Mathlib.Omega.{arith}
 use native.Mathlib.Nat.{pow-suc, mod-lt, div-add-mod, div-lt-iff-lt-mul}
-use mathlib.Core.Path.{_≡_, refl, sym, _∙_, ap, subst}
-use mathlib.Core.Bool.{Bool, true, false, _&&_, _||_, and-eq-true-iff}
+use mathlib.Core.Path.{_≡_, refl, _∙_, ap}
+use mathlib.Core.Bool.{Bool, true, false, _&&_, and-eq-true-iff}
 use mathlib.Core.Option.{some}
 use mathlib.Core.List.{List, [], _∷_, _++_, append-assoc}
 use lib.ListN.{length, length-append}
-use lib.Dec.{ltb, leb, eqb, lit<}
+use lib.Dec.{leb, lit<}
 use borrow.Author.Tests.{lt-ltb, le-leb, leb-true, ne-eqb}
 use Rattle.io.specs.Digits.{glyph, digits}
-use Rattle.text.specs.Text.{ends-line, begins-comment, blank, zero-digit, digit, all-digits, decimal-from, word-from, word-of, cut, fields, filled, fields-from, Words, before, read, words-of}
-use Rattle.text.specs.Reading.{after-blank, after-comment, field-left, after-field, read-field, behind}
+use Rattle.text.specs.Text.{line-end, comment-sign, space, digit-zero, digit-nine, digit, all-digits, decimal-from, word-from, word-of, cut, fields, filled, fields-from, Words, before, read, words-of}
+use Rattle.text.specs.Reading.{ends-field, after-blank, after-comment, field-left, after-field, read-field, behind}
 use Rattle.text.specs.Pack.{Small}
 use Rattle.text.specs.Pack as pack
-use Rattle.text.specs.Spell.{space, line-end, comment-sign, Numeral, Spells, nothing, word, Unbroken, Lays}
+use Rattle.text.specs.Spell.{Numeral, Spells, nothing, word, Unbroken, Lays}
 use Rattle.text.specs.Spell as spell
 use Rattle.text.proofs.TextLaws.{none-left-of-field, blank-at-line-end, comment-at-line-end, comment-on, blank-at-comment, blank-at-blank, field-at-other, after-field-at-other, blank-at-other, field-ends, goes-on}
 use Rattle.text.proofs.ReaderLaws.{read-next, behind-words}
@@ -25,10 +25,10 @@ both : (s t : Bool) → (s && t) ≡ true → (s ≡ true) × (t ≡ true)
 both s t e = and-eq-true-iff s t .0 e
 
 -- a last digit
-decimal-last : (v : ℕ) (ds : List ℕ) (b : ℕ) → decimal-from v (ds ++ (b ∷ [])) ≡ 10 * decimal-from v ds + (b - zero-digit)
+decimal-last : (v : ℕ) (ds : List ℕ) (b : ℕ) → decimal-from v (ds ++ (b ∷ [])) ≡ 10 * decimal-from v ds + (b - digit-zero)
 unfolding decimal-from
 decimal-last v [] b = refl
-decimal-last v (d ∷ ds) b = decimal-last (10 * v + (d - zero-digit)) ds b
+decimal-last v (d ∷ ds) b = decimal-last (10 * v + (d - digit-zero)) ds b
 
 all-digits-last : (ds : List ℕ) (b : ℕ) → all-digits ds ≡ true → digit b ≡ true → all-digits (ds ++ (b ∷ [])) ≡ true
 unfolding all-digits
@@ -36,15 +36,15 @@ all-digits-last [] b first last = rw last
 all-digits-last (d ∷ ds) b first last = let (here, there) = both (digit d) (all-digits ds) first in rw (here, all-digits-last ds b there last)
 
 -- the last digit of a number
-last-digit : (x : ℕ) → glyph (x % 10) ≡ zero-digit + x % 10
+last-digit : (x : ℕ) → glyph (x % 10) ≡ digit-zero + x % 10
 last-digit x = rw (lt-ltb (x % 10) 10 (mod-lt x (lit< tt)))
 
 is-digit : (x : ℕ) → digit (glyph (x % 10)) ≡ true
 is-digit x =
     let small : x % 10 < 10 = mod-lt x (lit< tt) in
-    let low : zero-digit ≤ zero-digit + x % 10 = omega arith in
-    let high : zero-digit + x % 10 ≤ 57 = omega arith in
-    rw (last-digit x, le-leb zero-digit (zero-digit + x % 10) low, le-leb (zero-digit + x % 10) 57 high)
+    let low : digit-zero ≤ digit-zero + x % 10 = omega arith in
+    let high : digit-zero + x % 10 ≤ digit-nine = omega arith in
+    rw (last-digit x, le-leb digit-zero (digit-zero + x % 10) low, le-leb (digit-zero + x % 10) digit-nine high)
 
 -- a number by its digits
 digits-all : (k x : ℕ) → all-digits (digits 10 k x) ≡ true
@@ -58,7 +58,7 @@ digits-value zero x small = omega arith
 digits-value (suc k) x small =
     let high : x / 10 < 10 ^ k = div-lt-iff-lt-mul {k = 10} (lit< tt) .1 (rw pow-suc at small) in
     decimal-last 0 (digits 10 k (x / 10)) (glyph (x % 10))
-    ∙ ap (λ v. 10 * v + (glyph (x % 10) - zero-digit)) (digits-value k (x / 10) high)
+    ∙ ap (λ v. 10 * v + (glyph (x % 10) - digit-zero)) (digits-value k (x / 10) high)
     ∙ omega (arith, last-digit x, div-add-mod x 10)
 
 digits-length : (k x : ℕ) → length (digits 10 k x) ≡ k
@@ -74,9 +74,9 @@ numeral-word x ds small numeral =
     rw (numeral .spelled, digits-all k x, value, lt-ltb x (2 ^ 32) small)
 
 -- a digit goes on with a field
-digit-goes-on : (b : ℕ) → digit b ≡ true → (ends-line b || begins-comment b || blank b) ≡ false
+digit-goes-on : (b : ℕ) → digit b ≡ true → ends-field b ≡ false
 digit-goes-on b e =
-    let low : zero-digit ≤ b = leb-true zero-digit b (both (leb zero-digit b) (leb b 57) e .0) in
+    let low : digit-zero ≤ b = leb-true digit-zero b (both (leb digit-zero b) (leb b digit-nine) e .0) in
     rw (ne-eqb b 10 (λ is. omega arith), ne-eqb b 35 (λ is. omega arith), ne-eqb b 32 (λ is. omega arith), ne-eqb b 9 (λ is. omega arith), ne-eqb b 13 (λ is. omega arith))
 
 -- digits in front of a byte that ends the field

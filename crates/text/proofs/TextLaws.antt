@@ -4,8 +4,8 @@ use mathlib.Core.Path.{_≡_, refl, sym, _∙_, ap}
 use mathlib.Core.Bool.{Bool, true, false, _||_}
 use mathlib.Core.List.{List, [], _∷_, _++_}
 use Rattle.task.proofs.CauseLaws.{neither}
-use Rattle.text.specs.Text.{ends-line, begins-comment, blank, Cut, runs, cut, filled, uncommented, fields, Field, on-line, fields-from}
-use Rattle.text.specs.Reading.{line-left, lines-left, after-blank, after-comment, field-left, after-field}
+use Rattle.text.specs.Text.{ends-line, begins-comment, blank, Cut, runs, cut, filled, uncommented, fields, on-line, fields-from}
+use Rattle.text.specs.Reading.{ends-field, line-left, lines-left, after-blank, after-comment, field-left, after-field}
 
 pub cut-at : (test : ℕ → Bool) (b : ℕ) (bs : List ℕ) → test b ≡ true → cut test (b ∷ bs) ≡ record { first = []; others = runs (cut test bs) }
 unfolding cut
@@ -107,7 +107,7 @@ module _ (n b : ℕ) (rest : List ℕ) where
         blank-at-other = on-with ∙ ap (λ c. on-line n (filled (runs c)) ++ fields-from (n + 1) (lines-left rest)) (cut-other b (line-left rest) no-comment e)
 
 -- a byte that ends a field leaves nothing of it
-pub field-ends : (b : ℕ) (rest : List ℕ) → (ends-line b || begins-comment b || blank b) ≡ true → field-left (b ∷ rest) ≡ []
+pub field-ends : (b : ℕ) (rest : List ℕ) → ends-field b ≡ true → field-left (b ∷ rest) ≡ []
 field-ends b rest e = by-case (ends-line b) refl (begins-comment b) refl
   where
     by-case : (t : Bool) → ends-line b ≡ t → (u : Bool) → begins-comment b ≡ u → field-left (b ∷ rest) ≡ []
@@ -116,7 +116,7 @@ field-ends b rest e = by-case (ends-line b) refl (begins-comment b) refl
     by-case false line false is = field-at-blank 0 b rest line is (rw (line, is) at e)
 
 -- and one that does not is neither a line end nor a comment's beginning nor blank
-pub goes-on : (b : ℕ) → (ends-line b || begins-comment b || blank b) ≡ false → (ends-line b ≡ false) × ((begins-comment b ≡ false) × (blank b ≡ false))
+pub goes-on : (b : ℕ) → ends-field b ≡ false → (ends-line b ≡ false) × ((begins-comment b ≡ false) × (blank b ≡ false))
 goes-on b e =
     let (front, no-blank) = neither (ends-line b || begins-comment b) (blank b) e in
     let (no-end, no-comment) = neither (ends-line b) (begins-comment b) front in

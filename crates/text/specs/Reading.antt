@@ -2,17 +2,20 @@
 -- file, so it need not be believed. Assumes nothing.
 use Prim.Native.Nat.{ℕ, zero, suc, _+_, _-_, _^_, _≤_, _<_}
 use mathlib.Core.Path.{_≡_}
-use mathlib.Core.Bool.{Bool}
+use mathlib.Core.Bool.{Bool, _||_}
 use mathlib.Core.Option.{Option, none, some}
 use mathlib.Core.List.{List, [], _∷_, _++_}
 use lib.ListN.{length, take, set}
 use lib.Dec.{ltb}
-use Rattle.text.specs.declared.reader.Mode.{Mode}
 use Rattle.text.specs.declared.reader.Mode.the-variants as mode
 use Rattle.text.specs.declared.reader.Reader.{Reader}
 use Rattle.text.specs.declared.reader.Outcome.{Outcome}
 use Rattle.text.specs.declared.reader.Outcome.the-variants as outcome
-use Rattle.text.specs.Text.{ends-line, blank, runs, cut, filled, uncommented, Field, on-line, fields-from, word-from, Reading, Words, NoWord, NoRoom, before, read, words-of}
+use Rattle.text.specs.Text.{ends-line, begins-comment, blank, runs, cut, filled, uncommented, Field, on-line, fields-from, word-from, Reading, Words, NoWord, NoRoom, before, read, words-of}
+
+-- whether a field is over before a byte
+abbrev pub ends-field : ℕ → Bool
+ends-field b = ends-line b || begins-comment b || blank b
 
 -- the lines that are left, the first of them cut off in front
 abbrev pub line-left : List ℕ → List ℕ

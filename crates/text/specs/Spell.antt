@@ -1,21 +1,11 @@
 -- Words as a text: the layout that a person reads, line by line. `SpellTheorem` shows that its words are those words. Assumes nothing.
-use Prim.Native.Nat.{ℕ, _+_, _*_, _≤_}
+use Prim.Native.Nat.{ℕ, _+_, _≤_}
 use mathlib.Core.Path.{_≡_}
 use mathlib.Core.Bool.{false}
 use mathlib.Core.List.{List, [], _∷_, _++_}
-use lib.ListN.{length, take}
+use lib.ListN.{take}
 use Rattle.io.specs.Digits.{digits, Fewest}
-use Rattle.text.specs.Text.{ends-line}
-
--- the bytes of a space, of a line end and of the sign that begins a comment
-abbrev pub space : ℕ
-space = 32
-
-abbrev pub line-end : ℕ
-line-end = 10
-
-abbrev pub comment-sign : ℕ
-comment-sign = 35
+use Rattle.text.specs.Text.{line-end, comment-sign, space, ends-line}
 
 -- the decimal digits of a number, as few as hold it
 pub record Numeral (x : ℕ) (ds : List ℕ) : Type 0 where

@@ -5,23 +5,34 @@ use mathlib.Core.Option.{Option, none, some}
 use mathlib.Core.List.{List, [], _∷_, _++_, map}
 use lib.Dec.{leb, ltb, eqb}
 
--- the bytes that count in a text, as ASCII has them: a line ends with byte 10, and `#` begins a comment
+-- the bytes that count in a text, as ASCII has them: a line end, the sign that begins a comment, a space, the first digit and the last
+abbrev pub line-end : ℕ
+line-end = 10
+
+abbrev pub comment-sign : ℕ
+comment-sign = 35
+
+abbrev pub space : ℕ
+space = 32
+
+abbrev pub digit-zero : ℕ
+digit-zero = 48
+
+abbrev pub digit-nine : ℕ
+digit-nine = 57
+
 abbrev pub ends-line : ℕ → Bool
-ends-line b = eqb b 10
+ends-line b = eqb b line-end
 
 abbrev pub begins-comment : ℕ → Bool
-begins-comment b = eqb b 35
+begins-comment b = eqb b comment-sign
 
 -- white space within a line: a space, a tab or a carriage return
 abbrev pub blank : ℕ → Bool
-blank b = eqb b 32 || eqb b 9 || eqb b 13
-
--- a digit, and the number that it stands for
-abbrev pub zero-digit : ℕ
-zero-digit = 48
+blank b = eqb b space || eqb b 9 || eqb b 13
 
 abbrev pub digit : ℕ → Bool
-digit b = leb zero-digit b && leb b 57
+digit b = leb digit-zero b && leb b digit-nine
 
 -- bytes cut at each byte for which a test holds, which is left out: the bytes to the first such byte, and the other runs of bytes
 pub record Cut : Type 0 where
@@ -74,7 +85,7 @@ all-digits (b ∷ bs) = digit b && all-digits bs
 -- the number that digits stand for in decimal, where those in front of them stand for v
 unfoldable pub decimal-from : ℕ → List ℕ → ℕ
 decimal-from v [] = v
-decimal-from v (b ∷ bs) = decimal-from (10 * v + (b - zero-digit)) bs
+decimal-from v (b ∷ bs) = decimal-from (10 * v + (b - digit-zero)) bs
 
 -- the word that bytes stand for behind digits that stand for v: there is one where all are digits and the number fits a word
 unfoldable pub word-from : ℕ → List ℕ → Option ℕ

@@ -1,16 +1,14 @@
 // Words as bytes.
 use common::access::put8;
 use common::access::word;
+use form::word::BYTE;
 use form::word::WORD;
 ghost use mathlib.Core.Path.{_≡_};
 ghost use mathlib.Core.List.{_++_};
-ghost use Prim.Native.Nat.{_+_, _*_, _≤_, _<_, _^_};
+ghost use Prim.Native.Nat.{_+_, _*_, _≤_, _<_};
 ghost use lib.ListN.{length, take};
 ghost use Rattle.form.specs.Form.{word-bytes};
 ghost use Rattle.text.specs.Pack.{bytes-of, packed};
-
-// How many values a byte has.
-const BYTE: u32 = 256;
 
 // Writes a word at index `at`, its lowest byte first.
 fn put_word(bytes: &mut [u8], at: usize, x: u32)

@@ -1,15 +1,17 @@
 // The reading of a text, byte by byte.
 use common::access::put;
 ghost use mathlib.Core.Path.{_≡_};
-ghost use mathlib.Core.Bool.{Bool, true, false, _||_};
+ghost use mathlib.Core.Bool.{false};
 ghost use mathlib.Core.List.{List, [], _∷_};
-ghost use Prim.Native.Nat.{ℕ, _+_, _≤_, _<_, _^_};
+ghost use Prim.Native.Nat.{ℕ, _+_, _<_, _^_};
 ghost use lib.ListN.{length};
-ghost use Rattle.text.specs.Text.{ends-line, begins-comment, blank as is-blank, digit as is-digit, words-of};
-ghost use Rattle.text.specs.Reading.{still, Reads, Starts, Stores, told};
+ghost use Rattle.text.specs.Text.{blank as is-blank, words-of};
+ghost use Rattle.text.specs.Reading.{ends-field, still, Reads, Starts, Stores, told};
 
 // What counts in a text.
-const LINE_END: u8 = b'\n';
+pub(crate) const LINE_END: u8 = b'\n';
+
+pub(crate) const SPACE: u8 = b' ';
 
 const COMMENT: u8 = b'#';
 
@@ -41,7 +43,7 @@ pub enum Outcome {
 fn blank(byte: u8) -> bool
     ensures { λ r. ⌜ r ≡ is-blank byte ⌝ }
 {
-    if byte == b' ' {
+    if byte == SPACE {
         return true;
     }
     if byte == b'\t' {
@@ -52,7 +54,7 @@ fn blank(byte: u8) -> bool
 
 // Whether a field is over before this byte.
 fn ends_field(byte: u8) -> bool
-    ensures { λ r. ⌜ r ≡ (ends-line byte || begins-comment byte || is-blank byte) ⌝ }
+    ensures { λ r. ⌜ r ≡ ends-field byte ⌝ }
 {
     if byte == LINE_END {
         return true;
@@ -65,7 +67,7 @@ fn ends_field(byte: u8) -> bool
 
 // Takes one more byte of a field whose digits so far have this value.
 fn grow(line: u64, count: usize, value: u32, byte: u8) -> Reader
-    requires { ⌜ (ends-line byte || begins-comment byte || is-blank byte) ≡ false ⌝ }
+    requires { ⌜ ends-field byte ≡ false ⌝ }
     ensures { λ r. ⌜ ((ws : List ℕ) → Reads (record { mode = Mode.Word value; line = line; count = count }) ws (byte ∷ []) r ws) ⌝ }
 {
     if byte < b'0' {
@@ -199,13 +201,13 @@ pub fn feed_all(reader: Reader, bytes: &[u8], words: &mut [u32]) -> Reader
     requires { ⌜ reader .line + length (now bytes) < 2 ^ 64 ⌝ }
     ensures { λ r. ⌜ Reads reader (now (words .entry)) (now (bytes .entry)) r (now (words .exit)) ⌝ }
 {
-    let mut now = reader;
+    let mut current = reader;
     let mut i = 0;
     while i < bytes.len() {
-        now = feed(now, bytes[i], words);
+        current = feed(current, bytes[i], words);
         i += 1;
     }
-    now
+    current
 }
 
 // Ends the reading, at the end of the text.
@@ -227,4 +229,12 @@ pub fn finish(reader: Reader, words: &mut [u32]) -> Outcome
         Mode::NoWord => Outcome::NoWord(line),
         Mode::NoRoom => Outcome::NoRoom(line),
     }
+}
+
+// Reads a whole text.
+pub fn read_whole(text: &[u8], words: &mut [u32]) -> Outcome
+    requires { ⌜ 1 + length (now text) < 2 ^ 64 ⌝ }
+    ensures { λ r. ⌜ told r (now (words .exit)) ≡ words-of (length (now (words .entry))) (now (text .entry)) ⌝ }
+{
+    finish(feed_all(start(), text, words), words)
 }

@@ -1,9 +1,11 @@
 // Words spelled in decimal, a line at a time.
+use crate::reader::LINE_END;
+use crate::reader::SPACE;
 use common::access::put8;
 use common::access::word;
 ghost use mathlib.Core.Path.{_≡_};
 ghost use mathlib.Core.List.{_++_};
-ghost use Prim.Native.Nat.{_+_, _*_, _≤_, _<_, _^_};
+ghost use Prim.Native.Nat.{_+_, _*_, _≤_, _<_};
 ghost use lib.ListN.{length, take};
 ghost use Rattle.io.specs.Counts.{Counts};
 ghost use Rattle.text.specs.Spell.{word-room, Writes-word, Writes-line};
@@ -32,7 +34,7 @@ fn spell_word(x: u32, out: &mut [u8], at: usize) -> usize
 {
     let mut digits = [0u8; 20];
     let k = io::decimal(x as u64, &mut digits);
-    put8(out, at, b' ');
+    put8(out, at, SPACE);
     copy(&digits[..k], out, at + 1);
     at + 1 + k
 }
@@ -48,6 +50,6 @@ pub fn spell_line(words: &[u32], out: &mut [u8]) -> usize
         at = spell_word(word(words, i), out, at);
         i += 1;
     }
-    put8(out, at, b'\n');
+    put8(out, at, LINE_END);
     at + 1
 }

@@ -11,10 +11,10 @@ use Rattle.text.proofs.reader.feed_all.Statement.{statement}
 use Rattle.text.proofs.reader.feed_all.Tie as tie
 
 abbrev Inv-loop : tie.InvT-loop
-Inv-loop bytes words₀ now₀ i₀ words now i = Reads now₀ words₀ (take i bytes) now words × (i ≤ length bytes) × (length words ≡ length words₀)
+Inv-loop bytes words₀ current₀ i₀ words current i = Reads current₀ words₀ (take i bytes) current words × (i ≤ length bytes) × (length words ≡ length words₀)
 
 abbrev μ-loop : tie.MeasureT-loop
-μ-loop bytes words₀ now₀ i₀ words now i = length bytes - i
+μ-loop bytes words₀ current₀ i₀ words current i = length bytes - i
 
 loop-holds : tie.Need-loop-holds Inv-loop μ-loop
 loop-holds c = (reads-nothing _ _, search needs, refl)

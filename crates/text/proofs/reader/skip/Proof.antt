@@ -1,15 +1,15 @@
 -- `skip` meets its contract: a byte that is neither a line end nor a comment's beginning nor blank begins a field. Assumes nothing.
 use borrow.Author.Needs.{needs}
 use mathlib.Core.Path.{_≡_, sym, _∙_}
-use mathlib.Core.Bool.{false, _||_}
+use mathlib.Core.Bool.{false}
 use borrow.Author.Tests.{eq-eqb, ne-eqb}
-use Rattle.text.specs.Text.{ends-line, begins-comment, blank}
+use Rattle.text.specs.Reading.{ends-field}
 use Rattle.text.proofs.ReaderLaws.{skips-line-end, skips-comment, skips-blank, skips-into-field}
 use Rattle.text.proofs.reader.skip.Statement.{statement}
 use Rattle.text.proofs.reader.skip.Tie as tie
 
 -- a field begins
-begins : (c : tie.Else3) → (ends-line (c .before .before .before .before .args .byte) || begins-comment (c .before .before .before .before .args .byte) || blank (c .before .before .before .before .args .byte)) ≡ false
+begins : (c : tie.Else3) → ends-field (c .before .before .before .before .args .byte) ≡ false
 begins c = simp (ne-eqb _ _ (c .before .before .before .if1 .left), ne-eqb _ _ (c .before .before .if2 .left)) (sym (c .before .blank .ensures) ∙ c .if3 .left)
 
 add-t6 : tie.Need-add-t6

@@ -3,7 +3,7 @@ use Prim.Native.Nat.{_^_, _<_}
 use native.Mathlib.Omega.{arith}
 use mathlib.Core.Path.{ap}
 use borrow.Author.Needs.{needs}
-use lib.ListN.{length, length-set, length-take}
+use lib.ListN.{length, length-set}
 use Rattle.text.proofs.SpellLaws.{room-for-digits, word-written}
 use Rattle.text.proofs.spell.spell_word.Statement.{statement}
 use Rattle.text.proofs.spell.spell_word.Tie as tie
