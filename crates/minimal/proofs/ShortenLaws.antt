@@ -77,7 +77,7 @@ module _ (w l : List ℕ) where
 
     -- the ones of their mask are the marked steps
     module _ (words : List ℕ) (ones : ℕ) (told-by : words ≡ mask-words flags) (counted : ones ≡ ones-of words) where
-      ones-marked : ones ≡ count marked
+      pub ones-marked : ones ≡ count marked
       unfolding flags-of
       ones-marked =
           let long : length flags ≤ mask-bits = rw flags-are (simp length-append (simp length-replicate (omega (arith, marked-fits)))) in
