@@ -21,8 +21,6 @@ mod rules;
 mod search;
 mod self_test;
 mod sheets;
-#[cfg(stand_in)]
-mod stand_in;
 mod worked;
 
 use cases::{Case, SERVICES};
@@ -44,9 +42,6 @@ fn main() -> ExitCode {
             return ExitCode::from(2);
         }
     };
-    if cfg!(stand_in) {
-        println!("the library has no exact reduction yet: a stand-in answers for it");
-    }
     if run(&options) {
         ExitCode::SUCCESS
     } else {
