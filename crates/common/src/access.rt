@@ -2,13 +2,20 @@
 ghost use mathlib.Core.Path.{_≡_};
 ghost use mathlib.Core.Bool.{false};
 ghost use Prim.Native.Nat.{_<_, _^_};
-ghost use lib.ListN.{getD, set};
+ghost use lib.ListN.{getD, set, take};
 
 // The word at index i.
 pub fn word(words: &[u32], i: usize) -> u32
     ensures { λ r. ⌜ (r ≡ getD (now (words .entry)) i 0) × (r < 2 ^ 32) ⌝ }
 {
     if i < words.len() { words[i] } else { 0 }
+}
+
+// The first n words, or all where there are fewer.
+pub fn front(words: &[u32], n: usize) -> &[u32]
+    ensures { λ r. ⌜ now r ≡ take n (now (words .entry)) ⌝ }
+{
+    if n < words.len() { &words[..n] } else { words }
 }
 
 // Writes x at index i.

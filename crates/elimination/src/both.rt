@@ -1,6 +1,7 @@
 // Both eliminations as one service, and the part of the cheaper list.
 use crate::eliminate::eliminate;
 use crate::greedy::greedy;
+use common::access::front;
 use common::refusal::Verdict;
 use reduced::checks::check_reduction;
 use reduced::finish::finish;
@@ -8,7 +9,6 @@ use tally::Order;
 use tally::Tally;
 ghost use mathlib.Core.Path.{_≡_};
 ghost use Prim.Native.Nat.{min};
-ghost use lib.ListN.{take};
 ghost use Rattle.elimination.specs.Eliminations.{Reduces-both, cheaper-part};
 
 // Both tallies, elimination's first, or a refusal, with its tallies zero.
@@ -49,13 +49,6 @@ pub fn cheaper(words: &[u32], plan: &[u32], first: &mut [u32], second: &mut [u32
         first: of_first,
         second: of_second,
     }
-}
-
-// The first n words, or all where there are fewer.
-fn front(words: &[u32], n: usize) -> &[u32]
-    ensures { λ r. ⌜ now r ≡ take n (now (words .entry)) ⌝ }
-{
-    if n < words.len() { &words[..n] } else { words }
 }
 
 // The kept part of whichever list is cheaper: lower cost, then fewer steps, then the first. `tally` is that of the first.

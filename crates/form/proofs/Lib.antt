@@ -6,3 +6,7 @@ pub mod FormLaws
 pub mod LongLaws
 -- FormTheorem: what is read, as far as it is wanted, tells the form of the whole input, and three stages are enough.
 pub mod FormTheorem
+-- DueLaws: what is due to an input, by its form, from the words that the code unpacks.
+pub mod DueLaws
+-- DueTheorem: what is due to the bytes that are read is what is due to the whole input.
+pub mod DueTheorem

@@ -1,18 +1,18 @@
--- One bit more: the words of a reduction in which a further step is kept are its words with that step's bit raised. By induction on the digits of a word,
--- then on the words. Assumes nothing.
+-- A bit as the code reads it; and one bit more: the words of a reduction in which a further step is kept are its words with that step's bit raised. By
+-- induction on the digits of a word, then on the words. Assumes nothing.
 use Prim.Native.Nat.{ℕ, zero, suc, max, _+_, _*_, _/_, _%_, _^_, _≤_, _<_}
-use native.Mathlib.Nat.{zero-add, suc-add, one-mul, mul-suc, pow-suc, max-zero}
+use native.Mathlib.Nat.{zero-add, suc-add, one-mul, mul-suc, pow-suc, max-zero, zero-div}
 use native.Mathlib.Omega.{arith}
 use mathlib.Core.Path.{_≡_, refl, sym, _∙_, ap}
 use mathlib.Core.Bool.{Bool, true, false}
 use mathlib.Core.List.{List, [], _∷_}
-use lib.ListN.{length, getD, set, take, drop, length-take, length-drop}
+use lib.ListN.{length, getD, set, take, drop, length-take, length-drop, List·getD-eq-default}
 use lib.Seq.{set-out, take-set-le, drop-set-lt}
 use lib.Bits.{bitOr, or-step, or-zero-r}
-use lib.Dec.{lit<}
+use lib.Dec.{eqb, lit<}
 use lib.Pow.{shl-exact}
 use Rattle.reduction.specs.Reduction.{Reduction}
-use Rattle.mask.specs.Mask.{mask-length, word-bits, digit, binary, words-of, mask-words, with-bit}
+use Rattle.mask.specs.Mask.{mask-length, word-bits, digit, binary, words-of, mask-words, bit-up, with-bit}
 use Rattle.mask.proofs.WordLaws.{lowest-digit, other-digits}
 
 -- the bit as the code shifts it
@@ -20,6 +20,14 @@ shifted : (i : ℕ) → 1 * 2 ^ (i % word-bits) % 2 ^ word-bits ≡ 2 ^ (i % wor
 shifted i = shl-exact 1 (i % word-bits) word-bits (lit< tt) (omega arith) ∙ one-mul (2 ^ (i % word-bits))
 
 module _ (ws : List ℕ) (i : ℕ) where
+  pub bit-read : eqb (getD ws (i / word-bits) 0 / 2 ^ (i % word-bits) % 2) 1 ≡ bit-up ws i
+  unfolding bit-up
+  bit-read = refl
+
+  pub none-up : length ws ≡ mask-length → mask-length ≤ i / word-bits → false ≡ bit-up ws i
+  unfolding bit-up
+  none-up four past = rw (List·getD-eq-default ws 0 {n = i / word-bits} (omega arith), zero-div)
+
   pub raised : set ws (i / word-bits) (bitOr (getD ws (i / word-bits) 0) (1 * 2 ^ (i % word-bits) % 2 ^ word-bits)) ≡ with-bit ws i
   unfolding with-bit
   raised = rw (shifted i)

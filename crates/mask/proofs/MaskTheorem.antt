@@ -4,16 +4,21 @@ use Prim.Native.Nat.{ℕ, _+_, _*_, _/_, _%_, _^_, _≤_, _<_}
 use native.Mathlib.Nat.{zero-add}
 use native.Mathlib.Omega.{arith}
 use mathlib.Core.Path.{_≡_, refl, _∙_}
-use mathlib.Core.Bool.{true, false}
+use mathlib.Core.Bool.{Bool, true, false}
 use mathlib.Core.List.{List, [], _∷_, _++_}
 use lib.ListN.{length, getD, drop}
 use lib.Seq.{sets, sets-eq, getD-take, getD-drop}
+use lib.Dec.{eqb}
 use Rattle.reduction.specs.Reduction.{Reduction, kept, count}
 use Rattle.reduction.proofs.ReductionLaws.{kept-length}
-use Rattle.mask.specs.Mask.{mask-length, word-bits, mask-bits, digit, binary, words-of, mask-words, ones-of, kept-by-words}
+use Rattle.mask.specs.Mask.{mask-length, word-bits, mask-bits, digit, binary, words-of, mask-words, ones-of, bit-up, kept-by-words}
 use Rattle.mask.proofs.WordLaws.{binary-bit}
 use Rattle.mask.proofs.MaskLaws.{words-at, words-fit, words-ones}
 use Rattle.mask.proofs.KeptLaws.{words-keep}
+
+is-one : (b : Bool) → eqb (digit b) 1 ≡ b
+is-one true = refl
+is-one false = refl
 
 module _ (m : Reduction) where
   -- "bit (i − 1) mod 64 of word (i − 1) div 64 is one when step i is kept; all other bits are zero", at each bit of the mask
@@ -24,6 +29,11 @@ module _ (m : Reduction) where
       let bit : i % word-bits < word-bits = omega arith in
       let whole : word-bits * (i / word-bits) + i % word-bits ≡ i = omega arith in
       rw (words-at mask-length (i / word-bits) m word, binary-bit, getD-take word-bits _ (i % word-bits) false bit, getD-drop, whole)
+
+  -- so a step is read as kept just where its flag is up
+  pub up-is-flag : (i : ℕ) → i < mask-bits → bit-up (mask-words m) i ≡ getD m i false
+  unfolding bit-up
+  up-is-flag i h = rw (bit-is-flag i h) (is-one (getD m i false))
 
   -- each word fits its type
   pub word-fits : (k : ℕ) → getD (mask-words m) k 0 < 2 ^ word-bits

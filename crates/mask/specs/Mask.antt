@@ -43,6 +43,10 @@ unfoldable pub ones-of : List ℕ → ℕ
 ones-of [] = 0
 ones-of (w ∷ ws) = ones w + ones-of ws
 
+-- bit i of the words is one
+unfoldable pub bit-up : List ℕ → ℕ → Bool
+bit-up ws i = eqb (getD ws (i / word-bits) 0 / 2 ^ (i % word-bits) % 2) 1
+
 -- the words with bit i of them one
 unfoldable pub with-bit : List ℕ → ℕ → List ℕ
 with-bit ws i = set ws (i / word-bits) (bitOr (getD ws (i / word-bits) 0) (2 ^ (i % word-bits)))

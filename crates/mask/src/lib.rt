@@ -8,7 +8,7 @@ ghost use mathlib.Core.Bool.{false};
 ghost use lib.ListN.{length, getD, take, drop};
 ghost use lib.Seq.{sets};
 ghost use lib.Count.{ones as ones-in};
-ghost use Rattle.mask.specs.Mask.{word-bits, mask-bits, digit as digit-of, binary, mask-words, ones-of, with-bit, ones-at, at-places, kept-by-words};
+ghost use Rattle.mask.specs.Mask.{word-bits, mask-bits, digit as digit-of, binary, mask-words, ones-of, bit-up, with-bit, ones-at, at-places, kept-by-words};
 
 // Document 01's mask. Its words may hold any values.
 pub struct Mask {
@@ -27,6 +27,19 @@ impl Mask {
     {
         let words = self.words;
         ones(words[0]) + ones(words[1]) + ones(words[2]) + ones(words[3])
+    }
+
+    // Whether the step at index i is kept. One that the mask has no bit for is not.
+    pub fn keeps(self, i: usize) -> bool
+        ensures { λ r. ⌜ r ≡ bit-up (self .words) i ⌝ }
+    {
+        let words = self.words;
+        let k = i / Mask::BITS;
+        if k < Mask::WORDS {
+            (words[k] >> (i % Mask::BITS)) % 2 == 1
+        } else {
+            false
+        }
     }
 
     // The mask with the step at index i kept too.

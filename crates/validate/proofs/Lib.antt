@@ -1,4 +1,4 @@
--- AnswerLaws: what the program answers, by the form of its input.
+-- AnswerLaws: the check of a plan tells what the program answers to it.
 pub mod AnswerLaws
 -- AnswerTheorem: what it answers to the bytes that it reads is what is due to the whole input.
 pub mod AnswerTheorem

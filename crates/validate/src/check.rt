@@ -1,9 +1,11 @@
 // What the program answers to the bytes of its input.
+use common::access::front;
 use common::refusal::Refusal;
 use form::frame::Frame;
 use form::framing::WORDS;
 use form::framing::frame;
 use form::long::refuse_long;
+use form::parts::plan_part;
 use form::unpack::unpack;
 use plan::check::Answer;
 use plan::check::check_plan;
@@ -20,10 +22,9 @@ pub(crate) fn check_input(bytes: &[u8]) -> Answer
     let framed = frame(bytes);
     match framed {
         Frame::Broken => Answer::Refused(Refusal::Length),
-        Frame::Long { task } => Answer::Refused(refuse_long(&words[..task])),
+        Frame::Long { task } => Answer::Refused(refuse_long(front(words, task))),
         Frame::Whole { task, plan } => {
-            let start = task + 1;
-            let checked = check_plan(&words[..task], &words[start..start + plan]);
+            let checked = check_plan(front(words, task), plan_part(words, task, plan));
             checked.answer
         }
     }

@@ -3,8 +3,8 @@ use native.Mathlib.Omega.{arith}
 use mathlib.Core.Path.{sym}
 use lib.Seq.{length-take-le, take-all}
 use borrow.Author.Needs.{needs}
-use Rattle.elimination.proofs.both.front.Statement.{statement}
-use Rattle.elimination.proofs.both.front.Tie as tie
+use Rattle.common.proofs.access.front.Statement.{statement}
+use Rattle.common.proofs.access.front.Tie as tie
 
 slice-aggregate-result : tie.Need-slice-aggregate-result
 slice-aggregate-result c = sym (length-take-le _ _ (omega (arith, c .before .if1 .taken)))

@@ -1,0 +1,47 @@
+// What the program prints of an input whose plan is shortened.
+use crate::shortened::Shortened;
+use common::access::front;
+use common::access::word;
+use form::frame::Frame;
+use form::framing::WORDS;
+use form::framing::frame;
+use form::output::print_line;
+use form::output::print_one;
+use form::output::print_three;
+use form::parts::plan_part;
+use form::unpack::unpack;
+use mask::Mask;
+use tally::Tally;
+use task::layout::cost;
+
+// A line for each kept step: its position, its action and its cost.
+fn print_steps(words: &[u32], plan: &[u32], mask: Mask) {
+    let mut i = 0;
+    while i < plan.len() {
+        if mask.keeps(i) {
+            let action = word(plan, i);
+            print_three((i + 1) as u64, action as u64, cost(words, action) as u64);
+        }
+        i += 1;
+    }
+}
+
+// A line of the steps and the cost of a list.
+fn print_tally(word: &[u8], tally: Tally) {
+    print_line(word, tally.steps as u64, tally.cost as u64);
+}
+
+// Prints what is told of the plan in the bytes of the input.
+pub(crate) fn print_shortened(bytes: &[u8], shortened: Shortened, kept: Tally) {
+    let lodged = shortened.lodged;
+    let mask = shortened.mask;
+    print_tally(b"lodged", lodged);
+    print_one(b"marked", shortened.marked as u64);
+    print_tally(b"kept", kept);
+    let mut space = [0u32; WORDS];
+    unpack(bytes, &mut space);
+    let words = &space[..];
+    if let Frame::Whole { task, plan } = frame(bytes) {
+        print_steps(front(words, task), plan_part(words, task, plan), mask);
+    }
+}

@@ -1,0 +1,50 @@
+// The program that runs those of document 01's worked lists that show its limits, 10 and 11, and prints a line for each. Every one is
+// sheet P with some lamps, then lift, drain and drop.
+// sheet: the sheet and the lists. found: what the services find of a list.
+mod found;
+mod sheet;
+
+use crate::found::print_found;
+use crate::sheet::BEHIND;
+use crate::sheet::DROP_COST;
+use crate::sheet::after_lamps;
+use crate::sheet::sheet;
+use common::access::front;
+ghost use Prim.Native.Nat.{_<_, _^_};
+
+// So many lamps, where drop costs so much.
+fn run(name: &[u8], number: u64, cost: u32, lamps: usize)
+    requires { ⌜ lamps < 2 ^ 32 ⌝ }
+{
+    let words = sheet(cost);
+    let list = after_lamps(lamps);
+    print_found(name, number, &words, front(&list, lamps + BEHIND));
+}
+
+// Named by the lamps.
+fn with_lamps(lamps: usize)
+    requires { ⌜ lamps < 2 ^ 32 ⌝ }
+{
+    run(b"list 10, lamps", lamps as u64, DROP_COST, lamps);
+}
+
+// Named by all steps.
+fn with_steps(lamps: usize)
+    requires { ⌜ lamps < 2 ^ 32 ⌝ }
+{
+    run(b"list 11, steps", (lamps + BEHIND) as u64, DROP_COST, lamps);
+}
+
+// Named by the price of drop.
+fn with_price(price: u32) {
+    run(b"list 11, price", price as u64, price, 0);
+}
+
+fn main() {
+    with_lamps(19);
+    with_lamps(20);
+    with_steps(252);
+    with_steps(253);
+    with_price(1_000_000);
+    with_price(1_000_001);
+}
