@@ -50,12 +50,10 @@ fn main() -> ExitCode {
 fn run(options: &Options) -> bool {
     let seed = options.seed;
     match options.mode {
-        Mode::Bench => bench::run(),
-        Mode::Once {
-            family,
-            placement,
-            steps,
-        } => bench::once(family, placement, steps),
+        Mode::Bench => bench::run(&options.programs),
+        Mode::Instructions => bench::count_instructions(),
+        Mode::Stack => bench::measure_stack(&options.programs),
+        Mode::Once { side, plan } => bench::once(side, plan),
         Mode::SelfTest => self_test::run(seed) && try_worked(),
         Mode::One { case } => try_one(seed, case),
         Mode::All { cases } => self_test::run(seed) && try_all(options, cases),

@@ -1,7 +1,7 @@
 //! The arguments of the program.
 
-use crate::bench::LENGTHS;
-use crate::families::{Family, Placement, FAMILIES, PLACEMENTS};
+use crate::bench::{HardPlan, Side, LENGTHS, SIDES};
+use crate::families::{FAMILIES, PLACEMENTS};
 use crate::long;
 use crate::programs::Built;
 use std::collections::VecDeque;
@@ -14,8 +14,11 @@ const USAGE: &str = "usage: compare [--cases N] [--seed S] [--program PATH]...
        compare --case I [--seed S]    try the one random case with this number
        compare --self-test [--seed S] try the rules alone: on the worked lists, against each
                                       other, and against services with a fault
-       compare --bench                time the library against Rust versions
-       compare --once FAMILY PLACEMENT STEPS
+       compare --bench [--program PATH]...
+                                      time the library against Rust versions, and built programs
+       compare --instructions         count instructions of the exact reduction, by valgrind
+       compare --stack                find the least stack that the exact reduction runs in
+       compare --once SIDE FAMILY PLACEMENT STEPS
                                       run the exact reduction once on a plan that --bench has";
 
 const DEFAULT_SEED: u64 = 1;
@@ -29,22 +32,14 @@ pub struct Options {
 }
 
 pub enum Mode {
-    All {
-        cases: u64,
-    },
-    Long {
-        seconds: u64,
-    },
-    One {
-        case: u64,
-    },
+    All { cases: u64 },
+    Long { seconds: u64 },
+    One { case: u64 },
     SelfTest,
     Bench,
-    Once {
-        family: Family,
-        placement: Placement,
-        steps: usize,
-    },
+    Instructions,
+    Stack,
+    Once { side: Side, plan: HardPlan },
 }
 
 impl Options {
@@ -89,12 +84,21 @@ impl Arguments {
             },
             "--self-test" => Mode::SelfTest,
             "--bench" => Mode::Bench,
+            "--instructions" => Mode::Instructions,
+            "--stack" => Mode::Stack,
             "--once" => Mode::Once {
-                family: self.one_of(&FAMILIES, |family| family.name().to_string())?,
-                placement: self.one_of(&PLACEMENTS, |placement| placement.name().to_string())?,
-                steps: self.one_of(&LENGTHS, |steps| steps.to_string())?,
+                side: self.one_of(&SIDES, |side| side.name().to_string())?,
+                plan: self.plan()?,
             },
             _ => return Err(USAGE.to_string()),
+        })
+    }
+
+    fn plan(&mut self) -> Result<HardPlan, String> {
+        Ok(HardPlan {
+            family: self.one_of(&FAMILIES, |family| family.name().to_string())?,
+            placement: self.one_of(&PLACEMENTS, |placement| placement.name().to_string())?,
+            steps: self.one_of(&LENGTHS, |steps| steps.to_string())?,
         })
     }
 
