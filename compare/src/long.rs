@@ -20,14 +20,12 @@ pub fn run(built: &[Built], first_seed: u64, seconds: u64) -> bool {
     programs::compare(&mut comparison, built, &inputs::fixed());
     let mut rounds = 0;
     while !comparison.is_over() {
-        let seed = first_seed + rounds;
+        let seed = first_seed.wrapping_add(rounds);
         programs::compare(&mut comparison, built, &inputs::of_random_cases(seed));
         comparison.try_random(seed, 1..=CASES_OF_ROUND);
         rounds += 1;
     }
-    println!(
-        "{rounds} rounds of {CASES_OF_ROUND} cases, the last cut off; first seed {first_seed}"
-    );
+    println!("first seed {first_seed}; rounds of {CASES_OF_ROUND} cases begun: {rounds}");
     comparison.finish_all()
 }
 
