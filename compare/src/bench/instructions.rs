@@ -3,7 +3,7 @@
 
 use super::plans::{HardPlan, UNMARKED};
 use super::{table, Side, SIDES};
-use crate::families::{Family, Placement, FAMILIES};
+use crate::families::{Family, FAMILIES};
 use crate::rules;
 use std::env;
 use std::process::Command;
@@ -27,11 +27,7 @@ pub fn count() -> bool {
 }
 
 fn row(family: Family) -> Result<[String; 4], String> {
-    let plan = HardPlan {
-        family,
-        placement: Placement::Front,
-        steps: STEPS,
-    };
+    let plan = HardPlan::longest_in_front(family);
     let [library, rust] = SIDES.map(|side| instructions(side, plan));
     let (library, rust) = (library?, rust?);
     Ok([

@@ -29,6 +29,15 @@ pub struct HardPlan {
 }
 
 impl HardPlan {
+    /// As long as a plan may be, with its unmarked steps in front.
+    pub fn longest_in_front(family: Family) -> Self {
+        HardPlan {
+            family,
+            placement: Placement::Front,
+            steps: rules::MAX_STEPS,
+        }
+    }
+
     pub fn make(self) -> Made {
         let shape = Shape {
             family: self.family,

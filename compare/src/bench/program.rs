@@ -3,20 +3,26 @@
 use super::plans::HardPlan;
 use super::table;
 use super::timed::RUNS;
-use crate::families::Made;
+use crate::families::{Made, FAMILIES};
 use crate::programs::inputs::{closed, input_bytes, Input};
 use crate::programs::{printed, Built};
 use std::time::Instant;
 
-/// Prints the table, and answers whether each program printed what was due.
-pub fn run(built: &[Built], plan: HardPlan) -> bool {
+/// Prints the table, and answers whether each program printed what was due: on each family's plan
+/// with its unmarked steps in front, and on the plan that took the library longest.
+pub fn run(built: &[Built], slowest: HardPlan) -> bool {
+    println!("\nWhole programs, {RUNS} runs:\n");
+    table::print_head(&["Program", "Plan", "Best", "Median"]);
+    let plans = FAMILIES.map(HardPlan::longest_in_front).into_iter();
+    let inputs: Vec<Input> = plans.chain([slowest]).map(input_of).collect();
+    let right = |built: &&Built| inputs.iter().all(|input| print_times(built, input));
+    built.iter().filter(right).count() == built.len()
+}
+
+fn input_of(plan: HardPlan) -> Input {
     let name = plan.arguments().join(", ");
     let Made { task, plan, .. } = plan.make();
-    let input = closed(&name, input_bytes(&task.words(), &plan));
-    println!("\nWhole programs on the plan above that takes longest, {RUNS} runs:\n");
-    table::print_head(&["Program", "Plan", "Best", "Median"]);
-    let right = built.iter().filter(|built| print_times(built, &input));
-    right.count() == built.len()
+    closed(&name, input_bytes(&task.words(), &plan))
 }
 
 fn print_times(built: &Built, input: &Input) -> bool {

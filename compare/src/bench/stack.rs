@@ -42,11 +42,7 @@ pub fn measure(built: &[Built]) -> bool {
 }
 
 fn row(family: Family, built: &[Built]) -> io::Result<Vec<usize>> {
-    let plan = HardPlan {
-        family,
-        placement: Placement::Front,
-        steps: STEPS,
-    };
+    let plan = HardPlan::longest_in_front(family);
     let mut limits = Vec::new();
     for side in SIDES {
         let comparison = env::current_exe()?.into_os_string();
