@@ -1,16 +1,24 @@
 //! The arguments of the program.
 
-use crate::bench::LENGTHS;
-use crate::families::{Family, Placement, FAMILIES, PLACEMENTS};
-use std::path::PathBuf;
+use crate::bench::{HardPlan, Side, LENGTHS, SIDES};
+use crate::families::{FAMILIES, PLACEMENTS};
+use crate::long;
+use crate::programs::Built;
+use std::collections::VecDeque;
 
 const USAGE: &str = "usage: compare [--cases N] [--seed S] [--program PATH]...
                                       try N random cases, the worked lists and built programs
+       compare --long [SECONDS] [--seed S] [--program PATH]...
+                                      the same for ten minutes, or as long as said, with fresh
+                                      seeds or from this one on
        compare --case I [--seed S]    try the one random case with this number
        compare --self-test [--seed S] try the rules alone: on the worked lists, against each
                                       other, and against services with a fault
-       compare --bench                time the library against Rust versions
-       compare --once FAMILY PLACEMENT STEPS
+       compare --bench [--program PATH]...
+                                      time the library against Rust versions, and built programs
+       compare --instructions         count instructions of the exact reduction, by valgrind
+       compare --stack                find the least stack that the exact reduction runs in
+       compare --once SIDE FAMILY PLACEMENT STEPS
                                       run the exact reduction once on a plan that --bench has";
 
 const DEFAULT_SEED: u64 = 1;
@@ -20,69 +28,97 @@ const DEFAULT_CASES: u64 = 500_000;
 pub struct Options {
     pub mode: Mode,
     pub seed: u64,
-    pub programs: Vec<PathBuf>,
+    pub programs: Vec<Built>,
 }
 
 pub enum Mode {
-    All {
-        cases: u64,
-    },
-    One {
-        case: u64,
-    },
+    All { cases: u64 },
+    Long { seconds: u64 },
+    One { case: u64 },
     SelfTest,
     Bench,
-    Once {
-        family: Family,
-        placement: Placement,
-        steps: usize,
-    },
+    Instructions,
+    Stack,
+    Once { side: Side, plan: HardPlan },
 }
 
 impl Options {
-    pub fn parse(mut arguments: impl Iterator<Item = String>) -> Result<Self, String> {
-        let mut options = Options {
-            mode: Mode::All {
-                cases: DEFAULT_CASES,
-            },
-            seed: DEFAULT_SEED,
-            programs: Vec::new(),
-        };
-        while let Some(argument) = arguments.next() {
-            let mut next = || arguments.next().ok_or_else(|| USAGE.to_string());
+    pub fn parse(arguments: impl Iterator<Item = String>) -> Result<Self, String> {
+        let mut arguments = Arguments(arguments.collect());
+        let cases = DEFAULT_CASES;
+        let (mut mode, mut seed, mut programs) = (Mode::All { cases }, None, Vec::new());
+        while let Some(argument) = arguments.0.pop_front() {
             match argument.as_str() {
-                "--self-test" => options.mode = Mode::SelfTest,
-                "--bench" => options.mode = Mode::Bench,
-                "--cases" => {
-                    let cases = number(&next()?)?;
-                    options.mode = Mode::All { cases };
-                }
-                "--case" => {
-                    let case = number(&next()?)?;
-                    options.mode = Mode::One { case };
-                }
-                "--once" => {
-                    let (family, placement, steps) = (next()?, next()?, number(&next()?)?);
-                    options.mode = Mode::Once {
-                        family: found(&FAMILIES, |it| it.name() == family)?,
-                        placement: found(&PLACEMENTS, |it| it.name() == placement)?,
-                        steps: found(&LENGTHS, |&it| it as u64 == steps)?,
-                    };
-                }
-                "--seed" => options.seed = number(&next()?)?,
-                "--program" => options.programs.push(next()?.into()),
-                _ => return Err(USAGE.to_string()),
+                "--seed" => seed = Some(arguments.number()?),
+                "--program" => programs.push(Built::at(arguments.text()?.into())?),
+                _ => mode = arguments.mode(&argument)?,
             }
         }
-        Ok(options)
+        let seed = match (seed, &mode) {
+            (Some(seed), _) => seed,
+            (None, Mode::Long { .. }) => long::fresh_seed().map_err(|error| error.to_string())?,
+            (None, _) => DEFAULT_SEED,
+        };
+        Ok(Options {
+            mode,
+            seed,
+            programs,
+        })
     }
 }
 
-fn found<T: Copy>(all: &[T], is_it: impl Fn(&T) -> bool) -> Result<T, String> {
-    let found = all.iter().copied().find(is_it);
-    found.ok_or_else(|| USAGE.to_string())
-}
+/// Those that are still to be read.
+struct Arguments(VecDeque<String>);
 
-fn number(text: &str) -> Result<u64, String> {
-    text.parse().map_err(|_| USAGE.to_string())
+impl Arguments {
+    fn mode(&mut self, name: &str) -> Result<Mode, String> {
+        Ok(match name {
+            "--cases" => Mode::All {
+                cases: self.number()?,
+            },
+            "--long" => Mode::Long {
+                seconds: self.number_if_any().unwrap_or(long::DEFAULT_SECONDS),
+            },
+            "--case" => Mode::One {
+                case: self.number()?,
+            },
+            "--self-test" => Mode::SelfTest,
+            "--bench" => Mode::Bench,
+            "--instructions" => Mode::Instructions,
+            "--stack" => Mode::Stack,
+            "--once" => Mode::Once {
+                side: self.one_of(&SIDES, |side| side.name().to_string())?,
+                plan: self.plan()?,
+            },
+            _ => return Err(USAGE.to_string()),
+        })
+    }
+
+    fn plan(&mut self) -> Result<HardPlan, String> {
+        Ok(HardPlan {
+            family: self.one_of(&FAMILIES, |family| family.name().to_string())?,
+            placement: self.one_of(&PLACEMENTS, |placement| placement.name().to_string())?,
+            steps: self.one_of(&LENGTHS, |steps| steps.to_string())?,
+        })
+    }
+
+    fn text(&mut self) -> Result<String, String> {
+        self.0.pop_front().ok_or_else(|| USAGE.to_string())
+    }
+
+    fn number(&mut self) -> Result<u64, String> {
+        self.text()?.parse().map_err(|_| USAGE.to_string())
+    }
+
+    fn number_if_any(&mut self) -> Option<u64> {
+        let number = self.0.front()?.parse().ok()?;
+        self.0.pop_front();
+        Some(number)
+    }
+
+    fn one_of<T: Copy>(&mut self, all: &[T], name: impl Fn(T) -> String) -> Result<T, String> {
+        let text = self.text()?;
+        let found = all.iter().copied().find(|&it| name(it) == text);
+        found.ok_or_else(|| USAGE.to_string())
+    }
 }

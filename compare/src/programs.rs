@@ -1,11 +1,10 @@
 //! Compares what the built programs print with what the rules have them print, byte for byte.
 
-mod inputs;
+pub mod inputs;
 
-pub use inputs::input_bytes;
-
-use crate::print_count;
+use crate::comparison::Comparison;
 use crate::rules::{printed_by_shorten, printed_by_validate};
+use crate::text;
 use inputs::Input;
 use std::fs;
 use std::io::{Read, Write};
@@ -15,67 +14,112 @@ use std::sync::mpsc;
 use std::thread;
 use std::time::Duration;
 
-/// What a program prints for its input.
-type Due = fn(&[u8]) -> String;
+/// A program, what it prints for its input by the rules, and the answers that a run must show of
+/// it: 0 and its refusal numbers.
+pub struct Program {
+    pub name: &'static str,
+    pub due: fn(&[u8]) -> String,
+    pub answers: &'static [u64],
+}
+
+pub static PROGRAMS: [Program; 2] = [
+    Program {
+        name: "validate",
+        due: printed_by_validate,
+        answers: &[0, 1, 2, 3, 4, 5, 6, 7, 8, 9, 11],
+    },
+    Program {
+        name: "shorten",
+        due: printed_by_shorten,
+        answers: &[0, 1, 2, 3, 4, 5, 6, 7, 8, 9, 11, 12],
+    },
+];
 
 /// A program that takes longer is taken to wait for input that it has no need of.
 const LONGEST_WAIT: Duration = Duration::from_secs(10);
-/// The input of a difference is left here.
-const REPLAY: &str = "target/compare/input";
+/// The input of a difference is left in a file of this name with its number.
+const REPLAY: &str = "target/compare/difference-";
 
-/// Answers whether each program printed what was due to every input.
-pub fn compare(paths: &[PathBuf], seed: u64) -> bool {
-    let inputs = inputs::all(seed);
-    paths.iter().all(|path| {
-        let name = path.file_name().unwrap_or_default().to_string_lossy();
-        let Some(due) = due(&name) else {
-            println!("no rules for the program {name}");
-            return false;
-        };
-        let passed = inputs.iter().all(|input| is_as_due(path, due, input));
-        if passed {
-            let answered = |input: &&Input| !due(&input.bytes).starts_with("refused");
-            let answered = inputs.iter().filter(answered).count();
-            print_count(&format!("program: {name}, input answered"), answered);
-            print_count(
-                &format!("program: {name}, input refused"),
-                inputs.len() - answered,
-            );
-        }
-        passed
-    })
+/// A program where it was built.
+pub struct Built {
+    pub program: &'static Program,
+    pub path: PathBuf,
 }
 
-fn due(name: &str) -> Option<Due> {
-    match name {
-        "validate" => Some(printed_by_validate),
-        "shorten" => Some(printed_by_shorten),
-        _ => None,
+impl Built {
+    /// The file has the program's name.
+    pub fn at(path: PathBuf) -> Result<Self, String> {
+        let has_name = |program: &&Program| path.file_name().is_some_and(|it| it == program.name);
+        match PROGRAMS.iter().find(has_name) {
+            Some(program) => Ok(Built { program, path }),
+            None => Err(format!("no rules for the program {}", path.display())),
+        }
     }
 }
 
-fn is_as_due(path: &Path, due: Due, input: &Input) -> bool {
+/// Tries the inputs on each program.
+pub fn compare(comparison: &mut Comparison, built: &[Built], inputs: &[Input]) {
+    for built in built {
+        for input in inputs {
+            if comparison.is_over() {
+                return;
+            }
+            try_input(comparison, built, input);
+        }
+    }
+}
+
+fn try_input(comparison: &mut Comparison, built: &Built, input: &Input) {
+    let Program { name, due, .. } = built.program;
     let due = due(&input.bytes);
-    let printed = printed(path, input);
-    let is_as_due = printed.as_deref() == Ok(due.as_str());
-    if !is_as_due {
-        println!("difference: {}, {} bytes", input.name, input.bytes.len());
-        let path = path.display();
-        match input.stays_open {
-            true => println!("replay: (cat {REPLAY}; sleep 60) | {path}"),
-            false => println!("replay: {path} < {REPLAY}"),
-        }
-        let printed = printed.unwrap_or_else(|error| error);
-        println!("due:\n{due}printed:\n{printed}");
-        if let Err(error) = fs::write(REPLAY, &input.bytes) {
-            println!("{REPLAY}: {error}");
-        }
+    let printed = printed(&built.path, input);
+    comparison.count(&format!("program: {name}"), name, answer_in(&due));
+    if printed.as_deref() != Ok(due.as_str()) {
+        comparison.differ(&format!("program {name}: {}", input.name));
+        let replay = format!("{REPLAY}{}", comparison.differences);
+        print_replay(&built.path, input, &replay);
+        print_input(&input.bytes);
+        print_lines("the program prints", &printed.unwrap_or_else(|error| error));
+        print_lines("the rules have it print", &due);
     }
-    is_as_due
+}
+
+/// The number of a refusal, or 0.
+fn answer_in(due: &str) -> u64 {
+    let refusal = due.strip_prefix("refused ");
+    let number = refusal.and_then(|rest| rest.split(' ').next());
+    number.and_then(|word| word.parse().ok()).unwrap_or(0)
+}
+
+fn print_replay(path: &Path, input: &Input, replay: &str) {
+    let path = path.display();
+    match input.stays_open {
+        true => println!("# replay: (cat {replay}; sleep 60) | {path}"),
+        false => println!("# replay: {path} < {replay}"),
+    }
+    if let Err(error) = fs::write(replay, &input.bytes) {
+        println!("# {replay}: {error}");
+    }
+}
+
+fn print_input(bytes: &[u8]) {
+    let (words, rest) = bytes.as_chunks();
+    let words: Vec<u32> = words.iter().map(|&word| u32::from_le_bytes(word)).collect();
+    print!("{}", text::of_program_input(&words));
+    if !rest.is_empty() {
+        println!("# and bytes that are no word: {}", text::listed(rest));
+    }
+}
+
+fn print_lines(title: &str, lines: &str) {
+    println!("# {title}:");
+    for line in lines.lines() {
+        println!("#   {line}");
+    }
 }
 
 /// What the program prints, or what went wrong.
-fn printed(path: &Path, input: &Input) -> Result<String, String> {
+pub fn printed(path: &Path, input: &Input) -> Result<String, String> {
     let mut child = Command::new(path)
         .stdin(Stdio::piped())
         .stdout(Stdio::piped())

@@ -1,36 +1,38 @@
-//! Prints a case whose answers differ, in a form that a person can replay.
+//! Prints a case whose answers differ. All but the words of the sheet and the plan is a comment, so
+//! that the text can be fed back as it is printed.
 
 use crate::cases::{Call, Case};
 use crate::memory::{Lent, Memory};
-use crate::rules::{self, Tally};
-use std::collections::BTreeSet;
-use std::fmt::Display;
+use crate::rules::Tally;
+use crate::text::{self, listed};
 
 /// The lent slices that a service may write to, in the order that they are printed in.
 const WRITTEN: [&str; 6] = ["state", "first", "second", "part", "mask", "out"];
 
 pub fn print_difference(case: &Case, by_rules: &Memory, by_library: Option<&Memory>) {
-    println!("call: {}", described(case.call));
-    println!("words ({}):", case.words.len());
-    print_sheet(&case.words);
-    println!("plan ({}): {}", case.plan.len(), listed(&case.plan));
-    println!("lent:");
+    println!("# call: {}", described(case.call));
+    if takes_sheet(case.call) {
+        let length_and_plan = [&[case.plan.len() as u32], &case.plan[..]].concat();
+        print!("{}", text::of_input(&case.words, &length_and_plan));
+    }
+    println!("# out has: {}", out_words(case.call));
+    println!("# lent:");
     print_written(
         [&case.state, &case.first, &case.second, &case.part],
         [&case.mask, &case.out],
     );
+    if let Some(memory) = by_library {
+        println!("# the library answers, returned {}:", memory.returned);
+        print_memory(case, memory);
+    }
+    println!("# the rules answer, returned {}:", by_rules.returned);
+    print_memory(case, by_rules);
     if let Some(due) = &case.due {
-        println!("due by the way it was made, returned {}:", due.returned);
+        println!("# due by the way it was made, returned {}:", due.returned);
         print_written(
             [&due.state, &due.first, &due.second, &due.part],
             [&due.mask, &due.out],
         );
-    }
-    println!("by the rules, returned {}:", by_rules.returned);
-    print_memory(case, by_rules);
-    if let Some(memory) = by_library {
-        println!("by the library, returned {}:", memory.returned);
-        print_memory(case, memory);
     }
 }
 
@@ -48,19 +50,22 @@ fn described(call: Call) -> String {
     }
 }
 
-/// One line for the header, one for the pairs, and one for each part that the pairs tell of.
-fn print_sheet(words: &[u32]) {
-    let actions = words.get(rules::ACTIONS_WORD).copied().unwrap_or(0);
-    let pairs = rules::FIRST_ACTION_PAIR.saturating_add(actions as usize);
-    let offsets = words.iter().skip(rules::HEADER).step_by(2).take(pairs);
-    let mut breaks: BTreeSet<usize> = offsets.map(|&offset| offset as usize).collect();
-    breaks.insert(rules::HEADER);
-    breaks.insert(words.len());
-    let mut start = 0;
-    for end in breaks {
-        if start < end && end <= words.len() {
-            println!("  {}", listed(&words[start..end]));
-            start = end;
+fn takes_sheet(call: Call) -> bool {
+    !matches!(
+        call,
+        Call::TallyAdd { .. } | Call::TallyCompare { .. } | Call::KeptPart { .. }
+    )
+}
+
+/// What the words of `out` are.
+fn out_words(call: Call) -> &'static str {
+    match call {
+        Call::CheckSheet | Call::Step { .. } | Call::Marks => "refusal number, place",
+        Call::TallyAdd { .. } => "cost, steps",
+        Call::TallyCompare { .. } | Call::KeptPart { .. } => "nothing",
+        Call::Cheaper => "refusal number, place, cost and steps of both",
+        Call::CheckPlan | Call::Eliminate | Call::Greedy | Call::Exact => {
+            "refusal number, place, cost, steps"
         }
     }
 }
@@ -81,7 +86,7 @@ fn print_memory(case: &Case, memory: &Memory) {
 
 fn print_if_changed(name: &str, is_as_before: bool) {
     if !is_as_before {
-        println!("  {name} changed");
+        println!("#   {name} changed");
     }
 }
 
@@ -92,12 +97,7 @@ fn print_written(words: [&[u32]; 4], wide_words: [&[u64]; 2]) {
     let texts = words.map(listed).into_iter().chain(wide_words.map(listed));
     for (name, (length, text)) in WRITTEN.iter().zip(lengths.zip(texts)) {
         if length > 0 {
-            println!("  {name} ({length}): {text}");
+            println!("#   {name} ({length}): {text}");
         }
     }
-}
-
-fn listed<T: Display>(words: &[T]) -> String {
-    let words: Vec<String> = words.iter().map(T::to_string).collect();
-    words.join(" ")
 }

@@ -1,13 +1,15 @@
 //! Tests the comparison itself, without the library: the ways of finding the exact reduction are
-//! held to each other, and exact reductions with a fault must be found out.
+//! held to each other, exact reductions with a fault must be found out, and the text of a case must
+//! read back as its words.
 
 use crate::cases::{Call, Case};
+use crate::comparison::print_count;
 use crate::kinds;
 use crate::memory::{Memory, FAULTS};
-use crate::print_count;
-use crate::programs::input_bytes;
+use crate::programs::inputs::input_bytes;
 use crate::rules::{printed_by_shorten, Lodged};
 use crate::search;
+use crate::text;
 use crate::worked::{self, LIST_1, SHEET_P};
 
 /// All reductions of plans of at most so many steps are gone through.
@@ -15,13 +17,17 @@ const FEW_STEPS: usize = 12;
 /// The random cases that are made; those of other services are passed over.
 const CASES_FOR_WAYS: u64 = 40_000;
 const CASES_FOR_FAULTS: u64 = 4_000;
+const CASES_FOR_TEXTS: u64 = 2_000;
 
 /// What document 01 has its program print for sheet P and list 1.
 const PRINTED: &str = "lodged 6 23\nmarked 1\nkept 3 12\n4 0 5\n5 1 2\n6 2 5\n";
 
 /// Answers whether nothing failed.
 pub fn run(seed: u64) -> bool {
-    lines_are_as_documented() && ways_are_alike(seed) && faults_are_found(seed)
+    lines_are_as_documented()
+        && texts_read_back(seed)
+        && ways_are_alike(seed)
+        && faults_are_found(seed)
 }
 
 fn lines_are_as_documented() -> bool {
@@ -31,6 +37,35 @@ fn lines_are_as_documented() -> bool {
         println!("by the rules the program prints for list 1:\n{printed}");
     }
     alike
+}
+
+/// Sheets of every fault among them.
+fn texts_read_back(seed: u64) -> bool {
+    let kinds = kinds::all();
+    let reads_back = |number: &u64| {
+        let case = kinds::numbered(&kinds, seed, *number).1;
+        let length_and_plan = [&[case.plan.len() as u32], &case.plan[..]].concat();
+        let words = [&case.words[..], &length_and_plan].concat();
+        let texts = [
+            text::of_input(&case.words, &length_and_plan),
+            text::of_program_input(&words),
+        ];
+        texts.iter().all(|text| words_in(text) == words)
+    };
+    let failing = (1..=CASES_FOR_TEXTS).find(|number| !reads_back(number));
+    if let Some(number) = failing {
+        println!("the text has other words: --seed {seed} --case {number}");
+    }
+    print_count("texts that read back", CASES_FOR_TEXTS as usize);
+    failing.is_none()
+}
+
+fn words_in(text: &str) -> Vec<u32> {
+    text.lines()
+        .filter_map(|line| line.split('#').next())
+        .flat_map(str::split_whitespace)
+        .map(|word| word.parse().expect("the text has only numbers"))
+        .collect()
 }
 
 /// The cases of the exact reduction among random ones, with their numbers.

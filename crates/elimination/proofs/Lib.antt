@@ -18,3 +18,5 @@ pub mod GreedyLaws
 pub mod LeavesLaws
 -- ServiceLaws: what the service of both answers, and the part that is shown.
 pub mod ServiceLaws
+-- CheaperTheorem: the part shown of what the service of both returns is the lower list.
+pub mod CheaperTheorem

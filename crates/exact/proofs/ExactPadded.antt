@@ -15,7 +15,7 @@ use Rattle.sas.proofs.PadLaws.{pad-satisfies, pad-assign, pad-applicable}
 use Rattle.reduction.specs.Reduction.{Reduction, kept, valid}
 use Rattle.reduction.proofs.ReductionLaws.{kept-lodged}
 use Rattle.reduction.proofs.PaddedLaws.{pad-valid}
-use Rattle.exact.specs.Exact.{Exact, found, exact}
+use Rattle.exact.specs.Exact.{found, exact}
 use Rattle.exact.specs.Search.{Sound, search}
 use Rattle.exact.proofs.ExactTheorem.{found-met, found-unmet, found-done, found-stuck}
 use Rattle.exact.proofs.SearchTheorem.{search-finds}
@@ -61,13 +61,6 @@ module _
 
     left-valid : (m : Reduction) → valid (pad n s) goal (kept m p) ≡ valid s goal (kept m p)
     left-valid m = pad-valid n s (kept m p) complete rising (λ a left. formed a (kept-lodged m p left))
-
-    pub padded-exact : {m : Reduction} → Exact (pad n s) goal p m → Exact s goal p m
-    padded-exact {m} x =
-        record {
-          valid = record { fits = x .valid .fits; valid-left = sym (left-valid m) ∙ x .valid .valid-left };
-          wins = λ k v. x .wins k (record { fits = v .fits; valid-left = left-valid k ∙ v .valid-left });
-        }
 
     -- so the search from the padded state finds it too, by flags that are sound without padding
     pub pad-search : (g : Reduction) → length g ≡ length p → Sound s goal p g → search (pad n s) goal p g ≡ exact s goal p

@@ -158,8 +158,3 @@ three-stages input = by-reach (reach input)
         let after : second ≡ plan-start input = wants-start input first header (omega (arith, begins)) inside part in
         let settles : third ≡ plan-end input + 1 = wants-end input second header (omega arith) inside there (omega arith) few in
         omega (arith, wants-end input third header (omega arith) inside there (omega arith) few)
-
--- so, of every input, what is read in three stages tells the form
-pub form-in-stages : (input : List ℕ) → form (read-after 3 input) ≡ form input
-unfolding read-after
-form-in-stages input = enough form settled (wanted (read-after 2 input)) input (three-stages input)

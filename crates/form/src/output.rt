@@ -1,4 +1,4 @@
-// The lines that a program prints: a line is texts and numbers, one space before each number, and a line end.
+// The lines that a program prints: a line is texts and numbers, one space before each number that does not begin it, and a line end.
 use common::refusal::Refusal;
 use libc::STDOUT_FILENO;
 

@@ -51,13 +51,6 @@ module _ (m : Reduction) (plan : List ℕ) (few : length m ≤ mask-bits) (fits 
   unfolding kept-by-words mask-words
   mask-keeps = words-keep plan mask-length 0 m few (omega arith)
 
-  -- as `write_kept` promises of a mask's words: the list left goes over the output from its first word on, and its length is the number of kept steps
-  pub mask-writes : (words before after : List ℕ) (r : ℕ) → words ≡ mask-words m → after ≡ sets before 0 (kept-by-words words plan)
-      → r ≡ length (kept-by-words words plan) → (after ≡ sets before 0 (kept m plan)) × (r ≡ count m)
-  mask-writes words before after r told writes counts =
-      let list : kept-by-words words plan ≡ kept m plan = rw told mask-keeps in
-      (writes ∙ rw list, counts ∙ rw list (kept-length m plan fits))
-
   -- where it has room: "The kept action numbers go to the front of the lent output", and every other word is as it was
   pub front-and-rest : (before : List ℕ) → count m ≤ length before → sets before 0 (kept m plan) ≡ kept m plan ++ drop (count m) before
   front-and-rest before room =

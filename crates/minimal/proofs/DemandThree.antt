@@ -12,9 +12,9 @@ use lib.Dec.{ltb}
 use borrow.Author.Tests.{lt-ltb, le-ltb, ltb-true, ltb-false}
 use Rattle.common.specs.Refusal.{Told}
 use Rattle.common.specs.Check.{answer}
-use Rattle.common.proofs.CheckLaws.{none-fires, answer-fires, answer-passes, answer-nothing, answer-second, first-none}
+use Rattle.common.proofs.CheckLaws.{answer-fires, answer-passes, answer-nothing, answer-second, first-none}
 use Rattle.sas.specs.Plan.{Plan}
-use Rattle.reduction.specs.Reduction.{Reduction, kept, count, valid}
+use Rattle.reduction.specs.Reduction.{kept, count, valid}
 use Rattle.reduction.proofs.ValidLaws.{plan-valid}
 use Rattle.reduction.proofs.ReductionLaws.{kept-length, left-length, reduced-plan}
 use Rattle.reduction.proofs.LandmarkTheorem.{landmarks-length, flagged-just-marked, landmark-kept}
@@ -23,14 +23,14 @@ use Rattle.exact.proofs.ExactTheorem.{exact-found}
 use Rattle.mask.specs.Mask.{mask-bits}
 use Rattle.mask.proofs.MaskTheorem.{front-and-rest}
 use Rattle.task.specs.Decode.{goal, initial, action, task}
-use Rattle.task.specs.Causes.{sheet-checks, Accepted}
+use Rattle.task.specs.Causes.{sheet-checks}
 use Rattle.plan.specs.declared.check.Answer.{Answer}
 use Rattle.plan.specs.Valid.{steps}
-use Rattle.plan.specs.Checked.{list-checks, valid-checks, plan-checks, told-answer, told-tally}
+use Rattle.plan.specs.Checked.{list-checks, valid-checks, plan-checks, told-answer}
 use Rattle.plan.proofs.PlanTheorem.{Readable, plan-theorem}
-use Rattle.reduced.specs.Reduced.{room-check, reduction-checks, unless-refused}
+use Rattle.reduced.specs.Reduced.{room-check, reduction-checks}
 use Rattle.minimal.specs.Minimal.{unmarked, unmarked-check, exact-checks, exact-of, Shortens}
-use Rattle.minimal.specs.Statement.{Answered, Refused-unmarked, Demand-three-of, Demand-three}
+use Rattle.minimal.specs.Statement.{Answered, Refused-unmarked, Demand-three}
 
 module _ (w l : List ℕ) (readable : Readable w l) (plan : Plan (task w) (steps w l)) where
   valid-list : valid (initial w) (goal w) (steps w l) ≡ true

@@ -22,7 +22,7 @@ use Rattle.reduction.proofs.LandmarkTheorem.{landmarks-length}
 use Rattle.exact.specs.Search.{search}
 use Rattle.exact.proofs.SearchTheorem.{landmarks-sound}
 use Rattle.exact.proofs.ExactPadded.{pad-search}
-use Rattle.tally.specs.declared.Tally.{Tally}
+use Rattle.tally.proofs.TallyLaws.{same-tally}
 use Rattle.mask.specs.Mask.{mask-length, mask-bits, mask-words, ones-of}
 use Rattle.mask.proofs.MaskTheorem.{ones-are-kept, mask-keeps}
 use Rattle.task.specs.Limits.{limits}
@@ -117,9 +117,6 @@ module _ (limit : ℕ) (w l before : List ℕ) (v : Verdict) (checked : told v �
         rw (padded .padded)
         (pad-search (limits .variables) (initial w) (steps w l) (padded .complete) (padded .rising) (padded .formed) (marked w l)
         (landmarks-length (initial w) (goal w) (steps w l)) (landmarks-sound (initial w) (goal w) (steps w l)))
-
-    same-tally : (a b : Tally) → a .cost ≡ b .cost → a .steps ≡ b .steps → a ≡ b
-    same-tally a b p q = λ i. record { cost = p i; steps = q i }
 
     written-keeps : (m : Reduction) (k r : Kept) (after : List ℕ) → Tells w l m k → Writes l k before r after → Keeps w l m before (r .tally) (r .mask .words) after
     written-keeps m k r after tells writes =

@@ -6,7 +6,7 @@ use mathlib.Core.Bool.{true}
 use mathlib.Core.Option.{none}
 use mathlib.Core.List.{List, _∷_, _++_}
 use lib.ListN.{length}
-use borrow.Author.Tests.{lt-ltb, le-ltb}
+use borrow.Author.Tests.{ltb-false, lt-ltb, le-ltb}
 use Rattle.common.specs.declared.place.Place.{Place}
 use Rattle.common.specs.declared.place.Place.the-variants.{Nowhere, At}
 use Rattle.common.specs.declared.refusal.Refusal.{Refusal}
@@ -15,6 +15,7 @@ use Rattle.common.specs.declared.refusal.Verdict.{Verdict}
 use Rattle.common.specs.declared.refusal.Verdict.the-variants.{Passed, Refused}
 use Rattle.common.specs.Refusal.{told}
 use Rattle.common.specs.Check.{answer}
+use Rattle.common.proofs.PlaceLaws.{when-nowhere}
 use Rattle.common.proofs.CheckLaws.{none-fires, answer-fires, answer-passes, answer-nothing, answer-first, answer-second, first-none}
 use Rattle.sas.specs.Task.{State}
 use Rattle.sas.specs.Pad.{pad}
@@ -84,14 +85,23 @@ module _ (w l : List ℕ) (room : ℕ) (v : Verdict) (checked : told v ≡ answe
   pub nothing-refused : answer (reduction-checks w l room) ≡ none
   nothing-refused = sym checked ∙ ap told passed
 
-  pub plan-passes : answer (plan-checks w l) ≡ none
-  unfolding reduction-checks plan-checks
-  plan-passes =
+  passed-parts : (answer (sheet-checks w) ≡ none) × (answer (list-checks w l) ≡ none) × (answer (room-check l room ∷ valid-checks w l) ≡ none)
+  unfolding reduction-checks
+  passed-parts =
       let accepted : Accepted w = first-none (sheet-checks w) (list-checks w l ++ (room-check l room ∷ valid-checks w l)) _ nothing-refused refl in
       let behind : answer (list-checks w l ++ (room-check l room ∷ valid-checks w l)) ≡ none = sym (answer-second (sheet-checks w) _ accepted) ∙ nothing-refused in
       let listed : answer (list-checks w l) ≡ none = first-none (list-checks w l) (room-check l room ∷ valid-checks w l) _ behind refl in
-      let last : answer (room-check l room ∷ valid-checks w l) ≡ none = sym (answer-second (list-checks w l) _ listed) ∙ behind in
+      (accepted, listed, sym (answer-second (list-checks w l) _ listed) ∙ behind)
+
+  pub plan-passes : answer (plan-checks w l) ≡ none
+  unfolding plan-checks
+  plan-passes =
+      let (accepted, listed, last) = passed-parts in
       answer-second (sheet-checks w) (list-checks w l ++ valid-checks w l) accepted ∙ answer-second (list-checks w l) (valid-checks w l) listed ∙ none-fires _ _ last .1
+
+  -- the output has room for the list
+  pub roomy : length l ≤ room
+  roomy = ltb-false room (length l) (when-nowhere _ (length l) (none-fires _ _ (passed-parts .2) .0))
 
   pub readable : Readable w l
   readable = passed-readable w l plan-passes

@@ -2,7 +2,7 @@
 pub mod HeldLaws
 -- TalliedLaws: the tally of a reduction, step by step and plainly.
 pub mod TalliedLaws
--- LowerLaws: of two reductions the one with the lower tally leaves the lower list.
+-- LowerLaws: the lower of two tallies, in numbers, and flags past the end of a plan.
 pub mod LowerLaws
 -- ChecksLaws: what the checks of a service answer, and what holds of a list that passes.
 pub mod ChecksLaws

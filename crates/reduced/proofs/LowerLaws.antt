@@ -1,21 +1,16 @@
--- Of two reductions the one with the lower tally leaves the lower list. Assumes nothing.
+-- The lower of two tallies, in numbers, by the cases of their comparison; and that flags past the end of a plan keep nothing. Assumes nothing.
 use Prim.Native.Nat.{ℕ}
 use native.Mathlib.Omega.{arith}
 use mathlib.Core.Path.{_≡_, refl, ap}
 use mathlib.Core.Bool.{Bool, true, false, cond, _&&_, _||_, and-false}
 use mathlib.Core.List.{List, [], _∷_}
-use lib.ListN.{length, take, length-map}
+use lib.ListN.{length, take}
 use lib.Dec.{ltb, eqb}
 use borrow.Author.Tests.{ltb-true, ltb-false, eq-eqb, ne-eqb}
 use Rattle.tally.specs.declared.Order.the-variants.{Less, Equal, Greater}
 use Rattle.tally.specs.Tally.{comparison}
-use Rattle.task.specs.Decode.{action}
-use Rattle.plan.specs.Valid.{steps}
-use Rattle.plan.proofs.PlanTheorem.{Readable}
-use Rattle.reduction.specs.Reduction.{Reduction, kept, lower}
-use Rattle.reduced.specs.Held.{mask}
-use Rattle.reduced.specs.Tallied.{tallied, is-less}
-use Rattle.reduced.proofs.TalliedLaws.{kept-steps, plainly}
+use Rattle.reduction.specs.Reduction.{Reduction, kept}
+use Rattle.reduced.specs.Tallied.{is-less}
 
 -- the lower tally is that of the lower price, then of the fewer steps
 pub less-lower : (a x b y : ℕ) → is-less (comparison (record { cost = a; steps = x }) (record { cost = b; steps = y })) ≡ (ltb a b || (eqb a b && ltb x y))
@@ -37,18 +32,3 @@ kept-mask m [] = refl
 kept-mask [] (a ∷ p) = refl
 kept-mask (true ∷ m) (a ∷ p) = ap (λ q. a ∷ q) (kept-mask m p)
 kept-mask (false ∷ m) (a ∷ p) = kept-mask m p
-
-pub tallied-mask : (w l : List ℕ) (m : Reduction) → tallied w l m ≡ tallied w l (mask l m)
-unfolding tallied
-tallied-mask w l m = rw (kept-mask m l)
-
-steps-count : (w l : List ℕ) (m : Reduction) → length (kept m (steps w l)) ≡ length (kept m l)
-steps-count w l m = rw (kept-steps w l m) (length-map (kept m l) (action w))
-
--- of two reductions the one with the lower tally leaves the lower list
-pub tally-lower : (w l : List ℕ) (k m : Reduction) → Readable w l → length k ≡ length l → length m ≡ length l
-    → is-less (comparison (tallied w l k) (tallied w l m)) ≡ lower (kept k (steps w l)) (kept m (steps w l))
-unfolding lower
-tally-lower w l k m readable fits-k fits-m =
-    rw (plainly w l k readable fits-k, plainly w l m readable fits-m, less-lower)
-    (rw (steps-count w l k, steps-count w l m))

@@ -1,14 +1,13 @@
 -- What a reduction leaves, reductions of reductions, and that a strike raises neither the number of steps nor the cost. By one walk along the
 -- reductions; where a Boolean is missing its step counts as struck, so that few laws ask for the length. Assumes nothing.
-use Prim.Native.Nat.{ℕ, zero, suc, _≤_, _<_}
+use Prim.Native.Nat.{ℕ, zero, suc, _≤_}
 use native.Mathlib.Omega.{arith}
 use mathlib.Core.Path.{_≡_, refl, sym, _∙_, ap}
-use mathlib.Core.Bool.{Bool, true, false, true≢false, false≢true}
+use mathlib.Core.Bool.{Bool, true, false, false≢true}
 use mathlib.Core.List.{List, [], _∷_, List·Memᴰ, List·Memᴰ·head, List·Memᴰ·tail, List·Memᴰ·not-nil}
-use lib.ListN.{length, getD, set, getD-replicate, List·getD-eq-default}
-use lib.Seq.{getD-set-other}
-use lib.Dec.{ltb, eqb}
-use borrow.Author.Tests.{ltb-true, ltb-false, eqb-true, eqb-false}
+use lib.ListN.{length, set, getD-replicate, List·getD-eq-default}
+use lib.Dec.{ltb}
+use borrow.Author.Tests.{ltb-true, ltb-false}
 use Rattle.sas.specs.Task.{Assignment, State, Action, Task}
 use Rattle.sas.specs.Plan.{cost, Plan}
 use Rattle.reduction.specs.Reduction.{Reduction, keeps, kept, count, whole, Valid-reduction}
@@ -102,18 +101,6 @@ struck-count (true ∷ m) zero k = refl
 struck-count (false ∷ m) zero k = absurd (false≢true k)
 struck-count (true ∷ m) (suc i) k = ap suc (struck-count m i k)
 struck-count (false ∷ m) (suc i) k = struck-count m i k
-
--- a reduction without step i is one of the reduction in which that step is struck
-pub contains-without : (m n : Reduction) (i : ℕ) → Contains m n → getD n i false ≡ false → Contains (set m i false) n
-contains-without m n i h struck j k = by-case (eqb j i) refl
-  where
-    by-case : (b : Bool) → eqb j i ≡ b → keeps (set m i false) j
-    by-case true e = absurd (true≢false (sym k ∙ rw (← eqb-true j i e) at struck))
-    by-case false e = getD-set-other m i j false false (eqb-false j i e) ∙ h j k
-
--- so a strike that strikes a kept step lowers it
-pub strict-strike-count : (m n : Reduction) (i : ℕ) → Contains m n → keeps m i → getD n i false ≡ false → count n < count m
-strict-strike-count m n i h k struck = omega (arith, strike-count (set m i false) n (contains-without m n i h struck), struck-count m i k)
 
 -- nor does it raise the cost
 pub strike-cost : (m n : Reduction) (p : List Action) → Contains m n → cost (kept n p) ≤ cost (kept m p)

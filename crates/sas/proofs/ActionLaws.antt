@@ -1,20 +1,15 @@
 -- What theorems about plans use of an action, and all that they use: the facts that it may write and those that it needs, and what holds between a
 -- state and its result. For another kind of action these laws are proved again, with those of domains and of padding, which look into its effect too.
 -- That the facts of a satisfied goal hold is `satisfied-holds`. By the laws of `assign`. Assumes nothing.
-use Prim.Native.Nat.{ℕ}
-use native.Mathlib.Omega.{arith}
-use mathlib.Core.Path.{_≡_, refl, sym, _∙_, ap}
-use mathlib.Core.Logic.{_⊎_, ⊎-elim, _≢_}
+use mathlib.Core.Path.{_≡_, refl, sym, _∙_}
+use mathlib.Core.Logic.{_⊎_, ⊎-elim}
 use mathlib.Core.Bool.{Bool, true, false, true≢false}
 use mathlib.Core.Option.{none, some, Option·some-ne-none}
-use mathlib.Core.List.{List, List·Memᴰ}
-use lib.ListN.{length, getD}
+use mathlib.Core.List.{List·Memᴰ}
 use Rattle.sas.specs.Task.{Fact, State, Action}
 use Rattle.sas.specs.Plan.{holds, applicable, apply, result}
-use Rattle.sas.specs.WellFormed.{Action-formed}
 use Rattle.sas.proofs.FactLaws.{satisfied-holds}
-use Rattle.sas.proofs.WellFormedLaws.{rising-known}
-use Rattle.sas.proofs.AssignLaws.{assign-length, assigned-or-held, assign-other, assigned-holds}
+use Rattle.sas.proofs.AssignLaws.{assigned-or-held}
 
 -- a fact that an action may make true: one of its effect
 abbrev pub may-write : Action → Fact → Type 0
@@ -58,9 +53,6 @@ unfolding applicable
 needed-holds s a h m = satisfied-holds s h m
 
 module _ {t : State} (s : State) (a : Action) (applied : result s a ≡ some t) where
-  pub result-length : length t ≡ length s
-  result-length = ap length (result-assigned s a applied) ∙ assign-length s (a .effect)
-
   pub written-or-held : (f : Fact) → holds t f ≡ true → may-write a f ⊎ (holds s f ≡ true)
   written-or-held f h = assigned-or-held s (a .effect) f (rw (result-assigned s a applied) at h)
 
@@ -71,11 +63,3 @@ module _ {t : State} (s : State) (a : Action) (applied : result s a ≡ some t) 
       by-case : (b : Bool) → holds t f ≡ b → holds t f ≡ false
       by-case true e = absurd (⊎-elim unwritten (λ held. true≢false (sym held ∙ h)) (written-or-held f e))
       by-case false e = e
-
-  -- a variable of no fact that an action may write keeps its value
-  pub variable-kept : (v : ℕ) → ((f : Fact) → may-write a f → f .variable ≢ v) → getD t v 0 ≡ getD s v 0
-  variable-kept v unwritten = ap (λ x. getD x v 0) (result-assigned s a applied) ∙ assign-other s (a .effect) v unwritten
-
-  -- each fact that an action over the domains writes holds in the result
-  pub written-holds : {domains : List ℕ} {f : Fact} → Action-formed domains a → length s ≡ length domains → may-write a f → holds t f ≡ true
-  written-holds formed complete m = rw (result-assigned s a applied) (assigned-holds s (formed .effect) m (omega (arith, rising-known (formed .effect) m .variable)))

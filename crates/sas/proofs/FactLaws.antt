@@ -62,8 +62,3 @@ satisfies-rest s f q h = sym (satisfies-more s f q (satisfies-first s f q h)) �
 pub satisfied-holds : {f : Fact} {q : Assignment} (s : State) → satisfies s q ≡ true → List·Memᴰ f q → holds s f ≡ true
 satisfied-holds s h (List·Memᴰ·head {x = g} {xs = q} e) = rw e (satisfies-first s g q h)
 satisfied-holds s h (List·Memᴰ·tail {x = g} {xs = q} m) = satisfied-holds s (satisfies-rest s g q h) m
-
--- an assignment each fact of which holds is satisfied
-pub holding-satisfies : (s : State) (q : Assignment) → ((f : Fact) → List·Memᴰ f q → holds s f ≡ true) → satisfies s q ≡ true
-holding-satisfies s [] h = satisfies-nothing s
-holding-satisfies s (g ∷ q) h = satisfies-more s g q (h g (List·Memᴰ·head refl)) ∙ holding-satisfies s q (λ f m. h f (List·Memᴰ·tail m))

@@ -1,24 +1,16 @@
 -- A sequence of actions that reaches no state is stuck at just one position, and one that is stuck reaches none: the position is that of the first
 -- action that is not applicable where the ones before it lead, found by one walk along the sequence. Assumes nothing.
-use Prim.Native.Nat.{ℕ, suc, _+_, _≤_}
+use Prim.Native.Nat.{ℕ, suc, _+_}
 use native.Mathlib.Omega.{arith}
 use mathlib.Core.Path.{_≡_, refl, sym, _∙_, ap}
 use mathlib.Core.Bool.{false}
 use mathlib.Core.Option.{Option, none, some, Option·some-ne-none}
 use mathlib.Core.List.{List, [], _∷_, _++_}
-use lib.ListN.{length, length-append}
+use lib.ListN.{length}
 use Rattle.sas.specs.Task.{State, Action}
 use Rattle.sas.specs.Plan.{applicable, result, run, Stuck}
 use Rattle.sas.proofs.ActionLaws.{result-stuck, no-result-inapplicable}
-use Rattle.sas.proofs.RunLaws.{run-nothing, run-end, run-result, run-stuck, run-first, run-append}
-
-pub stuck-reaches-none : {s : State} {p : List Action} {i : ℕ} → Stuck s p i → run s p ≡ none
-stuck-reaches-none {s} k =
-    rw (k .parts, run-append s (k .before) (k .earlier) (k .here ∷ k .later) (k .reached)) (run-stuck (k .before) (k .here) (k .later) (k .not-applicable))
-
--- the position is one of the sequence's
-pub stuck-within : {s : State} {p : List Action} {i : ℕ} → Stuck s p i → (1 ≤ i) × (i ≤ length p)
-stuck-within k = rw (k .parts, k .position) (simp length-append (omega arith))
+use Rattle.sas.proofs.RunLaws.{run-nothing, run-end, run-result, run-first}
 
 -- the position of the first action that has no result where those before it lead, and past the end if there is none
 position : State → List Action → ℕ

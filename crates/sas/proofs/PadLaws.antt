@@ -4,7 +4,7 @@ use Prim.Native.Nat.{ℕ, _-_, _<_}
 use native.Mathlib.Omega.{arith}
 use mathlib.Core.Path.{_≡_, refl, sym, _∙_, ap}
 use mathlib.Core.Bool.{Bool, true, false}
-use mathlib.Core.Option.{none, some, Option·map}
+use mathlib.Core.Option.{Option·map}
 use mathlib.Core.List.{List, [], _∷_, _++_, List·Memᴰ·head, List·Memᴰ·tail}
 use lib.ListN.{length, set, replicate, length-append, length-set, List·getD-append}
 use lib.Seq.{set-append-left}
@@ -71,10 +71,3 @@ pad-run n s (a ∷ p) complete formed = by-case (pad-run n after p (assign-lengt
     by-case : run (pad n after) p ≡ Option·map (pad n) (run after p) → (b : Bool) → applicable s a ≡ b → run (pad n s) (a ∷ p) ≡ Option·map (pad n) (run s (a ∷ p))
     by-case more true e = rw (run-applied s a p e, run-applied (pad n s) a p (padded ∙ e), padded-after) more
     by-case more false e = rw (run-stuck s a p e) (run-stuck (pad n s) a p (padded ∙ e))
-
-module _ {domains : List ℕ} (n : ℕ) (s : State) (p : List Action) (complete : length s ≡ length domains) (formed : Actions-formed domains p) where
-  pub pad-reached : {t : State} → run s p ≡ some t → run (pad n s) p ≡ some (pad n t)
-  pad-reached h = pad-run n s p complete formed ∙ ap (Option·map (pad n)) h
-
-  pub pad-stuck : run s p ≡ none → run (pad n s) p ≡ none
-  pad-stuck h = pad-run n s p complete formed ∙ ap (Option·map (pad n)) h

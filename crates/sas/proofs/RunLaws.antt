@@ -1,13 +1,12 @@
 -- What a sequence of actions does, by the cases of its first action and over two sequences joined; and in a well-formed task it never leaves the
 -- domains, by list induction. Assumes nothing.
-use Prim.Native.Nat.{ℕ, _+_}
-use native.Mathlib.Omega.{arith}
+use Prim.Native.Nat.{ℕ}
 use mathlib.Core.Path.{_≡_, refl, sym, _∙_, ap}
 use mathlib.Core.Bool.{true, false}
 use mathlib.Core.Option.{Option, none, some, Option·some-ne-none}
 use mathlib.Core.List.{List, [], _∷_, _++_, List·Memᴰ, List·Memᴰ·head, List·Memᴰ·tail}
 use Rattle.sas.specs.Task.{State, Action, Task}
-use Rattle.sas.specs.Plan.{applicable, apply, result, run, cost}
+use Rattle.sas.specs.Plan.{applicable, apply, result, run}
 use Rattle.sas.specs.WellFormed.{Within, Action-formed, Well-formed}
 use Rattle.sas.proofs.WellFormedLaws.{Actions-formed, assign-within}
 use Rattle.sas.proofs.ActionLaws.{result-applied, result-stuck, result-assigned}
@@ -46,19 +45,6 @@ run-first {u} s a p h = by-case (result s a) refl
 pub run-append : (s t : State) (p q : List Action) → run s p ≡ some t → run s (p ++ q) ≡ run t q
 run-append s t [] q h = ap (λ x. run x q) (run-end s t h)
 run-append s t (a ∷ p) q h = let (u, first, rest) = run-first s a p h in run-result s u a (p ++ q) first ∙ run-append u t p q rest
-
-pub run-append-none : (s : State) (p q : List Action) → run s p ≡ none → run s (p ++ q) ≡ none
-run-append-none s [] q h = absurd (Option·some-ne-none s (sym (run-nothing s) ∙ h))
-run-append-none s (a ∷ p) q h = by-case (λ u. run-append-none u p q) (result s a) refl
-  where
-    by-case : ((u : State) → run u p ≡ none → run u (p ++ q) ≡ none) → (r : Option State) → result s a ≡ r → run s (a ∷ (p ++ q)) ≡ none
-    by-case below none e = run-no-result s a (p ++ q) e
-    by-case below (some u) e = run-result s u a (p ++ q) e ∙ below u (sym (run-result s u a p e) ∙ h)
-
-pub cost-append : (p q : List Action) → cost (p ++ q) ≡ cost p + cost q
-unfolding cost
-cost-append [] q = omega arith
-cost-append (a ∷ p) q = omega (arith, cost-append p q)
 
 -- an action over the domains keeps a state within them
 pub result-within : {domains : List ℕ} {s t : State} (a : Action) → Action-formed domains a → Within domains s → result s a ≡ some t → Within domains t

@@ -1,36 +1,32 @@
--- A reduction told by its tally and its mask, with one step more: the tally never meets its bounds, since no list left is longer or dearer than they are;
+-- A reduction told by its tally and its mask, with one step more: the tally never meets its bounds, as that of no list left does;
 -- and the lower of two tallies is that of the lower list left. What the code calls is a variable here, with what is known of it as a premise. Assumes nothing.
-use Prim.Native.Nat.{ℕ, zero, suc, _+_, _*_, _≤_, _<_}
-use native.Mathlib.Nat.{suc-mul}
+use Prim.Native.Nat.{ℕ, zero, suc, _+_, _<_}
 use native.Mathlib.Omega.{arith}
 use mathlib.Core.Path.{_≡_, refl, sym, _∙_, ap}
 use mathlib.Core.Bool.{Bool, true, false, true≢false}
-use mathlib.Core.List.{List, [], _∷_, List·Memᴰ, List·Memᴰ·head, List·Memᴰ·tail}
+use mathlib.Core.List.{List, [], _∷_}
 use lib.ListN.{length, getD, set, length-set, length-map}
 use lib.Seq.{set-getD}
 use Rattle.sas.specs.Task.{Action}
 use Rattle.sas.specs.Plan.{cost}
 use Rattle.reduction.specs.Reduction.{Reduction, kept, count, lower}
 use Rattle.reduction.specs.Landmark.{step}
-use Rattle.reduction.proofs.ReductionLaws.{kept-length, kept-lodged, left-length}
+use Rattle.reduction.proofs.ReductionLaws.{kept-length}
 use Rattle.tally.specs.declared.Tally.{Tally}
 use Rattle.tally.specs.declared.Order.{Order}
 use Rattle.tally.specs.declared.Order.the-variants.{Less, Equal, Greater}
-use Rattle.tally.specs.Tally.{bounds, one-more, comparison}
-use Rattle.tally.proofs.TallyLaws.{counted}
+use Rattle.tally.specs.Tally.{one-more, comparison}
+use Rattle.tally.proofs.TallyLaws.{counted, same-tally}
 use Rattle.mask.specs.Mask.{mask-words, with-bit}
 use Rattle.mask.proofs.BitLaws.{with-kept}
-use Rattle.task.specs.Limits.{limits}
 use Rattle.task.specs.Layout.{cost-word}
 use Rattle.task.specs.Decode.{action}
-use Rattle.task.proofs.Accepted.{cost-limit}
 use Rattle.plan.specs.Valid.{steps}
-use Rattle.plan.proofs.PlanLaws.{steps-known}
 use Rattle.plan.proofs.PlanTheorem.{Readable}
 use Rattle.reduced.specs.declared.finish.Kept.{Kept}
 use Rattle.reduced.specs.Reduced.{tally-left}
 use Rattle.reduced.specs.Tallied.{is-less, tallied}
-use Rattle.reduced.proofs.TalliedLaws.{plainly}
+use Rattle.reduced.proofs.TalliedLaws.{plainly, left-bounded}
 use Rattle.reduced.proofs.LowerLaws.{less-lower}
 use Rattle.search.specs.Told.{Tells, Keeps-step}
 
@@ -44,15 +40,6 @@ module _ (t u : Tally) (o : Order) (compared : o ≡ comparison t u) where
 
   pub greater : o ≡ Greater → false ≡ is-less (comparison t u)
   greater e = ap is-less (sym e ∙ compared)
-
--- what a list of steps that cost at most `most` each costs
-cost-bound : (most : ℕ) (p : List Action) → ((a : Action) → List·Memᴰ a p → a .cost ≤ most) → cost p ≤ length p * most
-unfolding cost
-cost-bound most [] each = omega arith
-cost-bound most (a ∷ p) each =
-    let here : a .cost ≤ most = each a (List·Memᴰ·head refl) in
-    let rest : cost p ≤ length p * most = cost-bound most p (λ b m. each b (List·Memᴰ·tail m)) in
-    rw suc-mul (omega arith)
 
 -- to keep one step more adds it
 more-cost : (m : Reduction) (p : List Action) (i : ℕ) → length m ≡ length p → i < length p → getD m i false ≡ false
@@ -86,19 +73,6 @@ module _ (w l : List ℕ) (m : Reduction) (readable : Readable w l) (fits : leng
   kept-count : length (kept m (steps w l)) ≡ count m
   kept-count = kept-length m (steps w l) all-fit
 
-  -- no list left is longer than a tally counts, and none is dearer
-  steps-bound : count m ≤ bounds .steps
-  steps-bound = omega (arith, kept-count, left-length m (steps w l) all-fit, length-map l (action w), readable .few)
-
-  cost-bounded : cost (kept m (steps w l)) ≤ bounds .cost
-  cost-bounded =
-      let each : (a : Action) → List·Memᴰ a (kept m (steps w l)) → a .cost ≤ limits .cost =
-      λ a left. cost-limit w (readable .accepted) (steps-known w l (readable .accepted) (readable .known) a (kept-lodged m (steps w l) left)) in
-      omega (arith, cost-bound (limits .cost) (kept m (steps w l)) each, kept-count, steps-bound)
-
-same-tally : (a b : Tally) → a .cost ≡ b .cost → a .steps ≡ b .steps → a ≡ b
-same-tally a b p q = λ i. record { cost = p i; steps = q i }
-
 -- the tally with one step more
 tally-more : (w l : List ℕ) (m : Reduction) (i c : ℕ) → Readable w l → length m ≡ length l → i < length l → getD m i false ≡ false → c ≡ cost-word w (getD l i 0)
     → one-more (tally-left w l m) c ≡ tally-left w l (set m i true)
@@ -107,9 +81,8 @@ tally-more w l m i c readable fits h down price =
     let dearer : cost (kept (set m i true) (steps w l)) ≡ cost (kept m (steps w l)) + c =
     more-cost m (steps w l) i (fits ∙ sym (length-map l (action w))) (rw length-map h) down ∙ rw (step-cost w l i h, price) in
     let longer : count (set m i true) ≡ count m + 1 = more-count m i (omega arith) down in
-    let few : count (set m i true) ≤ bounds .steps = steps-bound w l (set m i true) readable long in
-    let cheap : cost (kept (set m i true) (steps w l)) ≤ bounds .cost = cost-bounded w l (set m i true) readable long in
-    counted (tally-left w l m) c (omega arith) (omega arith) ∙ same-tally _ _ (omega arith) (omega arith)
+    let (cheap, few) = left-bounded w l (set m i true) readable long in
+    counted (tally-left w l m) c (omega (arith, kept-count w l (set m i true) readable long)) (omega arith) ∙ same-tally _ _ (omega arith) (omega arith)
 
 module _ (w l : List ℕ) (g : Reduction) (i : ℕ) (k : Kept) (up : Bool) (read : up ≡ getD g i false) where
   -- a flagged step is kept already

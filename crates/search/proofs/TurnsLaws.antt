@@ -3,7 +3,7 @@
 use Prim.Native.Nat.{ℕ, _+_, _≤_, _<_}
 use native.Mathlib.Nat.{add-zero}
 use native.Mathlib.Omega.{arith}
-use mathlib.Core.Path.{_≡_, refl, sym, _∙_, ap}
+use mathlib.Core.Path.{_≡_, sym, _∙_, ap}
 use mathlib.Core.Bool.{Bool, true, false}
 use mathlib.Core.List.{List, [], _∷_}
 use lib.ListN.{length, getD, set, drop, drop-of-length-le}
@@ -11,7 +11,7 @@ use lib.Seq.{getD-drop, drop-drop, drop-set-lt}
 use Rattle.sas.specs.Task.{State, Action}
 use Rattle.sas.specs.Plan.{satisfies, applicable, apply}
 use Rattle.reduction.specs.Reduction.{Reduction, kept, lower}
-use Rattle.exact.specs.Search.{Turn, may-strike, turn}
+use Rattle.exact.specs.Search.{may-strike}
 use Rattle.exact.specs.Search.Turn.{strike, keep}
 use Rattle.exact.proofs.TurnLaws.{strike-met, strike-unmet, strike-not-lower, keep-end, strike-barred, strike-goes-on, keep-stuck, keep-not-lower, keep-goes-on}
 use Rattle.tally.specs.Tally.{comparison}

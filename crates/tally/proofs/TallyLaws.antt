@@ -37,7 +37,8 @@ total-bound most (c ∷ costs) each =
     let rest : total costs ≤ length costs * most = total-bound most costs (λ d m. each d (List·Memᴰ·tail m)) in
     rw suc-mul (omega arith)
 
-same-tally : (a b : Tally) → a .cost ≡ b .cost → a .steps ≡ b .steps → a ≡ b
+-- a tally is its cost and its steps
+pub same-tally : (a b : Tally) → a .cost ≡ b .cost → a .steps ≡ b .steps → a ≡ b
 same-tally a b p q = λ i. record { cost = p i; steps = q i }
 
 counts : (t : Tally) (costs : List ℕ) → t .steps + length costs ≤ bounds .steps → t .cost + total costs ≤ bounds .cost

@@ -3,17 +3,17 @@
 use Prim.Native.Nat.{ℕ, _+_, _≤_}
 use native.Mathlib.Omega.{arith}
 use mathlib.Core.Path.{_≡_, sym, _∙_, ap, subst}
-use mathlib.Core.List.{List, [], _++_, append-nil}
+use mathlib.Core.List.{List, [], _++_}
 use lib.ListN.{length, take}
 use lib.Seq.{length-take-le}
 use Rattle.text.specs.declared.input.Turn.{Turn}
 use Rattle.text.specs.declared.input.Turn.the-variants as turn
 use Rattle.text.specs.declared.reader.Reader.{Reader}
 use Rattle.text.specs.declared.reader.Outcome.{Outcome}
-use Rattle.text.specs.Text.{words-of}
-use Rattle.text.specs.Reading.{still, Reads, Starts, told}
+use Rattle.text.specs.Text.{words-of, told}
+use Rattle.text.specs.Reading.{still, Reads, Starts}
 use Rattle.text.specs.Input.{chunk, Read-on, Turns, Of-text}
-use Rattle.text.proofs.ReaderLaws.{reads-both}
+use Rattle.text.proofs.ReaderLaws.{reads-both, reads-whole}
 
 module _ (s r : Reader) (ws₀ ws ws′ : List ℕ) (t : Turn) (turns : Turns r ws t ws′) (read : (text : List ℕ) × Reads s ws₀ text r ws) where
   read-on : (r′ : Reader) → t ≡ turn.More r′ → Read-on r ws r′ ws′
@@ -31,12 +31,7 @@ module _ (s r : Reader) (ws₀ ws ws′ : List ℕ) (t : Turn) (turns : Turns r 
       let unchanged : ws′ ≡ ws = subst (λ x. Turns r ws x ws′) is turns in
       record {
         text = text;
-        meant = ends
-            ∙ ap (λ l. still r l []) unchanged
-            ∙ read .1 .same []
-            ∙ starts .whole ws₀ (text ++ [])
-            ∙ ap (words-of (length ws₀)) (append-nil text)
-            ∙ ap (λ n. words-of n text) (sym long);
+        meant = reads-whole s r ws₀ ws text (told o ws″) starts (read .1) (ends ∙ ap (λ l. still r l []) unchanged) ∙ ap (λ n. words-of n text) (sym long);
       }
 
 -- the part of a chunk that a call filled

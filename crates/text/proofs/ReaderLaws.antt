@@ -291,3 +291,7 @@ module _ (v n k : ℕ) (ws ws′ : List ℕ) (room : Bool) (stores : Stores ws k
 pub starts : Starts (at-blank 1 0)
 unfolding still words-of behind
 starts = record { whole = λ ws text. ap (λ m. read m (after-blank 1 text)) (sub-zero (length ws)); line = refl }
+
+-- from its beginning to its end a reader reads what a text means
+pub reads-whole : (s r : Reader) (ws ws′ text : List ℕ) (found : Reading) → Starts s → Reads s ws text r ws′ → found ≡ still r ws′ [] → found ≡ words-of (length ws) text
+reads-whole s r ws ws′ text found starts reads ends = ends ∙ reads .same [] ∙ starts .whole ws (text ++ []) ∙ ap (words-of (length ws)) (append-nil text)

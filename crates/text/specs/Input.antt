@@ -9,8 +9,8 @@ use Rattle.text.specs.declared.input.Found.the-variants as found
 use Rattle.text.specs.declared.input.Turn.{Turn}
 use Rattle.text.specs.declared.input.Turn.the-variants as turn
 use Rattle.text.specs.declared.reader.Reader.{Reader}
-use Rattle.text.specs.Text.{Reading, words-of}
-use Rattle.text.specs.Reading.{Reads, told}
+use Rattle.text.specs.Text.{Reading, words-of, told}
+use Rattle.text.specs.Reading.{Reads}
 
 -- the most words of a text, one more than input that is whole has
 abbrev pub most : ℕ

@@ -1,5 +1,5 @@
--- A text that is read up to some byte: what the rest of it means to a reader that stands there. Only contracts between the steps of the reading cite this
--- file, so it need not be believed. Assumes nothing.
+-- A text that is read up to some byte: what the rest of it means to a reader that stands there. Only the contracts of the reading's steps
+-- cite this file, so it need not be believed. Assumes nothing.
 use Prim.Native.Nat.{ℕ, zero, suc, _+_, _-_, _^_, _≤_, _<_}
 use mathlib.Core.Path.{_≡_}
 use mathlib.Core.Bool.{Bool, _||_}
@@ -9,9 +9,7 @@ use lib.ListN.{length, take, set}
 use lib.Dec.{ltb}
 use Rattle.text.specs.declared.reader.Mode.the-variants as mode
 use Rattle.text.specs.declared.reader.Reader.{Reader}
-use Rattle.text.specs.declared.reader.Outcome.{Outcome}
-use Rattle.text.specs.declared.reader.Outcome.the-variants as outcome
-use Rattle.text.specs.Text.{ends-line, begins-comment, blank, runs, cut, filled, uncommented, Field, on-line, fields-from, word-from, Reading, Words, NoWord, NoRoom, before, read, words-of}
+use Rattle.text.specs.Text.{ends-line, begins-comment, blank, runs, cut, filled, uncommented, Field, on-line, fields-from, word-from, Reading, NoWord, NoRoom, before, read, words-of}
 
 -- whether a field is over before a byte
 abbrev pub ends-field : ℕ → Bool
@@ -75,9 +73,3 @@ pub record Stores (ws : List ℕ) (k v : ℕ) (is : Bool) (ws′ : List ℕ) : T
   pub room : is ≡ ltb k (length ws)
   pub stored : ws′ ≡ set ws k v
   pub small : v < 2 ^ 32
-
--- what an outcome tells, with the words stored at the front of ws
-abbrev pub told : Outcome → List ℕ → Reading
-told (outcome.Words n) ws = Words (take n ws)
-told (outcome.NoWord n) ws = NoWord n
-told (outcome.NoRoom n) ws = NoRoom n

@@ -3,7 +3,10 @@ use Prim.Native.Nat.{ℕ, zero, suc, _+_, _-_, _*_, _^_}
 use mathlib.Core.Bool.{Bool, true, false, cond, _&&_, _||_}
 use mathlib.Core.Option.{Option, none, some}
 use mathlib.Core.List.{List, [], _∷_, _++_, map}
+use lib.ListN.{take}
 use lib.Dec.{leb, ltb, eqb}
+use Rattle.text.specs.declared.reader.Outcome.{Outcome}
+use Rattle.text.specs.declared.reader.Outcome.the-variants as outcome
 
 -- the bytes that count in a text, as ASCII has them: a line end, the sign that begins a comment, a space, the first digit and the last
 abbrev pub line-end : ℕ
@@ -118,3 +121,9 @@ read room (f ∷ fs) =
 -- what reading a text finds, where there is room for so many words; its lines are numbered from 1
 unfoldable pub words-of : ℕ → List ℕ → Reading
 words-of room text = read room (fields-from 1 (runs (cut ends-line text)))
+
+-- what an outcome tells, where the words read are stored at the front of ws
+abbrev pub told : Outcome → List ℕ → Reading
+told (outcome.Words n) ws = Words (take n ws)
+told (outcome.NoWord n) ws = NoWord n
+told (outcome.NoRoom n) ws = NoRoom n

@@ -5,8 +5,8 @@ ghost use mathlib.Core.Bool.{false};
 ghost use mathlib.Core.List.{List, [], _∷_};
 ghost use Prim.Native.Nat.{ℕ, _+_, _<_, _^_};
 ghost use lib.ListN.{length};
-ghost use Rattle.text.specs.Text.{blank as is-blank, words-of};
-ghost use Rattle.text.specs.Reading.{ends-field, still, Reads, Starts, Stores, told};
+ghost use Rattle.text.specs.Text.{blank as is-blank, words-of, told};
+ghost use Rattle.text.specs.Reading.{ends-field, still, Reads, Starts, Stores};
 
 // What counts in a text.
 pub(crate) const LINE_END: u8 = b'\n';

@@ -5,12 +5,12 @@ use Prim.Native.Nat.{ℕ, zero, suc, _+_, _-_, _≤_, _<_, min}
 use native.Mathlib.Nat.{add-zero, min-eq-right}
 use native.Mathlib.Numerals.{add-one}
 use native.Mathlib.Omega.{arith}
-use mathlib.Core.Path.{_≡_, refl, sym, _∙_, ap}
-use mathlib.Core.Bool.{Bool, true, false, not, _&&_}
-use mathlib.Core.List.{List, [], _∷_, _++_, map, List·Memᴰ, List·Memᴰ·head, List·Memᴰ·tail}
+use mathlib.Core.Path.{_≡_, refl, _∙_, ap}
+use mathlib.Core.Bool.{Bool, false, not, _&&_}
+use mathlib.Core.List.{List, [], _∷_, map, List·Memᴰ, List·Memᴰ·head, List·Memᴰ·tail}
 use lib.ListN.{length, getD, drop, replicate, length-replicate, List·getD-append}
 use lib.Seq.{getD-drop, drop-drop}
-use Rattle.sas.specs.Task.{Fact, Assignment, State, Action}
+use Rattle.sas.specs.Task.{Fact, Assignment, State}
 use Rattle.sas.specs.Plan.{holds}
 use Rattle.sas.specs.WellFormed.{Known, Rising, Action-formed}
 use Rattle.sas.specs.WellFormed.Rising.{empty, fact}
@@ -26,7 +26,7 @@ use Rattle.task.proofs.Parts.{accepted-measured}
 use Rattle.task.proofs.Accepted.{domains-length}
 use Rattle.plan.specs.Valid.{steps}
 use Rattle.plan.proofs.PlanLaws.{Entries-known, goal-rising, steps-formed}
-use Rattle.landmark.specs.Tables.{fact-word, is-wanted, not-wanted, stamped, wanted-before}
+use Rattle.landmark.specs.Tables.{fact-word, is-wanted, not-wanted}
 use Rattle.landmark.proofs.StampLaws.{stamped-length}
 use Rattle.landmark.proofs.FlagTheorem.{Wants, before-length, wants-next, goal-wants}
 use Rattle.landmark.proofs.MarkLaws.{most-facts, fits}

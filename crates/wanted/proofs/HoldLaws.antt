@@ -1,7 +1,6 @@
 -- Whether the facts whose bits are one hold, by the cases of the loop that tests them; and that for the bits of wanted facts it is whether each wanted fact
 -- holds, by list induction. Assumes nothing.
 use Prim.Native.Nat.{ℕ, _+_, _/_, _%_, _≤_, _<_}
-use native.Mathlib.Omega.{arith}
 use mathlib.Core.Path.{_≡_, refl, sym, _∙_}
 use mathlib.Core.Bool.{Bool, true, false, not, _&&_, _||_}
 use mathlib.Core.List.{List, [], _∷_, map}

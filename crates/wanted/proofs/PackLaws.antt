@@ -3,7 +3,7 @@
 use Prim.Native.Nat.{ℕ, _+_, _-_, _*_, _^_, _≤_, _<_, min}
 use native.Mathlib.Nat.{add-zero, min-le-left, min-le-right}
 use native.Mathlib.Omega.{arith}
-use mathlib.Core.Path.{_≡_, refl, sym, _∙_}
+use mathlib.Core.Path.{_≡_, refl, _∙_}
 use mathlib.Core.List.{List}
 use lib.ListN.{length, getD, length-map}
 use lib.Arith.{le-zero}
@@ -11,7 +11,7 @@ use borrow.Author.Tests.{eq-eqb, ne-eqb}
 use Rattle.mask.specs.Mask.{word-bits, digit, binary}
 use Rattle.mask.proofs.WordLaws.{binary-fits}
 use Rattle.task.specs.Layout.{word}
-use Rattle.task.specs.Decode.{fact-of, facts}
+use Rattle.task.specs.Decode.{facts}
 use Rattle.task.proofs.TableLaws.{table-length, facts-over, facts-next}
 use Rattle.landmark.specs.Tables.{fact-word, is-wanted}
 use Rattle.landmark.proofs.StampLaws.{word-of-fact}

@@ -6,7 +6,7 @@ use mathlib.Core.Bool.{Bool, true, false, not, _&&_}
 use mathlib.Core.List.{List, [], _∷_, _++_, map}
 use lib.ListN.{length, getD, drop, replicate}
 use lib.Dec.{eqb}
-use Rattle.sas.specs.Task.{Fact, Assignment, State, Action}
+use Rattle.sas.specs.Task.{Assignment, State}
 use Rattle.sas.specs.Plan.{holds}
 use Rattle.reduction.specs.Reduction.{Reduction}
 use Rattle.mask.specs.Mask.{word-bits, binary}
@@ -14,7 +14,6 @@ use Rattle.task.specs.Limits.{limits}
 use Rattle.task.specs.Layout.{effect-start, effect-end}
 use Rattle.task.specs.Decode.{facts, action, goal}
 use Rattle.plan.specs.Limits.{most-steps}
-use Rattle.plan.specs.Valid.{steps}
 use Rattle.landmark.specs.Tables.{fact-word, is-wanted, not-wanted, stamped, wanted-before}
 
 -- the table t has the fact that is word x as wanted

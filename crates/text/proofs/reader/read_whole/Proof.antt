@@ -1,0 +1,24 @@
+-- `read_whole` meets its contract: the text is read from its beginning to its end. Assumes nothing.
+use borrow.Author.Needs.{needs}
+use Rattle.text.proofs.ReaderLaws.{reads-whole}
+use Rattle.text.proofs.reader.read_whole.Statement.{statement}
+use Rattle.text.proofs.reader.read_whole.Tie as tie
+
+start-requires : tie.Need-start-requires
+start-requires c κs = search needs
+
+feed-all-requires : tie.Need-feed-all-requires
+feed-all-requires c κs = search needs
+
+finish-requires : tie.Need-finish-requires
+finish-requires c κs = search needs
+
+same-length : tie.Need-same-length
+same-length c = search needs
+
+returns : tie.Need-returns
+returns c = reads-whole _ _ _ _ _ _ (c .before .before .before .before .before .before .before .before .start .ensures) (c .before .before .before .before .before .before .feed-all .ensures) (c .before .before .finish .ensures)
+
+pub read-whole-spec : {M : Type 1} → statement M
+read-whole-spec =
+    tie.close (tie.spec start-requires feed-all-requires finish-requires same-length returns)
