@@ -10,6 +10,9 @@ use crate::sheet::DROP_COST;
 use crate::sheet::after_lamps;
 use crate::sheet::sheet;
 use common::access::front;
+use minimal::service::UNMARKED;
+use plan::limits::Plan;
+use task::limits::Task;
 ghost use Prim.Native.Nat.{_<_, _^_};
 
 // So many lamps, where drop costs so much.
@@ -40,11 +43,12 @@ fn with_price(price: u32) {
     run(b"list 11, price", price as u64, price, 0);
 }
 
+// Each pair is the last that passes and the first that does not. Drop is unmarked too, so one lamp fewer than the limit makes it full.
 fn main() {
-    with_lamps(19);
-    with_lamps(20);
-    with_steps(252);
-    with_steps(253);
-    with_price(1_000_000);
-    with_price(1_000_001);
+    with_lamps(UNMARKED - 1);
+    with_lamps(UNMARKED);
+    with_steps(Plan::STEPS - BEHIND);
+    with_steps(Plan::STEPS - BEHIND + 1);
+    with_price(Task::COST);
+    with_price(Task::COST + 1);
 }
