@@ -1,14 +1,14 @@
 // A task and its plan as lines of words, each part under a comment. The parts are taken in turn up to where each ends, so every word
 // is printed once and in order, even where the task is wrong about its parts.
-use common::access::front;
+use access::front;
 use libc::STDOUT_FILENO;
-use task::layout::PAIRS_AT;
-use task::layout::action_end;
-use task::layout::actions;
-use task::layout::goal_at;
-use task::layout::goal_end;
-use task::layout::start_at;
-use task::layout::variables;
+use sheet::layout::PAIRS_AT;
+use sheet::layout::action_end;
+use sheet::layout::actions;
+use sheet::layout::goal_at;
+use sheet::layout::goal_end;
+use sheet::layout::start_at;
+use sheet::layout::variables;
 use text::spell::LINE;
 use text::spell::ROW;
 use text::spell::spell_line;

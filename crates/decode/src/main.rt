@@ -5,14 +5,14 @@ mod layout;
 
 use crate::layout::print_sheet;
 use crate::layout::print_words;
-use common::access::front;
-use form::frame::Frame;
-use form::framing::frame;
-use form::unpack::unpack;
-use form::word::WORD;
+use access::front;
 use libc::STDIN_FILENO;
-use task::layout::actions;
-use task::limits::Task;
+use program::frame::Frame;
+use program::framing::frame;
+use program::unpack::unpack;
+use program::word::WORD;
+use sheet::layout::actions;
+use sheet::limits::Sheet;
 use text::input::MOST;
 use text::message::say;
 use text::message::say_too_many;
@@ -24,7 +24,7 @@ fn print_bytes(bytes: &[u8]) {
     let words = front(&space, bytes.len() / WORD);
     let framed = frame(bytes);
     if let Frame::Whole { task, plan: _ } = framed {
-        if actions(front(words, task)) <= Task::ACTIONS {
+        if actions(front(words, task)) <= Sheet::ACTIONS {
             print_sheet(words, task);
             return;
         }

@@ -12,16 +12,16 @@ use Rattle.sas.specs.Plan.{cost}
 use Rattle.tally.specs.declared.Tally.{Tally}
 use Rattle.tally.specs.Tally.{nothing, one-more, comparison}
 use Rattle.tally.proofs.TallyLaws.{counted}
-use Rattle.task.specs.Layout.{cost-word}
-use Rattle.task.specs.Decode.{action}
+use Rattle.sheet.specs.Layout.{cost-word}
+use Rattle.sheet.specs.Decode.{action}
 use Rattle.plan.specs.Valid.{steps}
-use Rattle.plan.proofs.PlanTheorem.{Readable}
 use Rattle.reduction.specs.Reduction.{Reduction, kept, lower}
-use Rattle.reduced.specs.Held.{mask}
-use Rattle.reduced.specs.Tallied.{is-less}
-use Rattle.reduced.proofs.TalliedLaws.{left-bounded}
-use Rattle.reduced.proofs.LowerLaws.{less-lower, kept-mask}
+use Rattle.service.specs.Held.{mask}
+use Rattle.service.specs.Tallied.{is-less}
+use Rattle.service.proofs.TalliedLaws.{left-bounded}
+use Rattle.service.proofs.LessLaws.{less-lower, kept-mask}
 use Rattle.elimination.specs.Walk.{Fits, Balanced}
+use Rattle.plan.specs.Readable.{Readable}
 
 -- a step that is struck takes its price with it
 strike-left : (w l : List ℕ) (m : Reduction) (j : ℕ) → j < length l → getD m j false ≡ true

@@ -9,23 +9,23 @@ use mathlib.Core.Bool.{true, false, true≢false, false≢true}
 use mathlib.Core.List.{List, []}
 use lib.ListN.{length, take, length-map}
 use lib.Seq.{sets, sets-eq, take-at}
-use Rattle.common.specs.declared.refusal.Refusal.{Refusal}
-use Rattle.common.specs.declared.refusal.Verdict.{Verdict}
-use Rattle.common.specs.declared.refusal.Verdict.the-variants.{Passed, Refused}
+use Rattle.refusal.specs.declared.Refusal.{Refusal}
+use Rattle.refusal.specs.declared.Verdict.{Verdict}
+use Rattle.refusal.specs.declared.Verdict.the-variants.{Passed, Refused}
 use Rattle.tally.specs.declared.Tally.{Tally}
 use Rattle.tally.specs.declared.Order.{Order}
 use Rattle.tally.specs.declared.Order.the-variants.{Less, Equal, Greater}
 use Rattle.tally.specs.Tally.{comparison}
-use Rattle.task.specs.Decode.{goal, action}
+use Rattle.sheet.specs.Decode.{goal, action}
 use Rattle.plan.specs.Valid.{steps}
 use Rattle.reduction.specs.Reduction.{Reduction, kept, count, lower}
 use Rattle.reduction.specs.Elimination.{eliminate, greedy}
 use Rattle.reduction.proofs.ReductionLaws.{kept-length, left-length}
-use Rattle.reduced.specs.Held.{start, held, Leaves}
-use Rattle.reduced.specs.Reduced.{tally-left, output-left}
-use Rattle.reduced.specs.Tallied.{is-less}
-use Rattle.reduced.proofs.ChecksLaws.{roomy}
-use Rattle.reduced.proofs.LowerLaws.{less-lower}
+use Rattle.service.specs.Held.{start, held, Leaves}
+use Rattle.service.specs.Reduced.{tally-left, output-left}
+use Rattle.service.specs.Tallied.{is-less}
+use Rattle.service.proofs.ChecksLaws.{roomy}
+use Rattle.service.proofs.LessLaws.{less-lower}
 use Rattle.elimination.specs.Eliminations.{elimination-of, greedy-elimination-of, Reduces-both, cheaper-part}
 use Rattle.elimination.proofs.LeavesLaws.{elimination-leaves, greedy-leaves}
 

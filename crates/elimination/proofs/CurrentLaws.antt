@@ -12,16 +12,16 @@ use lib.Seq.{length-take-le, take-take, getD-take, take-at, getD-at, drop-append
 use Rattle.sas.specs.Plan.{satisfies, applicable}
 use Rattle.tally.specs.declared.Tally.{Tally}
 use Rattle.step.specs.Advance.{Advances}
-use Rattle.task.specs.Decode.{goal, action}
+use Rattle.sheet.specs.Decode.{goal, action}
 use Rattle.plan.specs.Limits.{most-steps}
 use Rattle.plan.specs.Valid.{steps}
-use Rattle.reduction.specs.Reduction.{Reduction}
+use Rattle.reduction.specs.Reduction.{Reduction, Before}
 use Rattle.reduction.specs.Landmark.{step}
 use Rattle.reduction.specs.Elimination.{walk, after, trial}
 use Rattle.reduction.proofs.TrialLaws.{From-before, trial-from-before, trial-succeeds, success-valid, walk-length, unkept-fails}
-use Rattle.reduction.proofs.BeforeLaws.{Before, Passes, before-next, walk-past}
+use Rattle.reduction.proofs.BeforeLaws.{Passes, before-next, walk-past}
 use Rattle.elimination.specs.Trial.{Tries}
-use Rattle.reduced.specs.Held.{start, mask}
+use Rattle.service.specs.Held.{start, mask}
 use Rattle.elimination.specs.Current.{Current, Eliminates}
 
 steps-drop : (w l : List ℕ) (n : ℕ) → steps w (drop n l) ≡ drop n (steps w l)

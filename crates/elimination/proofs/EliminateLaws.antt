@@ -7,14 +7,14 @@ use mathlib.Core.Bool.{true, false}
 use mathlib.Core.List.{List, _++_}
 use lib.ListN.{length, replicate, length-map, length-append, length-replicate}
 use lib.Seq.{take-at}
-use Rattle.task.specs.Decode.{goal, action}
+use Rattle.sheet.specs.Decode.{goal, action}
 use Rattle.plan.specs.Limits.{most-steps}
 use Rattle.plan.specs.Valid.{steps}
-use Rattle.reduction.specs.Reduction.{Reduction, whole, valid}
+use Rattle.reduction.specs.Reduction.{Reduction, whole, valid, Before}
 use Rattle.reduction.specs.Elimination.{eliminated, eliminate}
 use Rattle.reduction.proofs.ReductionLaws.{kept-whole}
-use Rattle.reduction.proofs.BeforeLaws.{Before, before-first}
-use Rattle.reduced.specs.Held.{start, mask, held}
+use Rattle.reduction.proofs.BeforeLaws.{before-first}
+use Rattle.service.specs.Held.{start, mask, held}
 use Rattle.elimination.specs.Current.{Current, Eliminates}
 
 -- nothing struck: the flags of a plan that is valid

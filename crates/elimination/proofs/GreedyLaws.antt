@@ -6,14 +6,14 @@ use mathlib.Core.Bool.{true, false, true≢false}
 use mathlib.Core.Option.{none, some}
 use mathlib.Core.List.{List, _++_}
 use lib.ListN.{length, replicate, length-map}
-use Rattle.task.specs.Decode.{goal, action}
+use Rattle.sheet.specs.Decode.{goal, action}
 use Rattle.plan.specs.Limits.{most-steps}
 use Rattle.plan.specs.Valid.{steps}
 use Rattle.reduction.specs.Reduction.{Reduction, valid}
 use Rattle.reduction.specs.Elimination.{best, rounds, greedy}
 use Rattle.reduction.proofs.BeforeLaws.{before-first}
 use Rattle.elimination.specs.declared.greedy.Best.{Best}
-use Rattle.reduced.specs.Held.{start, mask, held}
+use Rattle.service.specs.Held.{start, mask, held}
 use Rattle.elimination.specs.Current.{Current}
 use Rattle.elimination.specs.Round.{Picks, Looks}
 use Rattle.elimination.proofs.EliminateLaws.{all-current, all-mask}

@@ -3,21 +3,21 @@
 use Prim.Native.Nat.{ℕ}
 use mathlib.Core.Path.{_≡_}
 use mathlib.Core.List.{List}
-use Rattle.common.specs.declared.refusal.Verdict.{Verdict}
-use Rattle.common.specs.declared.refusal.Verdict.the-variants.{Passed}
-use Rattle.common.specs.Refusal.{told}
-use Rattle.common.specs.Check.{answer}
-use Rattle.task.specs.Limits.{limits}
-use Rattle.task.specs.Decode.{initial, goal}
+use Rattle.refusal.specs.declared.Verdict.{Verdict}
+use Rattle.refusal.specs.declared.Verdict.the-variants.{Passed}
+use Rattle.refusal.specs.Refusal.{told}
+use Rattle.refusal.specs.Check.{answer}
+use Rattle.sheet.specs.Limits.{limits}
+use Rattle.sheet.specs.Decode.{initial, goal}
 use Rattle.plan.specs.Valid.{steps}
 use Rattle.reduction.specs.Reduction.{Reduction}
 use Rattle.reduction.specs.Elimination.{eliminate, greedy}
 use Rattle.reduction.proofs.EliminationTheorem.{eliminate-shortens, greedy-shortens}
 use Rattle.reduction.proofs.PaddedLaws.{pad-eliminate, pad-greedy}
-use Rattle.reduced.specs.Held.{start, held, Leaves}
-use Rattle.reduced.specs.Reduced.{reduction-checks}
-use Rattle.reduced.proofs.HeldLaws.{leaves}
-use Rattle.reduced.proofs.ChecksLaws.{Padding, padding, valid-start}
+use Rattle.service.specs.Held.{start, held, Leaves}
+use Rattle.service.specs.Reduced.{reduction-checks}
+use Rattle.service.proofs.HeldLaws.{leaves}
+use Rattle.service.proofs.ChecksLaws.{Padding, padding, valid-start}
 use Rattle.elimination.specs.Eliminations.{elimination-of, greedy-elimination-of}
 
 module _ (w l : List ℕ) (room : ℕ) (v : Verdict) (checked : told v ≡ answer (reduction-checks w l room)) (passed : v ≡ Passed) where

@@ -1,9 +1,9 @@
 -- BalanceLaws: what is struck goes over from the list to the tally, and which trial leaves the lower list.
 pub mod BalanceLaws
--- WalkLaws: the walk along the rest of the current list, turn by turn.
-pub mod WalkLaws
--- TrialLaws: what a trial leaves, from what its walk leaves.
-pub mod TrialLaws
+-- TrialWalkLaws: the walk along the rest of the current list, turn by turn.
+pub mod TrialWalkLaws
+-- TriedLaws: what a trial leaves, from what its walk leaves.
+pub mod TriedLaws
 -- CurrentLaws: trials on the flags that the code holds.
 pub mod CurrentLaws
 -- EliminateLaws: elimination along the flags that the code holds.

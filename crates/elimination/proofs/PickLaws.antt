@@ -8,24 +8,23 @@ use mathlib.Core.Option.{Option, none, some}
 use mathlib.Core.List.{List}
 use lib.ListN.{length, getD}
 use Rattle.tally.specs.Tally.{nothing, comparison}
-use Rattle.task.specs.Decode.{goal}
+use Rattle.sheet.specs.Decode.{goal}
 use Rattle.step.specs.Advance.{Advances}
 use Rattle.plan.specs.Valid.{steps}
-use Rattle.plan.proofs.PlanTheorem.{Readable}
-use Rattle.reduction.specs.Reduction.{Reduction, kept, lower}
+use Rattle.reduction.specs.Reduction.{Reduction, kept, lower, Before}
 use Rattle.reduction.specs.Elimination.{trial, better, best}
 use Rattle.reduction.proofs.TrialLaws.{unkept-fails}
-use Rattle.reduction.proofs.BeforeLaws.{Before}
 use Rattle.elimination.specs.declared.greedy.Best.{Best}
 use Rattle.elimination.specs.declared.trial.Tried.{Tried}
 use Rattle.elimination.specs.Walk.{Balanced}
 use Rattle.elimination.specs.Trial.{Tries}
-use Rattle.reduced.specs.Held.{start, mask}
+use Rattle.service.specs.Held.{start, mask}
 use Rattle.elimination.specs.Current.{Current}
-use Rattle.reduced.specs.Tallied.{is-less}
+use Rattle.service.specs.Tallied.{is-less}
 use Rattle.elimination.specs.Round.{replaces, better-of, Picks, Looks}
 use Rattle.elimination.proofs.CurrentLaws.{mask-length, mask-flag, trial-met, trial-unmet, left-mask, left-current, advanced, eliminates-nothing}
 use Rattle.elimination.proofs.BalanceLaws.{balanced-mask, readable-fits, more-struck}
+use Rattle.plan.specs.Readable.{Readable}
 
 module _ (w l : List ℕ) (m : Reduction) (i : ℕ) where
   -- a trial that fails changes nothing

@@ -4,7 +4,7 @@ use mathlib.Core.Bool.{true, false}
 use Rattle.tally.specs.declared.Order.{Order}
 use Rattle.tally.specs.declared.Order.the-variants.{Less}
 use Rattle.tally.specs.Tally.{comparison}
-use Rattle.reduced.specs.Tallied.{is-less}
+use Rattle.service.specs.Tallied.{is-less}
 use Rattle.elimination.specs.declared.greedy.Best.{Best}
 use Rattle.elimination.specs.declared.trial.Tried.{Tried}
 use Rattle.elimination.specs.Round.{replaces, better-of}

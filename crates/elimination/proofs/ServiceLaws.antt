@@ -3,18 +3,18 @@ use Prim.Native.Nat.{ℕ, min}
 use mathlib.Core.Path.{_≡_, refl, sym, _∙_, ap}
 use mathlib.Core.List.{List}
 use lib.ListN.{length, take}
-use Rattle.common.specs.declared.refusal.Refusal.{Refusal}
-use Rattle.common.specs.declared.refusal.Verdict.{Verdict}
-use Rattle.common.specs.declared.refusal.Verdict.the-variants.{Passed, Refused}
-use Rattle.common.specs.Refusal.{told}
-use Rattle.common.specs.Check.{answer}
+use Rattle.refusal.specs.declared.Refusal.{Refusal}
+use Rattle.refusal.specs.declared.Verdict.{Verdict}
+use Rattle.refusal.specs.declared.Verdict.the-variants.{Passed, Refused}
+use Rattle.refusal.specs.Refusal.{told}
+use Rattle.refusal.specs.Check.{answer}
 use Rattle.tally.specs.declared.Tally.{Tally}
 use Rattle.tally.specs.declared.Order.{Order}
 use Rattle.tally.specs.declared.Order.the-variants.{Less, Equal, Greater}
 use Rattle.tally.specs.Tally.{nothing, comparison}
 use Rattle.reduction.specs.Reduction.{Reduction}
-use Rattle.reduced.specs.Reduced.{reduction-checks}
-use Rattle.reduced.specs.Kept.{Keeps}
+use Rattle.service.specs.Reduced.{reduction-checks}
+use Rattle.service.specs.Kept.{Keeps}
 use Rattle.elimination.specs.Eliminations.{elimination-of, greedy-elimination-of, Reduces-both, cheaper-part}
 
 module _ (w l before before′ : List ℕ) (room : ℕ) (v : Verdict) (shorter : room ≡ min (length before) (length before′)) (checked : told v ≡ answer (reduction-checks w l room)) where

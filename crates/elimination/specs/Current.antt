@@ -5,13 +5,12 @@ use mathlib.Core.Bool.{true}
 use mathlib.Core.Option.{Option·getD}
 use mathlib.Core.List.{List}
 use lib.ListN.{length}
-use Rattle.task.specs.Decode.{goal}
+use Rattle.sheet.specs.Decode.{goal}
 use Rattle.plan.specs.Limits.{most-steps}
 use Rattle.plan.specs.Valid.{steps}
-use Rattle.reduction.specs.Reduction.{Reduction, kept, valid}
+use Rattle.reduction.specs.Reduction.{Reduction, kept, valid, Before}
 use Rattle.reduction.specs.Elimination.{trial}
-use Rattle.reduction.proofs.BeforeLaws.{Before}
-use Rattle.reduced.specs.Held.{start, mask, held}
+use Rattle.service.specs.Held.{start, mask, held}
 
 -- flags that are a valid reduction of the plan l
 pub record Current (w l : List ℕ) (flags : Reduction) : Type 0 where

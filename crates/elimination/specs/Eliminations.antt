@@ -3,19 +3,19 @@ use Prim.Native.Nat.{ℕ, min}
 use mathlib.Core.Path.{_≡_}
 use mathlib.Core.List.{List}
 use lib.ListN.{length, take}
-use Rattle.common.specs.declared.refusal.Verdict.{Verdict}
-use Rattle.common.specs.Refusal.{told}
-use Rattle.common.specs.Check.{answer}
+use Rattle.refusal.specs.declared.Verdict.{Verdict}
+use Rattle.refusal.specs.Refusal.{told}
+use Rattle.refusal.specs.Check.{answer}
 use Rattle.tally.specs.declared.Tally.{Tally}
 use Rattle.tally.specs.declared.Order.the-variants.{Less, Equal, Greater}
 use Rattle.tally.specs.Tally.{nothing, comparison}
-use Rattle.task.specs.Decode.{goal, initial}
+use Rattle.sheet.specs.Decode.{goal, initial}
 use Rattle.plan.specs.Valid.{steps}
 use Rattle.reduction.specs.Reduction.{Reduction}
 use Rattle.reduction.specs.Elimination.{eliminate, greedy}
-use Rattle.reduced.specs.Reduced.{reduction-checks, unless-refused, tally-left, output-left}
+use Rattle.service.specs.Reduced.{reduction-checks, unless-refused, tally-left, output-left}
 
--- what elimination leaves of the list l of the task w, and what greedy elimination leaves
+-- what elimination leaves of the list l of the sheet w, and what greedy elimination leaves
 abbrev pub elimination-of : List ℕ → List ℕ → Reduction
 elimination-of w l = eliminate (initial w) (goal w) (steps w l)
 

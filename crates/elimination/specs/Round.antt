@@ -5,13 +5,12 @@ use mathlib.Core.Bool.{Bool, true, false, cond, _&&_}
 use mathlib.Core.Option.{none, some}
 use mathlib.Core.List.{List}
 use Rattle.tally.specs.Tally.{nothing, comparison}
-use Rattle.task.specs.Decode.{goal}
+use Rattle.sheet.specs.Decode.{goal}
 use Rattle.plan.specs.Valid.{steps}
-use Rattle.reduction.specs.Reduction.{Reduction}
+use Rattle.reduction.specs.Reduction.{Reduction, Before}
 use Rattle.reduction.specs.Elimination.{best}
-use Rattle.reduction.proofs.BeforeLaws.{Before}
-use Rattle.reduced.specs.Held.{start, mask}
-use Rattle.reduced.specs.Tallied.{is-less}
+use Rattle.service.specs.Held.{start, mask}
+use Rattle.service.specs.Tallied.{is-less}
 use Rattle.elimination.specs.declared.greedy.Best.{Best}
 use Rattle.elimination.specs.declared.trial.Tried.{Tried}
 use Rattle.elimination.specs.Walk.{Balanced}

@@ -7,7 +7,7 @@ use lib.ListN.{getD, take, drop}
 use Rattle.sas.specs.Plan.{satisfies}
 use Rattle.tally.specs.declared.Tally.{Tally}
 use Rattle.tally.specs.Tally.{nothing}
-use Rattle.task.specs.Decode.{goal}
+use Rattle.sheet.specs.Decode.{goal}
 use Rattle.reduction.specs.Reduction.{Reduction}
 use Rattle.reduction.specs.Elimination.{walk, after}
 use Rattle.plan.specs.Valid.{steps}

@@ -7,8 +7,8 @@ use lib.ListN.{length, getD, set, take, drop}
 use Rattle.sas.specs.Plan.{applicable, apply, cost}
 use Rattle.tally.specs.declared.Tally.{Tally}
 use Rattle.tally.specs.Tally.{bounds, one-more}
-use Rattle.task.specs.Layout.{cost-word}
-use Rattle.task.specs.Decode.{action}
+use Rattle.sheet.specs.Layout.{cost-word}
+use Rattle.sheet.specs.Decode.{action}
 use Rattle.reduction.specs.Reduction.{Reduction, kept}
 use Rattle.reduction.specs.Elimination.{walk, after}
 use Rattle.plan.specs.Valid.{steps}

@@ -1,10 +1,10 @@
 // Both eliminations as one service, and the part of the cheaper list.
 use crate::eliminate::eliminate;
 use crate::greedy::greedy;
-use common::access::front;
-use common::refusal::Verdict;
-use reduced::checks::check_reduction;
-use reduced::finish::finish;
+use access::front;
+use refusal::Verdict;
+use service::checks::check_reduction;
+use service::finish::finish;
 use tally::Order;
 use tally::Tally;
 ghost use mathlib.Core.Path.{_≡_};

@@ -2,7 +2,7 @@
 use crate::trial::trial;
 use plan::limits::Plan;
 use plan::start::initial;
-use reduced::held::all_kept;
+use service::held::all_kept;
 use step::advance::advance;
 ghost use mathlib.Core.Path.{_≡_};
 ghost use mathlib.Core.Bool.{true};
@@ -10,9 +10,9 @@ ghost use Prim.Native.Nat.{_≤_};
 ghost use lib.ListN.{length};
 ghost use Rattle.reduction.specs.Reduction.{valid};
 ghost use Rattle.reduction.specs.Elimination.{eliminate as eliminate-of};
-ghost use Rattle.task.specs.Decode.{goal};
+ghost use Rattle.sheet.specs.Decode.{goal};
 ghost use Rattle.plan.specs.Valid.{steps};
-ghost use Rattle.reduced.specs.Held.{start, held};
+ghost use Rattle.service.specs.Held.{start, held};
 
 // The flags that elimination leaves of a valid plan: on success all strikes of a trial stand, otherwise its step is done.
 pub(crate) fn eliminate(words: &[u32], plan: &[u32]) -> [bool; Plan::STEPS]

@@ -3,7 +3,7 @@ use crate::trial::Tried;
 use crate::trial::trial;
 use plan::limits::Plan;
 use plan::start::initial;
-use reduced::held::all_kept;
+use service::held::all_kept;
 use step::advance::advance;
 use tally::Order;
 use tally::Tally;
@@ -12,12 +12,12 @@ ghost use mathlib.Core.Bool.{true};
 ghost use lib.ListN.{length};
 ghost use Rattle.reduction.specs.Reduction.{valid};
 ghost use Rattle.reduction.specs.Elimination.{greedy as greedy-of};
-ghost use Rattle.task.specs.Decode.{goal};
+ghost use Rattle.sheet.specs.Decode.{goal};
 ghost use Rattle.plan.specs.Valid.{steps};
-ghost use Rattle.plan.proofs.PlanTheorem.{Readable};
-ghost use Rattle.reduced.specs.Held.{start, mask, held};
+ghost use Rattle.service.specs.Held.{start, mask, held};
 ghost use Rattle.elimination.specs.Current.{Current};
 ghost use Rattle.elimination.specs.Round.{Picks, better-of};
+ghost use Rattle.plan.specs.Readable.{Readable};
 
 // The best success of a round so far, if there is one, with the tally of what it strikes.
 pub(crate) struct Best {

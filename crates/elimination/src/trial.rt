@@ -1,11 +1,11 @@
 // One trial, from the state before its step.
 use crate::walk::walk_rest;
-use common::access::strike;
+use access::strike;
 use plan::limits::Plan;
+use sheet::layout::cost;
+use sheet::limits::Sheet;
 use step::advance::goal_holds;
 use tally::Tally;
-use task::layout::cost;
-use task::limits::Task;
 ghost use Prim.Native.Nat.{_≤_, _<_};
 ghost use lib.ListN.{length};
 ghost use Rattle.elimination.specs.Trial.{Tries};
@@ -22,7 +22,7 @@ pub(crate) fn trial(
     words: &[u32],
     plan: &[u32],
     flags: [bool; Plan::STEPS],
-    values: [u32; Task::VARIABLES],
+    values: [u32; Sheet::VARIABLES],
     i: usize,
 ) -> Tried
     requires { ⌜ (length (now plan) ≤ 255) × (i < length (now plan)) ⌝ }

@@ -1,8 +1,8 @@
 // The walk of a trial along the rest of the current list.
-use common::access::strike;
+use access::strike;
+use sheet::layout::cost;
 use step::advance::advance;
 use tally::Tally;
-use task::layout::cost;
 ghost use mathlib.Core.Path.{_≡_};
 ghost use mathlib.Core.Bool.{true, false};
 ghost use Prim.Native.Nat.{_≤_};

@@ -1,8 +1,8 @@
 // The program that turns a text of words (`text`) into the form in which the programs read a task and a plan. Where the text is no
 // text of words it says so, with the line, and writes no word.
-use common::access::front;
-use form::word::WORD;
+use access::front;
 use libc::STDOUT_FILENO;
+use program::word::WORD;
 use text::input::Found;
 use text::input::MOST;
 use text::input::read_text;

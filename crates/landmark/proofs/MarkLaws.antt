@@ -8,10 +8,10 @@ use mathlib.Core.Option.{none, some}
 use mathlib.Core.List.{List}
 use lib.ListN.{length, replicate, length-map}
 use lib.Seq.{sets}
-use Rattle.common.specs.declared.refusal.Refusal.{Refusal}
-use Rattle.common.specs.declared.refusal.Verdict.the-variants.{Passed, Refused as Refused-verdict}
-use Rattle.common.specs.Refusal.{told-refusal}
-use Rattle.common.specs.Check.{answer}
+use Rattle.refusal.specs.declared.Refusal.{Refusal}
+use Rattle.refusal.specs.declared.Verdict.the-variants.{Passed, Refused as Refused-verdict}
+use Rattle.refusal.specs.Refusal.{told-refusal}
+use Rattle.refusal.specs.Check.{answer}
 use Rattle.sas.specs.Task.{Fact, State}
 use Rattle.sas.specs.Plan.{holds}
 use Rattle.sas.specs.WellFormed.{Known}
@@ -19,23 +19,24 @@ use Rattle.sas.proofs.PadLaws.{pad-holds}
 use Rattle.reduction.specs.Reduction.{Reduction}
 use Rattle.reduction.specs.Wanted.{landmarks}
 use Rattle.tally.specs.declared.Tally.{Tally}
-use Rattle.task.specs.Limits.{limits}
-use Rattle.task.specs.Layout.{variables, goal-start, goal-end}
-use Rattle.task.specs.Decode.{facts, domains, initial, goal}
-use Rattle.task.specs.Causes.{Accepted}
-use Rattle.task.proofs.Parts.{accepted-measured}
-use Rattle.task.proofs.Accepted.{domains-length, domain-limits}
+use Rattle.sheet.specs.Limits.{limits}
+use Rattle.sheet.specs.Layout.{variables, goal-start, goal-end}
+use Rattle.sheet.specs.Decode.{facts, domains, initial, goal}
+use Rattle.sheet.specs.Causes.{Accepted}
+use Rattle.sheet.proofs.Parts.{accepted-measured}
+use Rattle.sheet.proofs.Accepted.{domains-length, domain-limits}
 use Rattle.plan.specs.declared.check.Answer.{Answer}
 use Rattle.plan.specs.declared.check.Answer.the-variants.{Valid, Refused}
 use Rattle.plan.specs.Limits.{most-steps}
 use Rattle.plan.specs.Valid.{steps}
 use Rattle.plan.specs.Checked.{list-checks, plan-checks, told-answer}
 use Rattle.plan.proofs.PlanLaws.{initial-complete, start-padded, goal-rising, steps-formed, listed-entries, entries-listed}
-use Rattle.plan.proofs.PlanTheorem.{Readable, passed-readable}
+use Rattle.plan.proofs.PlanTheorem.{passed-readable}
 use Rattle.landmark.specs.Marks.{filled, flags-of, marks-of, Marks}
 use Rattle.landmark.specs.Tables.{fact-word, is-wanted, not-wanted, stamped, written-first, flags-at, flags-walked}
 use Rattle.landmark.proofs.StampLaws.{Small}
 use Rattle.landmark.proofs.FlagTheorem.{walks-flag}
+use Rattle.plan.specs.Readable.{Readable}
 
 -- the facts for which a table has room
 abbrev pub most-facts : ℕ

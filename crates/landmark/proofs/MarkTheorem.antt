@@ -8,20 +8,20 @@ use mathlib.Core.Bool.{false}
 use mathlib.Core.Option.{none, some}
 use mathlib.Core.List.{List, [], _∷_, _++_}
 use lib.ListN.{length, getD, replicate}
-use Rattle.common.specs.Refusal.{Told}
-use Rattle.common.specs.Check.{answer}
+use Rattle.refusal.specs.Refusal.{Told}
+use Rattle.refusal.specs.Check.{answer}
 use Rattle.sas.specs.Plan.{holds}
 use Rattle.reduction.specs.Reduction.{Reduction, keeps}
 use Rattle.reduction.specs.Landmark.{Marked}
 use Rattle.reduction.specs.Wanted.{landmarks}
 use Rattle.reduction.proofs.LandmarkTheorem.{flagged-just-marked}
-use Rattle.task.specs.Decode.{initial, goal}
+use Rattle.sheet.specs.Decode.{initial, goal}
 use Rattle.plan.specs.Limits.{most-steps}
 use Rattle.plan.specs.Valid.{steps}
 use Rattle.plan.specs.Checked.{plan-checks}
 use Rattle.landmark.specs.Marks.{flags-of, marks-of}
 
--- what holds of the marks of the list l of the task w; step i of document 01 stands at index i − 1
+-- what holds of the marks of the list l of the sheet w; step i of document 01 stands at index i − 1
 pub record Marked-truly (w l : List ℕ) : Type 0 where
   -- a step of a list that passes is marked just where the rule marks it
   pub passed : answer (plan-checks w l) ≡ none → (i : ℕ) → keeps (marks-of w l) i ↔ Marked (holds (initial w)) (goal w) (steps w l) i

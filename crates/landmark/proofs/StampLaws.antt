@@ -14,10 +14,10 @@ use Rattle.sas.specs.Task.{Fact, Assignment}
 use Rattle.sas.specs.Plan.{holds}
 use Rattle.reduction.specs.Wanted.{some-fact, same-fact, has}
 use Rattle.reduction.proofs.MemberLaws.{same-fact-true, same-fact-refl}
-use Rattle.task.specs.Limits.{limits}
-use Rattle.task.specs.Layout.{word}
-use Rattle.task.specs.Decode.{fact-of, facts}
-use Rattle.task.proofs.TableLaws.{facts-over, facts-next}
+use Rattle.sheet.specs.Limits.{limits}
+use Rattle.sheet.specs.Layout.{word}
+use Rattle.sheet.specs.Decode.{fact-of, facts}
+use Rattle.sheet.proofs.TableLaws.{facts-over, facts-next}
 use Rattle.landmark.specs.Tables.{fact-word, is-wanted, stamped, sought}
 
 -- a word is that of the fact that it is

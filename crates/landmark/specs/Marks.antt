@@ -6,13 +6,13 @@ use mathlib.Core.Bool.{false}
 use mathlib.Core.Option.{none, some}
 use mathlib.Core.List.{List, _++_}
 use lib.ListN.{length, replicate}
-use Rattle.common.specs.declared.refusal.Verdict.{Verdict}
-use Rattle.common.specs.Refusal.{told}
-use Rattle.common.specs.Check.{answer}
+use Rattle.refusal.specs.declared.Verdict.{Verdict}
+use Rattle.refusal.specs.Refusal.{told}
+use Rattle.refusal.specs.Check.{answer}
 use Rattle.reduction.specs.Reduction.{Reduction}
 use Rattle.reduction.specs.Wanted.{landmarks}
 use Rattle.mask.specs.Mask.{mask-words}
-use Rattle.task.specs.Decode.{initial, goal}
+use Rattle.sheet.specs.Decode.{initial, goal}
 use Rattle.plan.specs.Limits.{most-steps}
 use Rattle.plan.specs.Valid.{steps}
 use Rattle.plan.specs.Checked.{plan-checks}
@@ -21,7 +21,7 @@ use Rattle.plan.specs.Checked.{plan-checks}
 abbrev pub filled : List ℕ → Reduction → Reduction
 filled l m = m ++ replicate (most-steps - length l) false
 
--- the flags of the list l of the task w: its landmarks
+-- the flags of the list l of the sheet w: its landmarks
 unfoldable pub flags-of : List ℕ → List ℕ → Reduction
 flags-of w l = filled l (landmarks (initial w) (goal w) (steps w l))
 
@@ -29,7 +29,7 @@ flags-of w l = filled l (landmarks (initial w) (goal w) (steps w l))
 unfoldable pub marks-of : List ℕ → List ℕ → Reduction
 marks-of w l = elim (answer (plan-checks w l)) [ none ↦ flags-of w l | some t ↦ replicate most-steps false ]
 
--- the marks of the list l of the task w
+-- the marks of the list l of the sheet w
 pub record Marks (w l : List ℕ) (verdict : Verdict) (flags : Reduction) : Type 0 where
   pub refusal : told verdict ≡ answer (plan-checks w l)
   pub marked : flags ≡ marks-of w l

@@ -9,7 +9,7 @@ use Rattle.sas.specs.Task.{Fact, Assignment, State, Action}
 use Rattle.sas.specs.Plan.{holds}
 use Rattle.reduction.specs.Reduction.{Reduction}
 use Rattle.reduction.specs.Wanted.{some-fact}
-use Rattle.task.specs.Limits.{limits}
+use Rattle.sheet.specs.Limits.{limits}
 use Rattle.plan.specs.Valid.{steps}
 use Rattle.landmark.specs.Marks.{filled}
 
@@ -60,7 +60,7 @@ unfoldable pub flags-at : State → List ℕ → List ℕ → ℕ → List Actio
 flags-at s first wanted i [] = []
 flags-at s first wanted i (a ∷ p) = flagged s first (wanted-at s first wanted (i + 1) p) i a ∷ flags-at s first wanted (i + 1) p
 
--- the flags that the walk along the list l of the task w makes
+-- the flags that the walk along the list l of the sheet w makes
 abbrev pub flags-walked : State → List ℕ → List ℕ → List ℕ → List ℕ → Reduction
 flags-walked s first wanted w l = filled l (flags-at s first wanted 0 (steps w l))
 

@@ -7,12 +7,12 @@ use crate::walks::mark_steps;
 use crate::walks::write_first;
 use plan::limits::Plan;
 use plan::start::initial;
-use task::layout::goal_at;
-use task::layout::goal_end;
+use sheet::layout::goal_at;
+use sheet::layout::goal_end;
 ghost use mathlib.Core.Path.{_≡_};
 ghost use mathlib.Core.Option.{none};
-ghost use Rattle.common.specs.Check.{answer};
-ghost use Rattle.task.specs.Causes.{Accepted};
+ghost use Rattle.refusal.specs.Check.{answer};
+ghost use Rattle.sheet.specs.Causes.{Accepted};
 ghost use Rattle.plan.specs.Checked.{list-checks};
 ghost use Rattle.landmark.specs.Marks.{flags-of};
 

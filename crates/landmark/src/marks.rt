@@ -1,9 +1,9 @@
 // The marks of a plan as a service: refusals 1 to 9 and 11.
 use crate::flags::landmarks;
-use common::refusal::Verdict;
 use plan::check::Answer;
 use plan::check::check_plan;
 use plan::limits::Plan;
+use refusal::Verdict;
 ghost use Rattle.landmark.specs.Marks.{Marks};
 
 // The verdict, and the marks: a flag for each step, none past the last, and none at all on a refusal.

@@ -1,8 +1,8 @@
 // The marks of a plan as document 01 returns them: a mask of four words.
 use crate::marks::marks;
-use common::refusal::Verdict;
 use mask::Mask;
 use mask::mask_of;
+use refusal::Verdict;
 ghost use Rattle.landmark.specs.Marks.{Masks};
 
 // The verdict, and the mask of the marks: zero on a refusal.

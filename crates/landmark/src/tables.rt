@@ -1,16 +1,16 @@
 // Tables with a byte for each fact, at the index that is the fact's word. The index of a step fits a byte, and so does their limit, for no step.
-use common::access::byte;
-use common::access::put8;
-use common::access::word;
+use access::byte;
+use access::put8;
+use access::word;
+use sheet::limits::Sheet;
 use step::facts::holds;
-use task::limits::Task;
 ghost use mathlib.Core.Path.{_≡_};
 ghost use Rattle.reduction.specs.Wanted.{some-fact};
-ghost use Rattle.task.specs.Decode.{fact-of, facts};
+ghost use Rattle.sheet.specs.Decode.{fact-of, facts};
 ghost use Rattle.landmark.specs.Tables.{stamped, sought as sought-fact};
 
 // The size of a table: an accepted task has no fact past it.
-pub const FACTS: usize = Task::VARIABLES * Task::VALUES;
+pub const FACTS: usize = Sheet::VARIABLES * Sheet::VALUES;
 // What stands at a fact that is wanted, and at one that is not.
 pub const WANTED: u8 = 1;
 

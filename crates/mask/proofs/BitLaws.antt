@@ -13,7 +13,7 @@ use lib.Dec.{eqb, lit<}
 use lib.Pow.{shl-exact}
 use Rattle.reduction.specs.Reduction.{Reduction}
 use Rattle.mask.specs.Mask.{mask-length, word-bits, digit, binary, words-of, mask-words, bit-up, with-bit}
-use Rattle.mask.proofs.WordLaws.{lowest-digit, other-digits}
+use Rattle.mask.proofs.MaskWordLaws.{lowest-digit, other-digits}
 
 -- the bit as the code shifts it
 shifted : (i : ℕ) → 1 * 2 ^ (i % word-bits) % 2 ^ word-bits ≡ 2 ^ (i % word-bits)

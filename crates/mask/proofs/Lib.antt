@@ -1,11 +1,11 @@
--- WordLaws: a word by its binary digits, and its lowest one.
-pub mod WordLaws
+-- MaskWordLaws: a word by its binary digits, and its lowest one.
+pub mod MaskWordLaws
 -- LengthLaws: a mask has four words.
 pub mod LengthLaws
 -- MaskLaws: the words of a reduction, one after the other.
 pub mod MaskLaws
--- KeptLaws: what the words of a reduction keep.
-pub mod KeptLaws
+-- KeptWordLaws: what the words of a reduction keep.
+pub mod KeptWordLaws
 -- WriteLaws: the turns of the loops that write out what words keep.
 pub mod WriteLaws
 -- MaskTheorem: a mask tells a reduction bit by bit, by its ones, and by the list that is written out.

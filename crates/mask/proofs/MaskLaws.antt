@@ -13,7 +13,7 @@ use lib.Count.{ones}
 use lib.Pow.{pow-pos, pow-mono}
 use Rattle.reduction.specs.Reduction.{Reduction, count}
 use Rattle.mask.specs.Mask.{mask-length, word-bits, digit, binary, words-of, mask-words, ones-of}
-use Rattle.mask.proofs.WordLaws.{binary-below, binary-next, binary-ones}
+use Rattle.mask.proofs.MaskWordLaws.{binary-below, binary-next, binary-ones}
 
 -- word k has the flags from 64 × k on
 pub words-at : (n k : ℕ) (m : Reduction) → k < n → getD (words-of n m) k 0 ≡ binary (take word-bits (drop (word-bits * k) m))

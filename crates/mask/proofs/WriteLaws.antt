@@ -12,7 +12,7 @@ use lib.Dec.{lit<}
 use lib.Count.{trailingZeros}
 use lib.Pow.{pow-pos, shl-exact}
 use Rattle.mask.specs.Mask.{word-bits, ones-at, places, at-places, kept-by-words}
-use Rattle.mask.proofs.WordLaws.{ones-at-none, Lowest, lowest-one}
+use Rattle.mask.proofs.MaskWordLaws.{ones-at-none, Lowest, lowest-one}
 
 -- the words stored one after the other are those stored in one go
 stores-joined : (out vs us : List ℕ) (at : ℕ) → sets (sets out at vs) (at + length vs) us ≡ sets out at (vs ++ us)

@@ -1,7 +1,7 @@
 // A reduction of a plan as a mask of four words: made from flags, counted, and written out.
-use common::access::flag;
-use common::access::put;
-use common::access::word;
+use access::flag;
+use access::put;
+use access::word;
 ghost use mathlib.Core.Path.{_≡_};
 ghost use Prim.Native.Nat.{_+_, _≤_};
 ghost use mathlib.Core.Bool.{false};

@@ -1,4 +1,4 @@
--- ShortenLaws: what the service answers on each of its ways.
-pub mod ShortenLaws
+-- MinimalLaws: what the service answers on each of its ways.
+pub mod MinimalLaws
 -- DemandThree: what it answers meets demand 3.
 pub mod DemandThree

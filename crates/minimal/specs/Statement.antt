@@ -6,21 +6,21 @@ use mathlib.Core.Logic.{_↔_}
 use mathlib.Core.Option.{none, some}
 use mathlib.Core.List.{List, _++_}
 use lib.ListN.{length, drop, replicate}
-use Rattle.common.specs.Refusal.{Told}
+use Rattle.refusal.specs.Refusal.{Told}
 use Rattle.sas.specs.Plan.{holds, Plan}
 use Rattle.reduction.specs.Reduction.{Reduction, keeps, kept, count, Valid-reduction}
 use Rattle.reduction.specs.Landmark.{Marked}
 use Rattle.reduction.specs.Wanted.{landmarks}
-use Rattle.exact.specs.Exact.{Exact}
+use Rattle.reduction.specs.Minimal.{Minimal}
 use Rattle.tally.specs.Tally.{nothing}
 use Rattle.mask.specs.Mask.{mask-length, mask-words}
-use Rattle.task.specs.Decode.{goal, initial, task}
+use Rattle.sheet.specs.Decode.{goal, initial, task}
 use Rattle.plan.specs.declared.check.Answer.{Answer}
 use Rattle.plan.specs.Valid.{steps}
 use Rattle.plan.specs.Checked.{told-answer, told-tally}
-use Rattle.plan.proofs.PlanTheorem.{Readable}
-use Rattle.reduced.specs.Reduced.{tally-left}
-use Rattle.minimal.specs.Minimal.{unmarked, exact-of}
+use Rattle.service.specs.Reduced.{tally-left}
+use Rattle.minimal.specs.Minimised.{unmarked, minimal-of}
+use Rattle.plan.specs.Readable.{Readable}
 
 module _ (w l : List ℕ) where
   -- step i of the list is marked by the rule of document 01
@@ -36,13 +36,13 @@ module _ (w l : List ℕ) where
     pub answers : told-answer given ≡ none
     -- it is valid and wins against every valid reduction: it costs no more, at equal cost it has no more steps, and where both are equal the other one keeps
     -- the step at the first place where the two differ
-    pub exact : Exact (initial w) (goal w) (steps w l) (exact-of w l)
+    pub minimal : Minimal (initial w) (goal w) (steps w l) (minimal-of w l)
     -- the list left is a plan of the task, and it is the lodged list with steps struck
-    pub plan-left : Plan (task w) (kept (exact-of w l) (steps w l))
-    pub tally : told-tally given ≡ tally-left w l (exact-of w l)
-    pub told-by : mask ≡ mask-words (exact-of w l)
+    pub plan-left : Plan (task w) (kept (minimal-of w l) (steps w l))
+    pub tally : told-tally given ≡ tally-left w l (minimal-of w l)
+    pub told-by : mask ≡ mask-words (minimal-of w l)
     -- the kept action numbers are the output's first words, one for each kept step, and every other word stays
-    pub output : after ≡ kept (exact-of w l) l ++ drop (count (exact-of w l)) before
+    pub output : after ≡ kept (minimal-of w l) l ++ drop (count (minimal-of w l)) before
 
   -- the service refuses with 12 and the number of unmarked steps, with zeros, and the output stays
   pub record Refused-unmarked (before : List ℕ) (given : Answer) (mask after : List ℕ) : Type 0 where

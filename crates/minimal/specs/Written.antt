@@ -4,7 +4,7 @@ use mathlib.Core.Path.{_≡_}
 use mathlib.Core.List.{List}
 use lib.Seq.{sets}
 use Rattle.mask.specs.Mask.{ones-of, kept-by-words}
-use Rattle.reduced.specs.declared.finish.Kept.{Kept}
+use Rattle.service.specs.declared.finish.Kept.{Kept}
 
 -- the plan's words at the ones of the mask go over the output, and the ones are the steps
 pub record Writes (l : List ℕ) (k : Kept) (before : List ℕ) (r : Kept) (after : List ℕ) : Type 0 where

@@ -1,18 +1,18 @@
 // The minimal reduction of a plan of which no more than a limit of steps is unmarked.
-use common::refusal::Refusal;
-use common::refusal::Verdict;
 use landmark::marks::marks;
 use mask::mask_of;
 use mask::write_kept;
-use reduced::answer::Reduced;
-use reduced::answer::refused;
-use reduced::answer::told;
-use reduced::checks::check_reduction;
-use reduced::finish::Kept;
+use refusal::Refusal;
+use refusal::Verdict;
 use search::best::minimal;
+use service::answer::Reduced;
+use service::answer::refused;
+use service::answer::told;
+use service::checks::check_reduction;
+use service::finish::Kept;
 use tally::Tally;
 ghost use mathlib.Core.Path.{_≡_};
-ghost use Rattle.minimal.specs.Minimal.{Shortens};
+ghost use Rattle.minimal.specs.Minimised.{Minimises};
 ghost use Rattle.minimal.specs.Written.{Writes};
 
 // Writes the kept steps of a reduction to the front of `out`. Their number is that of the ones in the mask.
@@ -32,7 +32,7 @@ fn write_out(plan: &[u32], kept: Kept, out: &mut [u32]) -> Kept
 
 // Writes what the minimal reduction leaves of a plan to the front of `out`; refuses where more than `limit` steps are unmarked.
 pub fn reduce_within(words: &[u32], plan: &[u32], out: &mut [u32], limit: usize) -> Reduced
-    ensures { λ r. ⌜ Shortens limit (now (words .entry)) (now (plan .entry)) (now (out .entry)) (r .answer) (r .mask .words) (now (out .exit)) ⌝ }
+    ensures { λ r. ⌜ Minimises limit (now (words .entry)) (now (plan .entry)) (now (out .entry)) (r .answer) (r .mask .words) (now (out .exit)) ⌝ }
 {
     let verdict = check_reduction(words, plan, out.len());
     if let Verdict::Refused(refusal) = verdict {

@@ -1,9 +1,9 @@
 -- StartLaws: the starting values are stored one by one.
 pub mod StartLaws
--- ValidLaws: where a plan fails to be valid, by cases, along a list, and against SAS+.
-pub mod ValidLaws
--- WalkLaws: what a walk along a plan hands back, by the cases of its loop.
-pub mod WalkLaws
+-- FaultLaws: where a plan fails to be valid, by cases, along a list, and against SAS+.
+pub mod FaultLaws
+-- PlanWalkLaws: what a walk along a plan hands back, by the cases of its loop.
+pub mod PlanWalkLaws
 -- PlanLaws: what the check of a plan answers on each of its ways.
 pub mod PlanLaws
 -- PlanTheorem: it answers valid just where the list is a plan by the rules of SAS+, and otherwise gives the first failing place.

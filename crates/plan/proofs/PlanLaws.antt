@@ -10,17 +10,17 @@ use mathlib.Core.List.{List, [], _∷_, _++_, map, List·Memᴰ, List·Memᴰ·h
 use lib.ListN.{length, getD, drop, replicate, length-replicate, replicate-append-replicate, length-map}
 use lib.Seq.{sets, sets-eq, drop-at}
 use borrow.Author.Tests.{ltb-false, leb-false, le-ltb, lt-leb}
-use Rattle.common.specs.declared.place.Place.{Place}
-use Rattle.common.specs.declared.place.Place.the-variants.{Nowhere, At}
-use Rattle.common.specs.declared.refusal.Refusal.{Refusal}
-use Rattle.common.specs.declared.refusal.Refusal.the-variants.{NotAPlan}
-use Rattle.common.specs.declared.refusal.Verdict.{Verdict}
-use Rattle.common.specs.declared.refusal.Verdict.the-variants.{Passed, Refused as Refused-verdict}
-use Rattle.common.specs.Place.{first-of}
-use Rattle.common.specs.Refusal.{Told, told-refusal, told}
-use Rattle.common.specs.Check.{answer}
-use Rattle.common.proofs.PlaceLaws.{first-of-over, first-of-more, when-nowhere, first-of-nowhere}
-use Rattle.common.proofs.CheckLaws.{none-fires, answer-fires, answer-passes, answer-nothing, answer-first, answer-second}
+use Rattle.refusal.specs.declared.place.Place.{Place}
+use Rattle.refusal.specs.declared.place.Place.the-variants.{Nowhere, At}
+use Rattle.refusal.specs.declared.Refusal.{Refusal}
+use Rattle.refusal.specs.declared.Refusal.the-variants.{NotAPlan}
+use Rattle.refusal.specs.declared.Verdict.{Verdict}
+use Rattle.refusal.specs.declared.Verdict.the-variants.{Passed, Refused as Refused-verdict}
+use Rattle.refusal.specs.Place.{first-of}
+use Rattle.refusal.specs.Refusal.{Told, told-refusal, told}
+use Rattle.refusal.specs.Check.{answer}
+use Rattle.refusal.proofs.PlaceLaws.{first-of-over, first-of-more, when-nowhere, first-of-nowhere}
+use Rattle.refusal.proofs.CheckLaws.{none-fires, answer-fires, answer-passes, answer-nothing, answer-first, answer-second}
 use Rattle.sas.specs.Task.{Assignment, State, Action}
 use Rattle.sas.specs.Plan.{applicable, apply, cost}
 use Rattle.sas.specs.Pad.{pad}
@@ -31,21 +31,18 @@ use Rattle.sas.proofs.PadLaws.{pad-satisfies, pad-assign, pad-applicable}
 use Rattle.tally.specs.declared.Tally.{Tally}
 use Rattle.tally.specs.Tally.{nothing, after}
 use Rattle.tally.proofs.TallyLaws.{total, plain-tally}
-use Rattle.task.specs.Limits.{limits}
-use Rattle.task.specs.Layout.{actions, cost-word}
-use Rattle.task.specs.Decode.{domains, initial, goal, action, task}
-use Rattle.task.specs.Causes.{sheet-checks, Accepted}
-use Rattle.task.proofs.Parts.{accepted-measured}
-use Rattle.task.proofs.Accepted.{domains-length, action-known, accepted-well-formed, cost-limit}
+use Rattle.sheet.specs.Limits.{limits}
+use Rattle.sheet.specs.Layout.{actions, cost-word}
+use Rattle.sheet.specs.Decode.{domains, initial, goal, action, task}
+use Rattle.sheet.specs.Causes.{sheet-checks, Accepted}
+use Rattle.sheet.proofs.Parts.{accepted-measured}
+use Rattle.sheet.proofs.Accepted.{domains-length, action-known, accepted-well-formed, cost-limit}
 use Rattle.plan.specs.declared.check.Answer.the-variants.{Valid, Refused}
 use Rattle.plan.specs.Limits.{most-steps}
 use Rattle.plan.specs.Valid.{steps, fault, final}
 use Rattle.plan.specs.Checked.{unknown-place, list-checks, valid-checks, plan-checks, tally-of, end-state, Checks}
-use Rattle.plan.proofs.ValidLaws.{fault-end, fault-stuck, fault-applied, final-end, final-applied}
-
--- each entry of a list is the number of an action
-abbrev pub Entries-known : List ℕ → List ℕ → Type 0
-Entries-known w l = (a : ℕ) → List·Memᴰ a l → a < actions w
+use Rattle.plan.specs.Readable.{Entries-known}
+use Rattle.plan.proofs.FaultLaws.{fault-end, fault-stuck, fault-applied, final-end, final-applied}
 
 -- what is left of equal elements
 pub drop-replicate : {A : Type 0} (k n : ℕ) (x : A) → k ≤ n → drop k (replicate n x) ≡ replicate (n - k) x

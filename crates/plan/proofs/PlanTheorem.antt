@@ -7,33 +7,28 @@ use mathlib.Core.Logic.{_⊎_, _↔_}
 use mathlib.Core.Option.{Option, none, some, Option·some-ne-none, Option·some-injective}
 use mathlib.Core.List.{List}
 use lib.ListN.{length, length-map}
-use Rattle.common.specs.declared.place.Place.{Place}
-use Rattle.common.specs.declared.place.Place.the-variants.{Nowhere, At}
-use Rattle.common.specs.declared.refusal.Refusal.the-variants.{NotAPlan}
-use Rattle.common.specs.Refusal.{Told, told-refusal}
-use Rattle.common.specs.Check.{answer}
+use Rattle.refusal.specs.declared.place.Place.{Place}
+use Rattle.refusal.specs.declared.place.Place.the-variants.{Nowhere, At}
+use Rattle.refusal.specs.declared.Refusal.the-variants.{NotAPlan}
+use Rattle.refusal.specs.Refusal.{Told, told-refusal}
+use Rattle.refusal.specs.Check.{answer}
 use Rattle.sas.specs.Plan.{run, cost, Plan, Stuck}
 use Rattle.sas.specs.Pad.{pad}
-use Rattle.task.specs.Limits.{limits}
-use Rattle.task.specs.Decode.{initial, goal, action, task}
-use Rattle.task.specs.Causes.{sheet-checks, Accepted}
+use Rattle.sheet.specs.Limits.{limits}
+use Rattle.sheet.specs.Decode.{initial, goal, action, task}
+use Rattle.sheet.specs.Causes.{sheet-checks, Accepted}
 use Rattle.plan.specs.Limits.{most-steps}
 use Rattle.plan.specs.Valid.{steps, fault, final}
 use Rattle.plan.specs.Checked.{list-checks, plan-checks, tally-of, end-state}
-use Rattle.plan.proofs.ValidLaws.{Unmet, runs-faultless, faultless-runs, fault-told}
-use Rattle.plan.proofs.PlanLaws.{Entries-known, steps-known, sheet-answers, list-answers, listed-entries, entries-listed, fault-answers, faultless-passes, passes-faultless}
-
--- a list that can be read: its sheet is accepted, it is not too long, and each entry is the number of an action
-pub record Readable (w l : List ℕ) : Type 0 where
-  pub accepted : Accepted w
-  pub few : length l ≤ most-steps
-  pub known : Entries-known w l
+use Rattle.plan.proofs.FaultLaws.{Unmet, runs-faultless, faultless-runs, fault-told}
+use Rattle.plan.proofs.PlanLaws.{steps-known, sheet-answers, list-answers, listed-entries, entries-listed, fault-answers, faultless-passes, passes-faultless}
+use Rattle.plan.specs.Readable.{Entries-known, Readable}
 
 -- where a list that can be read is no plan: place k is that of the first step that can't be done, or one past the last and only the goal is unmet
 abbrev pub Fails-at : List ℕ → List ℕ → ℕ → Type 0
 Fails-at w l k = Stuck (initial w) (steps w l) k ⊎ ((k ≡ length l + 1) × Unmet (goal w) (initial w) (steps w l))
 
--- what holds of the check of a list l that can be read, of the task w
+-- what holds of the check of a list l that can be read, of the sheet w
 pub record Told-truly (w l : List ℕ) : Type 0 where
   -- a list that passes is a plan
   pub passed-plan : answer (plan-checks w l) ≡ none → Plan (task w) (steps w l)

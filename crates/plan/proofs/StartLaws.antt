@@ -5,9 +5,9 @@ use mathlib.Core.List.{List}
 use lib.ListN.{set}
 use lib.Seq.{sets}
 use native.Mathlib.Nat.{sub-zero}
-use Rattle.task.specs.Layout.{variables, start}
-use Rattle.task.specs.Decode.{table, initial}
-use Rattle.task.proofs.TableLaws.{stores-over, stores-next}
+use Rattle.sheet.specs.Layout.{variables, start}
+use Rattle.sheet.specs.Decode.{table, initial}
+use Rattle.sheet.proofs.TableLaws.{stores-over, stores-next}
 
 -- a state with the starting values of the variables from v up to n stored in it
 unfoldable pub started : List ℕ → List ℕ → ℕ → ℕ → List ℕ

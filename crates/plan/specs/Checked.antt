@@ -5,19 +5,19 @@ use mathlib.Core.Option.{Option, none, some}
 use mathlib.Core.List.{List, [], _∷_, _++_}
 use lib.ListN.{length, getD, replicate}
 use lib.Dec.{ltb, leb}
-use Rattle.common.specs.declared.place.Place.{Place}
-use Rattle.common.specs.Place.{when, first-of}
-use Rattle.common.specs.Refusal.{Told, told-refusal}
-use Rattle.common.specs.Check.{Check, answer}
+use Rattle.refusal.specs.declared.place.Place.{Place}
+use Rattle.refusal.specs.Place.{when, first-of}
+use Rattle.refusal.specs.Refusal.{Told, told-refusal}
+use Rattle.refusal.specs.Check.{Check, answer}
 use Rattle.sas.specs.Task.{State}
 use Rattle.sas.specs.Plan.{cost}
 use Rattle.sas.specs.Pad.{pad}
 use Rattle.tally.specs.declared.Tally.{Tally}
 use Rattle.tally.specs.Tally.{nothing}
-use Rattle.task.specs.Limits.{limits}
-use Rattle.task.specs.Layout.{actions}
-use Rattle.task.specs.Decode.{goal, initial}
-use Rattle.task.specs.Causes.{sheet-checks}
+use Rattle.sheet.specs.Limits.{limits}
+use Rattle.sheet.specs.Layout.{actions}
+use Rattle.sheet.specs.Decode.{goal, initial}
+use Rattle.sheet.specs.Causes.{sheet-checks}
 use Rattle.plan.specs.declared.check.Answer.{Answer}
 use Rattle.plan.specs.declared.check.Answer.the-variants.{Valid, Refused}
 use Rattle.plan.specs.Limits.{most-steps}
@@ -60,7 +60,7 @@ tally-of w l = elim (answer (plan-checks w l)) [ none ↦ record { cost = cost (
 unfoldable pub end-state : List ℕ → List ℕ → State
 end-state w l = elim (answer (plan-checks w l)) [ none ↦ pad (limits .variables) (final (initial w) (steps w l)) | some t ↦ replicate (limits .variables) 0 ]
 
--- the check of the list l of the task w
+-- the check of the list l of the sheet w
 pub record Checks (w l : List ℕ) (given : Answer) (state : List ℕ) : Type 0 where
   pub refusal : told-answer given ≡ answer (plan-checks w l)
   pub tally : told-tally given ≡ tally-of w l

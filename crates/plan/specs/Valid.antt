@@ -2,12 +2,12 @@
 use Prim.Native.Nat.{ℕ, _+_}
 use mathlib.Core.Bool.{true, false, not}
 use mathlib.Core.List.{List, [], _∷_, map}
-use Rattle.common.specs.declared.place.Place.{Place}
-use Rattle.common.specs.declared.place.Place.the-variants.{At}
-use Rattle.common.specs.Place.{when}
+use Rattle.refusal.specs.declared.place.Place.{Place}
+use Rattle.refusal.specs.declared.place.Place.the-variants.{At}
+use Rattle.refusal.specs.Place.{when}
 use Rattle.sas.specs.Task.{Assignment, State, Action}
 use Rattle.sas.specs.Plan.{satisfies, applicable, apply}
-use Rattle.task.specs.Decode.{action}
+use Rattle.sheet.specs.Decode.{action}
 
 -- the actions of a list's steps
 abbrev pub steps : List ℕ → List ℕ → List Action

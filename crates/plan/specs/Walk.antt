@@ -2,9 +2,9 @@
 use mathlib.Core.Path.{_≡_}
 use mathlib.Core.List.{List, map}
 use Prim.Native.Nat.{ℕ}
-use Rattle.common.specs.declared.place.Place.the-variants.{Nowhere}
-use Rattle.task.specs.Layout.{cost-word}
-use Rattle.task.specs.Decode.{goal}
+use Rattle.refusal.specs.declared.place.Place.the-variants.{Nowhere}
+use Rattle.sheet.specs.Layout.{cost-word}
+use Rattle.sheet.specs.Decode.{goal}
 use Rattle.tally.specs.Tally.{nothing, after}
 use Rattle.plan.specs.declared.walk.Walked.{Walked}
 use Rattle.plan.specs.Valid.{steps, fault, final}

@@ -2,16 +2,16 @@
 use crate::list::check_list;
 use crate::start::initial;
 use crate::walk::walk;
-use common::place::Place;
-use common::refusal::Refusal;
-use common::refusal::Verdict;
+use refusal::Refusal;
+use refusal::Verdict;
+use refusal::place::Place;
+use sheet::check::check_sheet;
+use sheet::limits::Sheet;
 use step::one::State;
 use tally::Tally;
-use task::limits::Task;
-use task::sheet::check_sheet;
 ghost use mathlib.Core.Path.{_≡_};
 ghost use lib.ListN.{replicate};
-ghost use Rattle.task.specs.Limits.{limits};
+ghost use Rattle.sheet.specs.Limits.{limits};
 ghost use Rattle.plan.specs.declared.check.Answer.the-variants.{Refused};
 ghost use Rattle.plan.specs.Checked.{Checks};
 
@@ -34,7 +34,7 @@ fn refused(refusal: Refusal) -> Checked
     Checked {
         answer: Answer::Refused(refusal),
         state: State {
-            values: [0u32; Task::VARIABLES],
+            values: [0u32; Sheet::VARIABLES],
         },
     }
 }

@@ -1,12 +1,12 @@
 // The checks of a plan's entries: refusal 8, too many steps, and 9, an unknown action.
 use crate::limits::Plan;
-use common::place::Place;
-use common::refusal::Refusal;
-use common::refusal::Verdict;
-use task::layout::actions;
+use refusal::Refusal;
+use refusal::Verdict;
+use refusal::place::Place;
+use sheet::layout::actions;
 ghost use mathlib.Core.Path.{_≡_};
-ghost use Rattle.common.specs.Refusal.{told};
-ghost use Rattle.common.specs.Check.{answer};
+ghost use Rattle.refusal.specs.Refusal.{told};
+ghost use Rattle.refusal.specs.Check.{answer};
 ghost use Rattle.plan.specs.Checked.{unknown-place, list-checks};
 
 // The position of the first unknown action.

@@ -1,21 +1,21 @@
 // The steps of a plan in turn.
-use common::place::Place;
+use refusal::place::Place;
+use sheet::layout::cost;
+use sheet::limits::Sheet;
 use step::advance::advance;
 use step::advance::goal_holds;
 use tally::Tally;
-use task::layout::cost;
-use task::limits::Task;
 ghost use Rattle.plan.specs.Walk.{Walks};
 
 // Where a plan fails to be valid, and, where it does not, its tally and the state after its last step.
 pub struct Walked {
     pub fault: Place,
     pub tally: Tally,
-    pub values: [u32; Task::VARIABLES],
+    pub values: [u32; Sheet::VARIABLES],
 }
 
 // Does each step of a plan in turn from a state, and looks at the goal after the last.
-pub fn walk(words: &[u32], plan: &[u32], start: [u32; Task::VARIABLES]) -> Walked
+pub fn walk(words: &[u32], plan: &[u32], start: [u32; Sheet::VARIABLES]) -> Walked
     ensures { λ r. ⌜ Walks (now (words .entry)) (now (plan .entry)) start r ⌝ }
 {
     let mut values = start;

@@ -11,15 +11,11 @@ use Rattle.sas.specs.Task.{Assignment, State, Action}
 use Rattle.sas.specs.Plan.{applicable, apply, run}
 use Rattle.sas.proofs.ActionLaws.{result-applicable, result-assigned}
 use Rattle.sas.proofs.RunLaws.{run-nothing, run-end, run-applied}
-use Rattle.reduction.specs.Reduction.{Reduction, kept, valid}
+use Rattle.reduction.specs.Reduction.{Before, Reduction, kept, valid}
 use Rattle.reduction.specs.Landmark.{step}
 use Rattle.reduction.specs.Elimination.{walk, after}
 use Rattle.reduction.proofs.ValidLaws.{valid-first}
 use Rattle.reduction.proofs.TrialLaws.{walk-done, walk-struck, after-done, after-struck}
-
--- the kept steps before index i lead from s to t
-abbrev pub Before : State → List Action → Reduction → ℕ → State → Type 0
-Before s p m i t = run s (kept (take i m) (take i p)) ≡ some t
 
 pub before-first : (s : State) (p : List Action) (m : Reduction) → Before s p m 0 s
 unfolding kept

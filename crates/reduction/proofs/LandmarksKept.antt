@@ -11,10 +11,9 @@ use borrow.Author.Tests.{not-true}
 use Rattle.sas.specs.Task.{Fact, Assignment, State, Action}
 use Rattle.sas.specs.Plan.{holds, result}
 use Rattle.sas.proofs.ActionLaws.{may-write, stays-false}
-use Rattle.reduction.specs.Reduction.{Reduction, keeps, kept, valid}
+use Rattle.reduction.specs.Reduction.{Reduction, keeps, kept, valid, Contains}
 use Rattle.reduction.specs.Wanted.{has, wanted, landmarks-behind, landmarks}
 use Rattle.reduction.proofs.ValidLaws.{valid-first}
-use Rattle.reduction.proofs.ReductionLaws.{Contains}
 use Rattle.reduction.proofs.MemberLaws.{or-neither, found-passes, has-no-member}
 use Rattle.reduction.proofs.WantedLaws.{wanted-holds}
 

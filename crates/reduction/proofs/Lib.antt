@@ -22,3 +22,15 @@ pub mod EliminationTheorem
 pub mod BeforeLaws
 -- PaddedLaws: zeros at the end of a state change nothing for trials and eliminations.
 pub mod PaddedLaws
+-- WinsLaws: when one reduction of a plan wins against another.
+pub mod WinsLaws
+-- MinimalTheorem: every plan has just one minimal reduction, it is computed, and nothing more can be struck of what it leaves.
+pub mod MinimalTheorem
+-- TurnLaws: what each turn of the search does, by its cases.
+pub mod TurnLaws
+-- SearchTheorem: the search returns the minimal reduction.
+pub mod SearchTheorem
+-- MinimalPadded: zeros at the end of a state change nothing for the minimal reduction.
+pub mod MinimalPadded
+-- Starred: the worked lists of document 01 that carry a star.
+pub mod Starred

@@ -10,7 +10,7 @@ use lib.Dec.{ltb}
 use borrow.Author.Tests.{ltb-true, ltb-false}
 use Rattle.sas.specs.Task.{Assignment, State, Action, Task}
 use Rattle.sas.specs.Plan.{cost, Plan}
-use Rattle.reduction.specs.Reduction.{Reduction, keeps, kept, count, whole, Valid-reduction}
+use Rattle.reduction.specs.Reduction.{Contains, Reduction, keeps, kept, count, whole, Valid-reduction}
 use Rattle.reduction.proofs.ValidLaws.{valid-plan}
 
 pub kept-whole : {A : Type 0} (p : List A) → kept (whole p) p ≡ p
@@ -63,10 +63,6 @@ kept-compose (true ∷ r) (false ∷ m) (a ∷ p) = kept-compose r m p
 pub compose-valid : {s : State} {goal : Assignment} (p : List Action) (r m : Reduction) → length r ≡ length p → Valid-reduction s goal (kept r p) m
     → Valid-reduction s goal p (compose r m)
 compose-valid p r m fits v = record { fits = compose-length r m ∙ fits; valid-left = rw kept-compose (v .valid-left) }
-
--- the second reduction is the first with none, some or all of its steps struck
-abbrev pub Contains : Reduction → Reduction → Type 0
-Contains m n = (i : ℕ) → keeps n i → keeps m i
 
 pub count-whole : {A : Type 0} (p : List A) → count (whole p) ≡ length p
 unfolding count

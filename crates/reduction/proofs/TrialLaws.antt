@@ -11,10 +11,10 @@ use Rattle.sas.specs.Task.{Assignment, State, Action}
 use Rattle.sas.specs.Plan.{satisfies, applicable, apply, run}
 use Rattle.sas.proofs.ActionLaws.{result-applicable, result-assigned}
 use Rattle.sas.proofs.RunLaws.{run-nothing, run-applied}
-use Rattle.reduction.specs.Reduction.{Reduction, keeps, kept, count, valid}
+use Rattle.reduction.specs.Reduction.{Reduction, keeps, kept, count, valid, Contains}
 use Rattle.reduction.specs.Elimination.{walk, after, trial}
 use Rattle.reduction.proofs.ValidLaws.{runs-valid, valid-first}
-use Rattle.reduction.proofs.ReductionLaws.{Contains, strike-count, struck-count}
+use Rattle.reduction.proofs.ReductionLaws.{strike-count, struck-count}
 
 module _ (s : State) (a : Action) (p : List Action) (m : Reduction) where
   -- a kept step that can be done stays

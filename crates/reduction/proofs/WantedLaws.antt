@@ -13,11 +13,10 @@ use Rattle.sas.specs.Task.{Fact, Assignment, State, Action}
 use Rattle.sas.specs.Plan.{holds, result}
 use Rattle.sas.proofs.FactLaws.{satisfied-holds}
 use Rattle.sas.proofs.ActionLaws.{may-write, needs, result-applicable, needed-holds, written-or-held}
-use Rattle.reduction.specs.Reduction.{Reduction, keeps, kept, valid}
+use Rattle.reduction.specs.Reduction.{Reduction, keeps, kept, valid, Contains}
 use Rattle.reduction.specs.Landmark.{step}
 use Rattle.reduction.specs.Wanted.{has, wanted}
 use Rattle.reduction.proofs.ValidLaws.{valid-end, valid-first}
-use Rattle.reduction.proofs.ReductionLaws.{Contains}
 use Rattle.reduction.proofs.MemberLaws.{or-cases, has-member, member-has, has-no-member, no-member-has}
 
 pub keeps-later : (m : Reduction) (i : ℕ) → getD (drop 1 m) i false ≡ getD m (suc i) false

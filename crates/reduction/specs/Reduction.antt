@@ -4,7 +4,7 @@ use mathlib.Core.Path.{_≡_}
 use mathlib.Core.Bool.{Bool, true, false, _&&_, _||_}
 use mathlib.Core.Option.{none, some}
 use mathlib.Core.List.{List, [], _∷_}
-use lib.ListN.{length, getD, replicate}
+use lib.ListN.{length, getD, take, replicate}
 use lib.Dec.{ltb, eqb}
 use Rattle.sas.specs.Task.{Assignment, State, Action}
 use Rattle.sas.specs.Plan.{satisfies, run, cost}
@@ -46,3 +46,11 @@ pub record Valid-reduction (s : State) (goal : Assignment) (p : List Action) (m 
 -- of two lists the first has the lower price, or the same price and fewer steps
 unfoldable pub lower : List Action → List Action → Bool
 lower p q = ltb (cost p) (cost q) || (eqb (cost p) (cost q) && ltb (length p) (length q))
+
+-- the second reduction is the first with none, some or all of its steps struck
+abbrev pub Contains : Reduction → Reduction → Type 0
+Contains m n = (i : ℕ) → keeps n i → keeps m i
+
+-- the kept steps before index i lead from s to t
+abbrev pub Before : State → List Action → Reduction → ℕ → State → Type 0
+Before s p m i t = run s (kept (take i m) (take i p)) ≡ some t

@@ -8,17 +8,17 @@ use mathlib.Core.List.{List, []}
 use lib.ListN.{length, length-replicate, length-map}
 use Rattle.sas.specs.Task.{State}
 use Rattle.reduction.specs.Reduction.{Reduction, whole}
-use Rattle.exact.specs.Search.Turn.{strike, keep}
-use Rattle.exact.proofs.TurnLaws.{search-turns}
-use Rattle.task.specs.Decode.{goal, action}
+use Rattle.reduction.specs.Search.Turn.{strike, keep}
+use Rattle.reduction.proofs.TurnLaws.{search-turns}
+use Rattle.sheet.specs.Decode.{goal, action}
 use Rattle.plan.specs.Limits.{most-steps}
 use Rattle.plan.specs.Valid.{steps}
-use Rattle.plan.proofs.PlanTheorem.{Readable}
-use Rattle.wanted.specs.Bits.{bits-walked, goal-table}
-use Rattle.reduced.specs.declared.finish.Kept.{Kept}
-use Rattle.reduced.specs.Held.{start, mask, held, Leaves}
-use Rattle.reduced.proofs.HeldLaws.{leaves}
+use Rattle.cuts.specs.Bits.{bits-walked, goal-table}
+use Rattle.service.specs.declared.finish.Kept.{Kept}
+use Rattle.service.specs.Held.{start, mask, held, Leaves}
+use Rattle.service.proofs.HeldLaws.{leaves}
 use Rattle.search.specs.Told.{Tells, Ready, Turns, Finds}
+use Rattle.plan.specs.Readable.{Readable}
 
 -- the flags of the lodged plan
 pub lodged-leaves : (l : List ℕ) (flags : Reduction) → flags ≡ held l (whole l) → Leaves l (whole l) flags

@@ -11,20 +11,20 @@ use lib.Seq.{getD-drop, drop-drop, drop-set-lt}
 use Rattle.sas.specs.Task.{State, Action}
 use Rattle.sas.specs.Plan.{satisfies, applicable, apply}
 use Rattle.reduction.specs.Reduction.{Reduction, kept, lower}
-use Rattle.exact.specs.Search.{may-strike}
-use Rattle.exact.specs.Search.Turn.{strike, keep}
-use Rattle.exact.proofs.TurnLaws.{strike-met, strike-unmet, strike-not-lower, keep-end, strike-barred, strike-goes-on, keep-stuck, keep-not-lower, keep-goes-on}
+use Rattle.reduction.specs.Search.{may-strike}
+use Rattle.reduction.specs.Search.Turn.{strike, keep}
+use Rattle.reduction.proofs.TurnLaws.{strike-met, strike-unmet, strike-not-lower, keep-end, strike-barred, strike-goes-on, keep-stuck, keep-not-lower, keep-goes-on}
 use Rattle.tally.specs.Tally.{comparison}
-use Rattle.task.specs.Decode.{goal, action}
+use Rattle.sheet.specs.Decode.{goal, action}
 use Rattle.step.specs.Advance.{Advances}
 use Rattle.plan.specs.Valid.{steps}
-use Rattle.plan.proofs.ValidLaws.{drop-next}
-use Rattle.wanted.specs.Bits.{strikes}
-use Rattle.wanted.proofs.BitTheorem.{strikes-right}
-use Rattle.reduced.specs.declared.finish.Kept.{Kept}
-use Rattle.reduced.specs.Tallied.{is-less}
+use Rattle.plan.proofs.FaultLaws.{drop-next}
+use Rattle.cuts.specs.Bits.{strikes}
+use Rattle.cuts.proofs.BitTheorem.{strikes-right}
+use Rattle.service.specs.declared.finish.Kept.{Kept}
+use Rattle.service.specs.Tallied.{is-less}
 use Rattle.search.specs.Told.{Tells, Keeps-step, Ready, Turns}
-use Rattle.search.proofs.KeptLaws.{tells-lower}
+use Rattle.search.proofs.SoFarLaws.{tells-lower}
 
 -- what two reductions have from index i on alike they have from the next on, and at i
 alike-later : (m g : Reduction) (i : ℕ) → drop i m ≡ drop i g → drop (i + 1) m ≡ drop (i + 1) g

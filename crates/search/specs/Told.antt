@@ -6,15 +6,15 @@ use mathlib.Core.List.{List}
 use lib.ListN.{length, getD, set, drop}
 use Rattle.sas.specs.Task.{State}
 use Rattle.reduction.specs.Reduction.{Reduction}
-use Rattle.exact.specs.Search.{Turn, turn, search}
+use Rattle.reduction.specs.Search.{Turn, turn, search}
 use Rattle.mask.specs.Mask.{mask-words}
-use Rattle.task.specs.Decode.{goal}
+use Rattle.sheet.specs.Decode.{goal}
 use Rattle.plan.specs.Valid.{steps}
-use Rattle.plan.proofs.PlanTheorem.{Readable}
-use Rattle.wanted.specs.Bits.{bits-walked, goal-table}
-use Rattle.reduced.specs.declared.finish.Kept.{Kept}
-use Rattle.reduced.specs.Held.{start}
-use Rattle.reduced.specs.Reduced.{tally-left}
+use Rattle.cuts.specs.Bits.{bits-walked, goal-table}
+use Rattle.service.specs.declared.finish.Kept.{Kept}
+use Rattle.service.specs.Held.{start}
+use Rattle.service.specs.Reduced.{tally-left}
+use Rattle.plan.specs.Readable.{Readable}
 
 -- k tells the reduction m of the list l
 pub record Tells (w l : List ℕ) (m : Reduction) (k : Kept) : Type 0 where

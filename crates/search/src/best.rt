@@ -1,18 +1,18 @@
 // The search from the starting values.
 use crate::turns::keep;
 use crate::turns::strike;
+use cuts::bits::wanted_bits;
 use mask::mask_of;
 use plan::limits::Plan;
 use plan::start::initial;
-use reduced::finish::Kept;
-use reduced::held::all_kept;
-use reduced::tallied::tally_of;
-use wanted::bits::wanted_bits;
+use service::finish::Kept;
+use service::held::all_kept;
+use service::tallied::tally_of;
 ghost use mathlib.Core.Path.{_≡_};
 ghost use lib.ListN.{length};
-ghost use Rattle.plan.proofs.PlanTheorem.{Readable};
 ghost use Rattle.reduction.specs.Reduction.{whole};
 ghost use Rattle.search.specs.Told.{Tells, Finds};
+ghost use Rattle.plan.specs.Readable.{Readable};
 
 // The tally and the mask of the reduction that flags are.
 fn told(words: &[u32], plan: &[u32], flags: &[bool]) -> Kept

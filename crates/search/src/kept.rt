@@ -1,13 +1,13 @@
 // A reduction on its way, told by its tally and its mask.
-use common::access::flag;
-use common::access::word;
-use reduced::finish::Kept;
+use access::flag;
+use access::word;
+use service::finish::Kept;
+use sheet::layout::cost;
 use tally::Order;
 use tally::Tally;
-use task::layout::cost;
 ghost use mathlib.Core.Path.{_≡_};
 ghost use Rattle.tally.specs.Tally.{comparison};
-ghost use Rattle.reduced.specs.Tallied.{is-less};
+ghost use Rattle.service.specs.Tallied.{is-less};
 ghost use Rattle.search.specs.Told.{Keeps-step};
 
 // Whether the first of two tallies is the lower.

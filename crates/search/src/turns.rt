@@ -1,18 +1,18 @@
 // The two turns of the search: at each step the striking turn, then the keeping turn, each with the best reduction found before it.
 use crate::kept::is_lower;
 use crate::kept::keep_step;
-use common::access::word;
-use reduced::finish::Kept;
+use access::word;
+use cuts::hold::may_strike;
+use service::finish::Kept;
+use sheet::limits::Sheet;
 use step::advance::advance;
 use step::advance::goal_holds;
-use task::limits::Task;
-use wanted::hold::may_strike;
 ghost use mathlib.Core.Path.{_≡_};
-ghost use Rattle.exact.specs.Search.Turn.{strike as striking, keep as keeping};
+ghost use Rattle.reduction.specs.Search.Turn.{strike as striking, keep as keeping};
 ghost use Rattle.search.specs.Told.{Turns};
 
 // The values of a lent state. A call's result has its length in its type, which what is read behind a reference has not.
-fn copied(values: &[u32; Task::VARIABLES]) -> [u32; Task::VARIABLES]
+fn copied(values: &[u32; Sheet::VARIABLES]) -> [u32; Sheet::VARIABLES]
     ensures { λ r. ⌜ r ≡ now (values .entry) ⌝ }
 {
     *values
@@ -26,7 +26,7 @@ pub(crate) fn strike(
     flags: &[bool],
     bits: &[u64],
     i: usize,
-    values: &[u32; Task::VARIABLES],
+    values: &[u32; Sheet::VARIABLES],
     held: Kept,
     best: Kept,
 ) -> Kept
@@ -55,7 +55,7 @@ pub(crate) fn keep(
     flags: &[bool],
     bits: &[u64],
     i: usize,
-    values: &[u32; Task::VARIABLES],
+    values: &[u32; Sheet::VARIABLES],
     held: Kept,
     best: Kept,
 ) -> Kept

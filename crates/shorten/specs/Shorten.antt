@@ -3,20 +3,20 @@ use Prim.Native.Nat.{ℕ}
 use mathlib.Core.Option.{Option, none, some}
 use mathlib.Core.List.{List}
 use lib.ListN.{length, replicate}
-use Rattle.common.specs.Refusal.{Told}
-use Rattle.common.specs.Check.{answer}
+use Rattle.refusal.specs.Refusal.{Told}
+use Rattle.refusal.specs.Check.{answer}
 use Rattle.sas.specs.Plan.{cost}
 use Rattle.reduction.specs.Reduction.{count}
 use Rattle.reduction.specs.Wanted.{landmarks}
 use Rattle.tally.specs.declared.Tally.{Tally}
 use Rattle.tally.specs.Tally.{nothing}
 use Rattle.mask.specs.Mask.{mask-length, mask-words}
-use Rattle.task.specs.Decode.{goal, initial}
+use Rattle.sheet.specs.Decode.{goal, initial}
 use Rattle.plan.specs.Valid.{steps}
 use Rattle.plan.specs.Checked.{told-answer, told-tally}
-use Rattle.reduced.specs.Reduced.{tally-left}
-use Rattle.minimal.specs.Minimal.{most-unmarked, exact-checks, exact-of}
-use Rattle.form.specs.Due.{due}
+use Rattle.service.specs.Reduced.{tally-left}
+use Rattle.minimal.specs.Minimised.{most-unmarked, minimal-checks, minimal-of}
+use Rattle.program.specs.Due.{due}
 use Rattle.shorten.specs.declared.shortened.Shortened.{Shortened}
 
 -- the refusal, if there is one, the tally of the lodged list, the number of its marked steps, and the tally and the mask of those kept
@@ -36,20 +36,20 @@ outcome-of r =
 abbrev pub refused : Told → Outcome
 refused t = record { refusal = some t; lodged = nothing; marked = 0; kept = nothing; mask = replicate mask-length 0 }
 
--- what is told of the list l of the task w, where nothing is refused
+-- what is told of the list l of the sheet w, where nothing is refused
 abbrev pub reduced : List ℕ → List ℕ → Outcome
 reduced w l =
     record {
       refusal = none;
       lodged = record { cost = cost (steps w l); steps = length l };
       marked = count (landmarks (initial w) (goal w) (steps w l));
-      kept = tally-left w l (exact-of w l);
-      mask = mask-words (exact-of w l);
+      kept = tally-left w l (minimal-of w l);
+      mask = mask-words (minimal-of w l);
     }
 
--- what is due to the list l of the task w: the first of the checks 1 to 12 that fires refuses it; the program's own output has room for every list that it reads
+-- what is due to the list l of the sheet w: the first of the checks 1 to 12 that fires refuses it; the program's own output has room for every list that it reads
 unfoldable pub shortened : List ℕ → List ℕ → Outcome
-shortened w l = elim (answer (exact-checks most-unmarked w l (length l))) [ none ↦ reduced w l | some t ↦ refused t ]
+shortened w l = elim (answer (minimal-checks most-unmarked w l (length l))) [ none ↦ reduced w l | some t ↦ refused t ]
 
 -- what is due to the bytes of an input
 abbrev pub outcome : List ℕ → Outcome

@@ -6,10 +6,10 @@ mod shortened;
 
 use crate::report::print_shortened;
 use crate::shortened::shorten_input;
-use form::framing::BYTES;
-use form::input::read;
-use form::output::print_refusal;
 use plan::check::Answer;
+use program::framing::BYTES;
+use program::input::read;
+use program::output::print_refusal;
 
 fn main() {
     let mut bytes = [0u8; BYTES];

@@ -1,18 +1,18 @@
 // What the program prints of an input whose plan is shortened.
 use crate::shortened::Shortened;
-use common::access::front;
-use common::access::word;
-use form::frame::Frame;
-use form::framing::WORDS;
-use form::framing::frame;
-use form::output::print_line;
-use form::output::print_one;
-use form::output::print_three;
-use form::parts::plan_part;
-use form::unpack::unpack;
+use access::front;
+use access::word;
 use mask::Mask;
+use program::frame::Frame;
+use program::framing::WORDS;
+use program::framing::frame;
+use program::output::print_line;
+use program::output::print_one;
+use program::output::print_three;
+use program::parts::plan_part;
+use program::unpack::unpack;
+use sheet::layout::cost;
 use tally::Tally;
-use task::layout::cost;
 
 // A line for each kept step: its position, its action and its cost.
 fn print_steps(words: &[u32], plan: &[u32], mask: Mask) {

@@ -4,14 +4,14 @@ use Prim.Native.Nat.{ℕ}
 use mathlib.Core.Path.{_≡_, refl, sym, _∙_, ap}
 use mathlib.Core.Bool.{true, false}
 use mathlib.Core.List.{List}
-use Rattle.common.specs.declared.place.Place.{Place}
-use Rattle.common.specs.declared.place.Place.the-variants.{Nowhere, At}
+use Rattle.refusal.specs.declared.place.Place.{Place}
+use Rattle.refusal.specs.declared.place.Place.the-variants.{Nowhere, At}
 use Rattle.sas.specs.Plan.{satisfies, applicable, assign}
-use Rattle.task.specs.Layout.{goal-start, goal-end, precondition-start, effect-start, effect-end}
-use Rattle.task.specs.Decode.{facts, goal, action}
+use Rattle.sheet.specs.Layout.{goal-start, goal-end, precondition-start, effect-start, effect-end}
+use Rattle.sheet.specs.Decode.{facts, goal, action}
 use Rattle.step.specs.Failing.{failing-place}
 use Rattle.step.specs.Advance.{Advances}
-use Rattle.step.proofs.FactLaws.{nowhere, satisfied}
+use Rattle.step.proofs.FailingLaws.{nowhere, satisfied}
 
 -- an action can be done just where none of its precondition facts is found to fail
 applicable-place : (w s : List ℕ) (a from to : ℕ) (p : Place) → from ≡ precondition-start w a → to ≡ effect-start w a → p ≡ failing-place w s from to → applicable s (action w a) ≡ nowhere p

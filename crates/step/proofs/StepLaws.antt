@@ -6,18 +6,18 @@ use mathlib.Core.Bool.{Bool, true, false, not}
 use mathlib.Core.Option.{none, some}
 use mathlib.Core.List.{List, [], _∷_}
 use borrow.Author.Tests.{le-leb, lt-leb}
-use Rattle.common.specs.declared.refusal.Refusal.{Refusal}
-use Rattle.common.specs.declared.refusal.Refusal.the-variants.{UnknownAction, NotAPlan}
-use Rattle.common.specs.declared.refusal.Verdict.{Verdict}
-use Rattle.common.specs.declared.refusal.Verdict.the-variants.{Passed, Refused}
-use Rattle.common.specs.Place.{when}
-use Rattle.common.specs.Refusal.{Told, told-refusal, told}
-use Rattle.common.specs.Check.{answer}
-use Rattle.common.proofs.CheckLaws.{answer-fires, answer-passes, answer-first, answer-second}
+use Rattle.refusal.specs.declared.Refusal.{Refusal}
+use Rattle.refusal.specs.declared.Refusal.the-variants.{UnknownAction, NotAPlan}
+use Rattle.refusal.specs.declared.Verdict.{Verdict}
+use Rattle.refusal.specs.declared.Verdict.the-variants.{Passed, Refused}
+use Rattle.refusal.specs.Place.{when}
+use Rattle.refusal.specs.Refusal.{Told, told-refusal, told}
+use Rattle.refusal.specs.Check.{answer}
+use Rattle.refusal.proofs.CheckLaws.{answer-fires, answer-passes, answer-first, answer-second}
 use Rattle.sas.specs.Plan.{applicable}
-use Rattle.task.specs.Layout.{actions}
-use Rattle.task.specs.Decode.{action}
-use Rattle.task.specs.Causes.{sheet-checks}
+use Rattle.sheet.specs.Layout.{actions}
+use Rattle.sheet.specs.Decode.{action}
+use Rattle.sheet.specs.Causes.{sheet-checks}
 use Rattle.step.specs.Advance.{Advances}
 use Rattle.step.specs.Step.{own-checks, step-checks, state-after, Steps, Tries}
 

@@ -9,23 +9,23 @@ use mathlib.Core.Option.{Option, none, some}
 use mathlib.Core.List.{List, List·Memᴰ}
 use lib.ListN.{length, getD}
 use borrow.Author.Tests.{leb-false}
-use Rattle.common.specs.Refusal.{Told}
-use Rattle.common.specs.Check.{answer}
-use Rattle.common.proofs.PlaceLaws.{when-nowhere}
-use Rattle.common.proofs.CheckLaws.{none-fires, answer-second, first-none}
+use Rattle.refusal.specs.Refusal.{Told}
+use Rattle.refusal.specs.Check.{answer}
+use Rattle.refusal.proofs.PlaceLaws.{when-nowhere}
+use Rattle.refusal.proofs.CheckLaws.{none-fires, answer-second, first-none}
 use Rattle.sas.specs.Task.{Fact}
 use Rattle.sas.specs.Plan.{assign}
 use Rattle.sas.specs.WellFormed.{Rising}
 use Rattle.sas.proofs.FactLaws.{holds-value}
 use Rattle.sas.proofs.WellFormedLaws.{rising-known}
 use Rattle.sas.proofs.AssignLaws.{assign-length, assign-other, assigned-holds}
-use Rattle.task.specs.Layout.{variables, actions}
-use Rattle.task.specs.Decode.{domains, action, task}
-use Rattle.task.specs.Causes.{sheet-checks, Accepted}
-use Rattle.task.proofs.Accepted.{domains-length, action-known, accepted-well-formed}
+use Rattle.sheet.specs.Layout.{variables, actions}
+use Rattle.sheet.specs.Decode.{domains, action, task}
+use Rattle.sheet.specs.Causes.{sheet-checks, Accepted}
+use Rattle.sheet.proofs.Accepted.{domains-length, action-known, accepted-well-formed}
 use Rattle.step.specs.Step.{own-checks, step-checks, state-after}
 
--- what holds of the state after a step of action a of the task w in the state s
+-- what holds of the state after a step of action a of the sheet w in the state s
 pub record After (w s : List ℕ) (a : ℕ) : Type 0 where
   -- a refused step leaves the state, all its values
   pub refused : (t : Told) → answer (step-checks w s a) ≡ some t → state-after w s a ≡ s

@@ -2,11 +2,11 @@
 use Prim.Native.Nat.{ℕ}
 use mathlib.Core.Bool.{not}
 use mathlib.Core.List.{List}
-use Rattle.common.specs.declared.place.Place.{Place}
-use Rattle.common.specs.Place.{first}
+use Rattle.refusal.specs.declared.place.Place.{Place}
+use Rattle.refusal.specs.Place.{first}
 use Rattle.sas.specs.Plan.{holds}
-use Rattle.task.specs.Layout.{word}
-use Rattle.task.specs.Decode.{fact-of}
+use Rattle.sheet.specs.Layout.{word}
+use Rattle.sheet.specs.Decode.{fact-of}
 
 -- the word of the first fact, from word i up to end, that does not hold in the state
 unfoldable pub failing-place : List ℕ → List ℕ → ℕ → ℕ → Place

@@ -5,14 +5,14 @@ use mathlib.Core.Bool.{not}
 use mathlib.Core.Option.{none, some}
 use mathlib.Core.List.{List, [], _∷_, _++_}
 use lib.Dec.{leb}
-use Rattle.common.specs.declared.refusal.Verdict.{Verdict}
-use Rattle.common.specs.Place.{when}
-use Rattle.common.specs.Refusal.{told}
-use Rattle.common.specs.Check.{Check, answer}
+use Rattle.refusal.specs.declared.Verdict.{Verdict}
+use Rattle.refusal.specs.Place.{when}
+use Rattle.refusal.specs.Refusal.{told}
+use Rattle.refusal.specs.Check.{Check, answer}
 use Rattle.sas.specs.Plan.{applicable, apply}
-use Rattle.task.specs.Layout.{actions}
-use Rattle.task.specs.Decode.{action}
-use Rattle.task.specs.Causes.{sheet-checks}
+use Rattle.sheet.specs.Layout.{actions}
+use Rattle.sheet.specs.Decode.{action}
+use Rattle.sheet.specs.Causes.{sheet-checks}
 
 -- a step's own checks: 9, an unknown action; 11, a step that can't be done; both at place 1
 unfoldable pub own-checks : List ℕ → List ℕ → ℕ → List Check
@@ -29,7 +29,7 @@ step-checks w s a = sheet-checks w ++ own-checks w s a
 unfoldable pub state-after : List ℕ → List ℕ → ℕ → List ℕ
 state-after w s a = elim (answer (step-checks w s a)) [ none ↦ apply s (action w a) | some t ↦ s ]
 
--- one step of action a of the task w in the state `before`
+-- one step of action a of the sheet w in the state `before`
 pub record Steps (w before : List ℕ) (a : ℕ) (verdict : Verdict) (after : List ℕ) : Type 0 where
   pub verdict-told : told verdict ≡ answer (step-checks w before a)
   pub state : after ≡ state-after w before a

@@ -1,13 +1,13 @@
 // One action in a lent state, and the goal there: what every walk along a plan is made of.
 use crate::facts::first_failing;
 use crate::facts::write_facts;
-use common::place::Place;
-use task::layout::goal_at;
-use task::layout::goal_end;
-use task::layout::parts_of;
+use refusal::place::Place;
+use sheet::layout::goal_at;
+use sheet::layout::goal_end;
+use sheet::layout::parts_of;
 ghost use mathlib.Core.Path.{_≡_};
 ghost use Rattle.sas.specs.Plan.{satisfies};
-ghost use Rattle.task.specs.Decode.{goal};
+ghost use Rattle.sheet.specs.Decode.{goal};
 ghost use Rattle.step.specs.Advance.{Advances};
 
 // Does an action where it is applicable, and leaves the state where it is not; says which.

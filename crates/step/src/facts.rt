@@ -1,20 +1,20 @@
 // The test whether an assignment holds, and the writes of an effect, over the facts that stand among a task's words.
 // Every service that does a step goes through these two.
-use common::access::put;
-use common::access::word;
-use common::place::Place;
-use task::limits::Task;
+use access::put;
+use access::word;
+use refusal::place::Place;
+use sheet::limits::Sheet;
 ghost use mathlib.Core.Path.{_≡_};
 ghost use Rattle.sas.specs.Plan.{holds as holds-in, assign};
-ghost use Rattle.task.specs.Decode.{fact-of, facts};
+ghost use Rattle.sheet.specs.Decode.{fact-of, facts};
 ghost use Rattle.step.specs.Failing.{failing-place};
 
 // Whether the fact that a word is holds in the state.
 pub fn holds(state: &[u32], fact: u32) -> bool
     ensures { λ r. ⌜ r ≡ holds-in (now (state .entry)) (fact-of fact) ⌝ }
 {
-    let variable = fact as usize / Task::VALUES;
-    let value = fact as usize % Task::VALUES;
+    let variable = fact as usize / Sheet::VALUES;
+    let value = fact as usize % Sheet::VALUES;
     if variable < state.len() {
         state[variable] as usize == value
     } else {
@@ -47,8 +47,8 @@ pub fn write_facts(words: &[u32], state: &mut [u32], i: usize, end: usize)
         let fact = word(words, at);
         put(
             state,
-            fact as usize / Task::VALUES,
-            fact % Task::VALUES as u32,
+            fact as usize / Sheet::VALUES,
+            fact % Sheet::VALUES as u32,
         );
         at += 1;
     }

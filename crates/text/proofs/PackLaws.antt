@@ -6,7 +6,7 @@ use mathlib.Core.Path.{_≡_, refl, _∙_, ap, sym}
 use mathlib.Core.List.{List, [], _∷_, _++_, append-assoc, append-nil}
 use lib.ListN.{length, take, getD, set, length-set}
 use lib.Seq.{take-suc, take-suc-set}
-use Rattle.form.specs.Form.{word-bytes, byte-values}
+use Rattle.program.specs.Form.{word-bytes, byte-values}
 use Rattle.text.specs.Pack.{bytes-of, packed}
 
 -- one byte is stored behind those that are there

@@ -11,8 +11,8 @@ use lib.ListN.{length, take, length-append}
 use lib.Seq.{take-at, drop-at}
 use lib.Dec.{ltb, lit<}
 use borrow.Author.Tests.{ltb-true}
-use Rattle.task.specs.Decode.{table}
-use Rattle.form.specs.Form.{word-bytes, byte-values, little-endian, word-at, unpacked}
+use Rattle.sheet.specs.Decode.{table}
+use Rattle.program.specs.Form.{word-bytes, byte-values, little-endian, word-at, unpacked}
 use Rattle.text.specs.Text.{Field, all-digits, decimal-from, word-from, word-of, Reading, Words, NoWord, NoRoom, before, read, words-of}
 use Rattle.text.specs.Pack.{bytes-of, packed, Small, nothing, word}
 

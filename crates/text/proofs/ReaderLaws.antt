@@ -12,7 +12,7 @@ use lib.ListN.{length, take, getD, set, length-append, length-set}
 use lib.Seq.{take-suc, take-suc-set}
 use lib.Dec.{ltb, leb}
 use borrow.Author.Tests.{ltb-true, ltb-false, lt-ltb, le-ltb, le-leb, lt-leb}
-use Rattle.common.proofs.PlaceLaws.{one-fewer, none-left}
+use Rattle.refusal.proofs.PlaceLaws.{one-fewer, none-left}
 use Rattle.text.specs.declared.reader.Mode.{Mode}
 use Rattle.text.specs.declared.reader.Mode.the-variants as mode
 use Rattle.text.specs.declared.reader.Reader.{Reader}

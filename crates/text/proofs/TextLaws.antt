@@ -3,7 +3,7 @@ use Prim.Native.Nat.{ℕ, _+_}
 use mathlib.Core.Path.{_≡_, refl, sym, _∙_, ap}
 use mathlib.Core.Bool.{Bool, true, false, _||_}
 use mathlib.Core.List.{List, [], _∷_, _++_}
-use Rattle.task.proofs.CauseLaws.{neither}
+use Rattle.sheet.proofs.CauseLaws.{neither}
 use Rattle.text.specs.Text.{ends-line, begins-comment, blank, Cut, runs, cut, filled, uncommented, fields, on-line, fields-from}
 use Rattle.text.specs.Reading.{ends-field, line-left, lines-left, after-blank, after-comment, field-left, after-field}
 

@@ -3,7 +3,7 @@ use Prim.Native.Nat.{ℕ, _+_, _≤_}
 use mathlib.Core.Path.{_≡_}
 use mathlib.Core.List.{List}
 use lib.ListN.{length}
-use Rattle.form.specs.Form.{most-words}
+use Rattle.program.specs.Form.{most-words}
 use Rattle.text.specs.declared.input.Found.{Found}
 use Rattle.text.specs.declared.input.Found.the-variants as found
 use Rattle.text.specs.declared.input.Turn.{Turn}

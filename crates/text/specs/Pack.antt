@@ -1,7 +1,7 @@
 -- Words as bytes, the lowest byte of each first; `little-endian` reads them back. Assumes nothing.
 use Prim.Native.Nat.{ℕ, zero, suc, _/_, _%_, _^_, _<_}
 use mathlib.Core.List.{List, [], _∷_, _++_}
-use Rattle.form.specs.Form.{word-bytes, byte-values}
+use Rattle.program.specs.Form.{word-bytes, byte-values}
 
 -- the n lowest bytes of a number
 unfoldable pub bytes-of : ℕ → ℕ → List ℕ

@@ -4,8 +4,8 @@ use crate::reader::Reader;
 use crate::reader::feed_all;
 use crate::reader::finish;
 use crate::reader::start;
-use form::framing::WORDS;
 use libc::STDIN_FILENO;
+use program::framing::WORDS;
 ghost use Prim.Native.Nat.{_+_, _<_, _^_};
 ghost use Rattle.text.specs.Input.{chunk, Turns, Tells};
 

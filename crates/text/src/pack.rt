@@ -1,13 +1,13 @@
 // Words as bytes.
-use common::access::put8;
-use common::access::word;
-use form::word::BYTE;
-use form::word::WORD;
+use access::put8;
+use access::word;
+use program::word::BYTE;
+use program::word::WORD;
 ghost use mathlib.Core.Path.{_≡_};
 ghost use mathlib.Core.List.{_++_};
 ghost use Prim.Native.Nat.{_+_, _*_, _≤_, _<_};
 ghost use lib.ListN.{length, take};
-ghost use Rattle.form.specs.Form.{word-bytes};
+ghost use Rattle.program.specs.Form.{word-bytes};
 ghost use Rattle.text.specs.Pack.{bytes-of, packed};
 
 // Writes a word at index `at`, its lowest byte first.

@@ -1,5 +1,5 @@
 // The reading of a text, byte by byte.
-use common::access::put;
+use access::put;
 ghost use mathlib.Core.Path.{_≡_};
 ghost use mathlib.Core.Bool.{false};
 ghost use mathlib.Core.List.{List, [], _∷_};

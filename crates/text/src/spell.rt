@@ -1,8 +1,8 @@
 // Words spelled in decimal, a line at a time.
 use crate::reader::LINE_END;
 use crate::reader::SPACE;
-use common::access::put8;
-use common::access::word;
+use access::put8;
+use access::word;
 ghost use mathlib.Core.Path.{_≡_};
 ghost use mathlib.Core.List.{_++_};
 ghost use Prim.Native.Nat.{_+_, _*_, _≤_, _<_};

@@ -1,4 +1,4 @@
--- AnswerLaws: the check of a plan tells what the program answers to it.
-pub mod AnswerLaws
--- AnswerTheorem: what it answers to the bytes that it reads is what is due to the whole input.
-pub mod AnswerTheorem
+-- ValidateLaws: the check of a plan tells what the program answers to it.
+pub mod ValidateLaws
+-- ValidateTheorem: what it answers to the bytes that it reads is what is due to the whole input.
+pub mod ValidateTheorem

@@ -2,13 +2,13 @@
 use Prim.Native.Nat.{ℕ}
 use mathlib.Core.Option.{Option, some}
 use mathlib.Core.List.{List}
-use Rattle.common.specs.Refusal.{Told}
-use Rattle.common.specs.Check.{answer}
+use Rattle.refusal.specs.Refusal.{Told}
+use Rattle.refusal.specs.Check.{answer}
 use Rattle.tally.specs.declared.Tally.{Tally}
 use Rattle.tally.specs.Tally.{nothing}
 use Rattle.plan.specs.declared.check.Answer.{Answer}
 use Rattle.plan.specs.Checked.{plan-checks, told-answer, told-tally, tally-of}
-use Rattle.form.specs.Due.{due}
+use Rattle.program.specs.Due.{due}
 
 -- the refusal, if there is one, and the tally
 pub record Outcome : Type 0 where
@@ -23,7 +23,7 @@ outcome-of given = record { refusal = told-answer given; tally = told-tally give
 abbrev pub refused : Told → Outcome
 refused t = record { refusal = some t; tally = nothing }
 
--- those of the check of the plan l of the task w
+-- those of the check of the plan l of the sheet w
 abbrev pub checked : List ℕ → List ℕ → Outcome
 checked w l = record { refusal = answer (plan-checks w l); tally = tally-of w l }
 

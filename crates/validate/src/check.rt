@@ -1,14 +1,14 @@
 // What the program answers to the bytes of its input.
-use common::access::front;
-use common::refusal::Refusal;
-use form::frame::Frame;
-use form::framing::WORDS;
-use form::framing::frame;
-use form::long::refuse_long;
-use form::parts::plan_part;
-use form::unpack::unpack;
+use access::front;
 use plan::check::Answer;
 use plan::check::check_plan;
+use program::frame::Frame;
+use program::framing::WORDS;
+use program::framing::frame;
+use program::long::refuse_long;
+use program::parts::plan_part;
+use program::unpack::unpack;
+use refusal::Refusal;
 ghost use mathlib.Core.Path.{_≡_};
 ghost use Rattle.validate.specs.Validate.{outcome-of, outcome};
 

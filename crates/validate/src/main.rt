@@ -4,11 +4,11 @@
 mod check;
 
 use crate::check::check_input;
-use form::framing::BYTES;
-use form::input::read;
-use form::output::print_line;
-use form::output::print_refusal;
 use plan::check::Answer;
+use program::framing::BYTES;
+use program::input::read;
+use program::output::print_line;
+use program::output::print_refusal;
 
 fn main() {
     let mut bytes = [0u8; BYTES];

@@ -1,13 +1,13 @@
 // What the services find of a list, as the end of a line.
-use crate::sheet::LONGEST;
-use form::output::print_line;
-use form::output::print_number;
-use form::output::print_refusal;
-use form::output::print_text;
+use crate::lists::LONGEST;
 use landmark::masked::marks_mask;
-use minimal::service::minimal_reduction;
+use minimal::reduce::minimal_reduction;
 use plan::check::Answer;
 use plan::check::check_plan;
+use program::output::print_line;
+use program::output::print_number;
+use program::output::print_refusal;
+use program::output::print_text;
 
 // How many steps are not marked. No more are marked than there are.
 fn unmarked(words: &[u32], plan: &[u32]) -> usize {

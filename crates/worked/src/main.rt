@@ -1,18 +1,18 @@
 // The program that runs those of document 01's worked lists that show its limits, 10 and 11, and prints a line for each. Every one is
 // sheet P with some lamps, then lift, drain and drop.
-// sheet: the sheet and the lists. found: what the services find of a list.
+// lists: the sheet and the lists. found: what the services find of a list.
 mod found;
-mod sheet;
+mod lists;
 
 use crate::found::print_found;
-use crate::sheet::BEHIND;
-use crate::sheet::DROP_COST;
-use crate::sheet::after_lamps;
-use crate::sheet::sheet;
-use common::access::front;
-use minimal::service::UNMARKED;
+use crate::lists::BEHIND;
+use crate::lists::DROP_COST;
+use crate::lists::after_lamps;
+use crate::lists::sheet;
+use access::front;
+use minimal::reduce::UNMARKED;
 use plan::limits::Plan;
-use task::limits::Task;
+use sheet::limits::Sheet;
 ghost use Prim.Native.Nat.{_<_, _^_};
 
 // So many lamps, where drop costs so much.
@@ -49,6 +49,6 @@ fn main() {
     with_lamps(UNMARKED);
     with_steps(Plan::STEPS - BEHIND);
     with_steps(Plan::STEPS - BEHIND + 1);
-    with_price(Task::COST);
-    with_price(Task::COST + 1);
+    with_price(Sheet::COST);
+    with_price(Sheet::COST + 1);
 }

@@ -7,7 +7,7 @@ use lib.Seq.{sets}
 use native.Mathlib.Omega.{arith}
 use borrow.Author.Needs.{needs}
 use lib.Count.{trailing-le}
-use Rattle.mask.proofs.WordLaws.{ones-at-few}
+use Rattle.mask.proofs.MaskWordLaws.{ones-at-few}
 use Rattle.mask.proofs.WriteLaws.{Turn, turn, all-stored, all-passed}
 use Rattle.mask.specs.Mask.{word-bits, ones-at, at-places}
 use Rattle.mask.proofs.write_word.Statement.{statement}

@@ -1,6 +1,6 @@
 -- `cheaper` meets its contract: a list that passes is valid where the eliminations begin, and each leaves what its definition says. Assumes nothing.
 use mathlib.Core.Path.{sym}
-use Rattle.reduced.proofs.ChecksLaws.{readable, valid-start}
+use Rattle.service.proofs.ChecksLaws.{readable, valid-start}
 use Rattle.elimination.proofs.LeavesLaws.{elimination-leaves, greedy-leaves}
 use Rattle.elimination.proofs.ServiceLaws.{both-refused, both-kept}
 use borrow.Author.Needs.{needs}

@@ -6,7 +6,7 @@ use native.Mathlib.Omega.{arith}
 use mathlib.Core.Path.{_≡_, refl, _∙_}
 use Prim.Native.Nat.{_-_, _≤_}
 use lib.ListN.{length}
-use Rattle.reduced.specs.Held.{mask}
+use Rattle.service.specs.Held.{mask}
 use Rattle.elimination.specs.Round.{Looks}
 use Rattle.elimination.proofs.greedy.round.Statement.{statement}
 use Rattle.elimination.proofs.greedy.round.Tie as tie

@@ -1,7 +1,7 @@
 -- `trial` meets its contract: the walk of the rest, with the step struck and counted. Assumes nothing.
 use Prim.Native.Nat.{_<_}
 use lib.ListN.{length}
-use Rattle.elimination.proofs.TrialLaws.{tries}
+use Rattle.elimination.proofs.TriedLaws.{tries}
 use borrow.Author.Needs.{needs}
 use Rattle.elimination.proofs.trial.trial.Statement.{statement}
 use Rattle.elimination.proofs.trial.trial.Tie as tie

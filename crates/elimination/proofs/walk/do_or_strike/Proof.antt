@@ -1,5 +1,5 @@
 -- `do_or_strike` meets its contract: the step is done, or can't be. Assumes nothing.
-use Rattle.elimination.proofs.WalkLaws.{turns-done, turns-struck}
+use Rattle.elimination.proofs.TrialWalkLaws.{turns-done, turns-struck}
 use borrow.Author.Needs.{needs}
 use Rattle.elimination.proofs.walk.do_or_strike.Statement.{statement}
 use Rattle.elimination.proofs.walk.do_or_strike.Tie as tie

@@ -4,7 +4,7 @@ use native.Mathlib.Omega.{arith}
 use mathlib.Core.Path.{refl}
 use Prim.Native.Nat.{_-_}
 use lib.ListN.{length}
-use Rattle.elimination.proofs.WalkLaws.{turns-skip, Along, along-start, along-turn, along-walks}
+use Rattle.elimination.proofs.TrialWalkLaws.{turns-skip, Along, along-start, along-turn, along-walks}
 use Rattle.elimination.proofs.walk.walk_rest.Statement.{statement}
 use Rattle.elimination.proofs.walk.walk_rest.Tie as tie
 

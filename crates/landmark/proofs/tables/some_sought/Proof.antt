@@ -4,7 +4,7 @@ use Prim.Native.Nat.{_-_}
 use mathlib.Core.Path.{_≡_, refl, sym, _∙_}
 use borrow.Author.Needs.{needs}
 use Rattle.reduction.specs.Wanted.{some-fact}
-use Rattle.task.specs.Decode.{facts}
+use Rattle.sheet.specs.Decode.{facts}
 use Rattle.landmark.specs.Tables.{sought}
 use Rattle.landmark.proofs.StampLaws.{none-left-passes, here-passes, later-passes}
 use Rattle.landmark.proofs.tables.some_sought.Statement.{statement}

@@ -4,7 +4,7 @@ use Prim.Native.Nat.{_-_}
 use mathlib.Core.Path.{_≡_, refl, sym, _∙_}
 use borrow.Author.Needs.{needs}
 use lib.ListN.{length}
-use Rattle.task.specs.Decode.{facts}
+use Rattle.sheet.specs.Decode.{facts}
 use Rattle.landmark.specs.Tables.{stamped}
 use Rattle.landmark.proofs.StampLaws.{stamped-over, stamped-next}
 use Rattle.landmark.proofs.tables.stamp.Statement.{statement}

@@ -1,5 +1,5 @@
 -- `mark_step` meets its contract: by whether some fact was found that the step is to write. Assumes nothing.
-use Rattle.landmark.proofs.WalkLaws.{step-marked, step-unmarked}
+use Rattle.landmark.proofs.MarkWalkLaws.{step-marked, step-unmarked}
 use borrow.Author.Needs.{needs}
 use Rattle.landmark.proofs.walks.mark_step.Statement.{statement}
 use Rattle.landmark.proofs.walks.mark_step.Tie as tie

@@ -3,7 +3,7 @@
 use mathlib.Core.Path.{_≡_, refl}
 use borrow.Author.Needs.{needs}
 use lib.ListN.{length}
-use Rattle.landmark.proofs.WalkLaws.{Marked-from, marked-end, marked-more, marked-start}
+use Rattle.landmark.proofs.MarkWalkLaws.{Marked-from, marked-end, marked-more, marked-start}
 use Rattle.landmark.proofs.walks.mark_steps.Statement.{statement}
 use Rattle.landmark.proofs.walks.mark_steps.Tie as tie
 

@@ -3,7 +3,7 @@
 use mathlib.Core.Path.{_≡_, refl}
 use borrow.Author.Needs.{needs}
 use lib.ListN.{length}
-use Rattle.landmark.proofs.WalkLaws.{Written-from, written-end, written-more, written-start}
+use Rattle.landmark.proofs.MarkWalkLaws.{Written-from, written-end, written-more, written-start}
 use Rattle.landmark.proofs.walks.write_first.Statement.{statement}
 use Rattle.landmark.proofs.walks.write_first.Tie as tie
 

@@ -1,6 +1,6 @@
 -- `reduce_within` meets its contract, by the laws of each of its ways. Assumes nothing.
 use mathlib.Core.Path.{sym}
-use Rattle.minimal.proofs.ShortenLaws.{first-refuses, marks-left, marks-few, last-refuses, shortens}
+use Rattle.minimal.proofs.MinimalLaws.{first-refuses, marks-left, marks-few, last-refuses, minimises}
 use borrow.Author.Needs.{needs}
 use Rattle.minimal.proofs.within.reduce_within.Statement.{statement}
 use Rattle.minimal.proofs.within.reduce_within.Tie as tie
@@ -77,7 +77,7 @@ returns-3 : tie.Need-returns-3
 returns-3 c =
     let passed = c .before .before .before .before .before .before .before .before .before .before .before .before .before in
     rw (c .told .ensures .0, c .told .ensures .1)
-    (shortens _ _ _ _ _ (passed .before .before .check-reduction .ensures) (passed .enum-told .given .1) _ _ (c .before .before .before .before .before .before .before .before .before .before .before .before .marks .ensures) _ _
+    (minimises _ _ _ _ _ (passed .before .before .check-reduction .ensures) (passed .enum-told .given .1) _ _ (c .before .before .before .before .before .before .before .before .before .before .before .before .marks .ensures) _ _
     (c .before .before .before .before .before .before .before .before .before .mask-of .ensures) (c .before .before .before .before .before .before .before .before .count .ensures) _ _ _ (c .before .before .before .before .before .before .before .if1 .left) (c .before .before .before .before .before .minimal .ensures) (c .before .before .before .write-out .ensures))
 
 pub reduce-within-spec : {M : Type 1} → statement M

@@ -1,7 +1,7 @@
 -- `check_list` meets its contract: refusal 8, then 9, then none. Assumes nothing.
 use mathlib.Core.Path.{sym, _∙_}
 use borrow.Author.Tests.{lt-ltb, le-ltb}
-use Rattle.common.proofs.CheckLaws.{answer-nothing, answer-fires, answer-passes}
+use Rattle.refusal.proofs.CheckLaws.{answer-nothing, answer-fires, answer-passes}
 use Rattle.plan.specs.Checked.{list-checks}
 use borrow.Author.Needs.{needs}
 use Rattle.plan.proofs.list.check_list.Statement.{statement}

@@ -6,9 +6,9 @@ use mathlib.Core.Path.{_≡_, refl, sym, _∙_}
 use Prim.Native.Nat.{_+_, _-_}
 use lib.ListN.{length, getD}
 use lib.Dec.{leb}
-use Rattle.common.specs.Place.{when, first-of}
-use Rattle.common.proofs.PlaceLaws.{first-of-over, first-of-here, first-of-more}
-use Rattle.task.specs.Layout.{actions}
+use Rattle.refusal.specs.Place.{when, first-of}
+use Rattle.refusal.proofs.PlaceLaws.{first-of-over, first-of-here, first-of-more}
+use Rattle.sheet.specs.Layout.{actions}
 use Rattle.plan.specs.Checked.{unknown-place}
 use Rattle.plan.proofs.list.unknown_action.Statement.{statement}
 use Rattle.plan.proofs.list.unknown_action.Tie as tie

@@ -1,5 +1,5 @@
 -- `walk` meets its contract. The loop's invariant: from the next position on the walk finds what the whole walk finds. Assumes nothing.
-use Rattle.plan.proofs.WalkLaws.{along-more, walks-stuck, walks-valid, walks-unmet, Along, along-start}
+use Rattle.plan.proofs.PlanWalkLaws.{along-more, walks-stuck, walks-valid, walks-unmet, Along, along-start}
 use borrow.Author.Needs.{needs}
 use mathlib.Core.Path.{_≡_, refl, _∙_}
 use Prim.Native.Nat.{_-_}

@@ -1,5 +1,5 @@
 -- `told` meets its contract: the tally of flags and their mask tell the reduction that they are. Assumes nothing.
-use Rattle.search.proofs.KeptLaws.{told-flags}
+use Rattle.search.proofs.SoFarLaws.{told-flags}
 use borrow.Author.Needs.{needs}
 use Rattle.search.proofs.best.told.Statement.{statement}
 use Rattle.search.proofs.best.told.Tie as tie

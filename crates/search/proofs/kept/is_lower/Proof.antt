@@ -1,5 +1,5 @@
 -- `is_lower` meets its contract, by the order of the tallies. Assumes nothing.
-use Rattle.search.proofs.KeptLaws.{less, equal, greater}
+use Rattle.search.proofs.SoFarLaws.{less, equal, greater}
 use borrow.Author.Needs.{needs}
 use Rattle.search.proofs.kept.is_lower.Statement.{statement}
 use Rattle.search.proofs.kept.is_lower.Tie as tie

@@ -1,5 +1,5 @@
 -- `keep_step` meets its contract, by the step's flag. Assumes nothing.
-use Rattle.search.proofs.KeptLaws.{kept-already, kept-more}
+use Rattle.search.proofs.SoFarLaws.{kept-already, kept-more}
 use borrow.Author.Needs.{needs}
 use Rattle.search.proofs.kept.keep_step.Statement.{statement}
 use Rattle.search.proofs.kept.keep_step.Tie as tie

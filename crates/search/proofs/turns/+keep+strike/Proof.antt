@@ -12,13 +12,13 @@ use Rattle.search.proofs.turns.+keep+strike.Lts-keep as keep-lts
 use Rattle.search.proofs.turns.strike.Reads as strike
 use Rattle.search.proofs.turns.strike.Kinds as strike-kinds
 use Rattle.search.proofs.turns.+keep+strike.Lts-strike as strike-lts
-use Rattle.common.proofs.access.word.Reads as word-reads
+use Rattle.access.proofs.word.Reads as word-reads
 use Rattle.search.proofs.kept.is_lower.Reads as is-lower-reads
 use Rattle.search.proofs.kept.keep_step.Reads as keep-step-reads
 use Rattle.search.proofs.turns.copied.Reads as copied-reads
 use Rattle.step.proofs.advance.advance.Reads as advance-reads
 use Rattle.step.proofs.advance.goal_holds.Reads as goal-holds-reads
-use Rattle.wanted.proofs.hold.may_strike.Reads as may-strike-reads
+use Rattle.cuts.proofs.hold.may_strike.Reads as may-strike-reads
 use Rattle.search.proofs.turns.+keep+strike.{statement}
 use Rattle.search.proofs.turns.+keep+strike.Tie.{close}
 

@@ -2,7 +2,7 @@
 use Prim.Native.Nat.{ℕ}
 use lib.ListN.{length-replicate}
 use Rattle.plan.specs.Limits.{most-steps}
-use Rattle.shorten.proofs.AnswerLaws.{tells-refused, tells-reduced}
+use Rattle.shorten.proofs.ShortenLaws.{tells-refused, tells-reduced}
 use borrow.Author.Needs.{needs}
 use Rattle.shorten.proofs.shortened.shorten.Statement.{statement}
 use Rattle.shorten.proofs.shortened.shorten.Tie as tie

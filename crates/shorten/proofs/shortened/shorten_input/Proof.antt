@@ -1,7 +1,7 @@
 -- `shorten_input` meets its contract: each form of the input is a case of what is told. Assumes nothing.
 use mathlib.Core.Path.{_∙_}
-use Rattle.common.specs.Refusal.{told-refusal}
-use Rattle.form.proofs.DueLaws.{whole-few, answers-broken, answers-long, answers-whole}
+use Rattle.refusal.specs.Refusal.{told-refusal}
+use Rattle.program.proofs.DueLaws.{whole-few, answers-broken, answers-long, answers-whole}
 use Rattle.shorten.specs.Shorten.{outcome-of, refused, shortened}
 use borrow.Author.Needs.{needs}
 use Rattle.shorten.proofs.shortened.shorten_input.Statement.{statement}

@@ -4,7 +4,7 @@ use Prim.Native.Nat.{_-_}
 use mathlib.Core.Path.{_≡_, refl, sym, _∙_}
 use borrow.Author.Needs.{needs}
 use Rattle.step.specs.Failing.{failing-place}
-use Rattle.step.proofs.FactLaws.{failing-over, failing-here, failing-more}
+use Rattle.step.proofs.FailingLaws.{failing-over, failing-here, failing-more}
 use Rattle.step.proofs.facts.first_failing.Statement.{statement}
 use Rattle.step.proofs.facts.first_failing.Tie as tie
 

@@ -5,8 +5,8 @@ use mathlib.Core.Path.{_≡_, refl, sym, _∙_}
 use borrow.Author.Needs.{needs}
 use lib.ListN.{length}
 use Rattle.sas.specs.Plan.{assign}
-use Rattle.task.specs.Decode.{facts}
-use Rattle.step.proofs.FactLaws.{assign-over, assign-next}
+use Rattle.sheet.specs.Decode.{facts}
+use Rattle.step.proofs.FailingLaws.{assign-over, assign-next}
 use Rattle.step.proofs.facts.write_facts.Statement.{statement}
 use Rattle.step.proofs.facts.write_facts.Tie as tie
 

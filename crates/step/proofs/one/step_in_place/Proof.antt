@@ -43,8 +43,8 @@ use denote.Triple.Clauses.{ensured, lasts}
 use denote.Triple.Table.{entered, cited}
 use denote.Triple.Walked.{says, Stays, stay-ref, stay-none, stay-none-slice, walkOf, AllGo, goes-ref, goes-none, goes-none-slice, Walks, ends-at, walked, walk-meets}
 use denote.Exit.{yes}
-use Rattle.common.proofs.refusal.Verdict as Vd
-use Rattle.common.proofs.refusal.Verdict.Laws as Vd′
+use Rattle.refusal.proofs.Verdict as Vd
+use Rattle.refusal.proofs.Verdict.Laws as Vd′
 use Rattle.step.specs.declared.one.State.{State}
 use Rattle.step.specs.declared.one.Stepped.{Stepped}
 use Rattle.step.specs.Step.{Steps}

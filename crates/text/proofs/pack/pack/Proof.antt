@@ -6,7 +6,7 @@ use mathlib.Core.Path.{_≡_, refl}
 use borrow.Author.Needs.{needs}
 use lib.ListN.{length, take}
 use lib.Seq.{take-length}
-use Rattle.form.specs.Form.{word-bytes}
+use Rattle.program.specs.Form.{word-bytes}
 use Rattle.text.specs.Pack.{packed}
 use Rattle.text.proofs.PackLaws.{packed-nothing, packed-next}
 use Rattle.text.proofs.pack.pack.Statement.{statement}

@@ -1,8 +1,8 @@
 -- `check_input` meets its contract: each form of the input is a case of the answer. Assumes nothing.
-use Rattle.common.specs.Refusal.{told-refusal}
-use Rattle.form.proofs.DueLaws.{answers-broken, answers-long, answers-whole}
+use Rattle.refusal.specs.Refusal.{told-refusal}
+use Rattle.program.proofs.DueLaws.{answers-broken, answers-long, answers-whole}
 use Rattle.validate.specs.Validate.{outcome-of, refused, checked}
-use Rattle.validate.proofs.AnswerLaws.{answers-checked}
+use Rattle.validate.proofs.ValidateLaws.{answers-checked}
 use borrow.Author.Needs.{needs}
 use Rattle.validate.proofs.check.check_input.Statement.{statement}
 use Rattle.validate.proofs.check.check_input.Tie as tie

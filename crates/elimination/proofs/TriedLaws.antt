@@ -1,0 +1,36 @@
+-- A trial is the walk of the rest from the state before its step, with that step struck and counted. Assumes nothing.
+use Prim.Native.Nat.{ℕ, _+_, _<_}
+use native.Mathlib.Numerals.{add-one}
+use native.Mathlib.Omega.{arith}
+use mathlib.Core.Path.{_≡_, _∙_}
+use mathlib.Core.Bool.{Bool, true, false}
+use mathlib.Core.List.{List, [], _∷_, _++_, append-assoc}
+use lib.ListN.{length, getD, set, take, drop}
+use lib.Seq.{take-suc-set, drop-set-lt}
+use Rattle.sas.specs.Plan.{satisfies}
+use Rattle.tally.specs.declared.Tally.{Tally}
+use Rattle.tally.specs.Tally.{nothing, one-more}
+use Rattle.sheet.specs.Layout.{cost-word}
+use Rattle.sheet.specs.Decode.{goal}
+use Rattle.reduction.specs.Reduction.{Reduction}
+use Rattle.elimination.specs.Walk.{flags-after, state-after, Fits, Balanced, Walks}
+use Rattle.elimination.specs.Trial.{Tries}
+use Rattle.elimination.proofs.BalanceLaws.{strike-balanced, balanced-then, balanced-fits}
+
+module _ (w l : List ℕ) (i : ℕ) (m : Reduction) (s : List ℕ) (m′ : Reduction) (c : ℕ) (none one : Tally) (struck : m′ ≡ set m i false) (price : c ≡ cost-word w (getD l i 0))
+    (nothing-yet : none ≡ nothing) (first : one ≡ one-more none c) where
+  -- the step itself goes over to the tally first
+  first-balanced : i < length l → getD m i false ≡ true → Fits w l m nothing → Balanced w l m m′ nothing one
+  first-balanced here up fits = rw (struck, first, nothing-yet, price) (strike-balanced w l m i nothing here up fits)
+
+  pub tries : (left : Reduction) (end : List ℕ) (met : Bool) (t : Tally) → i < length m → i < length l → Walks w l (i + 1) m′ s one left end t → met ≡ satisfies end (goal w)
+      → Tries w l i m s met left t
+  unfolding flags-after state-after
+  tries left end met t inside here walks test =
+      let rest : drop (i + 1) m′ ≡ drop (i + 1) m = rw struck (drop-set-lt (i + 1) m i false (omega arith)) in
+      let front : take (i + 1) m′ ≡ take i m ++ (false ∷ []) = rw (struck, add-one) (take-suc-set m i false inside) in
+      record {
+        goal-met = test ∙ rw (walks .state, rest);
+        flags = walks .flags ∙ rw (rest, front) (append-assoc (take i m) (false ∷ []) _);
+        balanced = λ up fits. let over = first-balanced here up fits in balanced-then w l _ _ _ _ _ _ over (walks .balanced (balanced-fits w l _ _ _ _ over fits));
+      }

@@ -1,0 +1,28 @@
+-- `hollchiku_cheaper` meets its contract: what is written is what the service answers. Assumes nothing.
+use mathlib.Core.Path.{_∙_}
+use borrow.Author.Needs.{needs}
+use Rattle.exports.proofs.hollchiku_cheaper.Statement.{statement}
+use Rattle.exports.proofs.hollchiku_cheaper.Tie as tie
+
+cheaper-requires : tie.Need-cheaper-requires
+cheaper-requires c κs = search needs
+
+write-both-requires : tie.Need-write-both-requires
+write-both-requires c κs = search needs
+
+same-length : tie.Need-same-length
+same-length c = search needs
+
+same-length-2 : tie.Need-same-length-2
+same-length-2 c = search needs
+
+same-length-3 : tie.Need-same-length-3
+same-length-3 c = search needs
+
+returns : tie.Need-returns
+returns c = let both = c .before .before .before .before .before .before .before .before .before .before .cheaper .ensures in record { first-left = both .first-output ∙ rw (both .refusal); second-left = both .second-output ∙ rw (both .refusal); answered = c .before .before .write-both .ensures ∙ rw (both .first-tally, both .second-tally, both .refusal) }
+
+pub hollchiku-cheaper-spec : {M : Type 1} → statement M
+hollchiku-cheaper-spec =
+    tie.close
+    (tie.spec cheaper-requires write-both-requires same-length same-length-2 same-length-3 returns)

@@ -1,0 +1,38 @@
+-- `hollchiku_check_plan` meets its contract: what is written is what the check of the plan answers. Assumes nothing.
+use mathlib.Core.Path.{_∙_}
+use borrow.Author.Needs.{needs}
+use Rattle.exports.proofs.hollchiku_check_plan.Statement.{statement}
+use Rattle.exports.proofs.hollchiku_check_plan.Tie as tie
+
+check-plan-requires : tie.Need-check-plan-requires
+check-plan-requires c κs = search needs
+
+slice-aggregate-write-values : tie.Need-slice-aggregate-write-values
+slice-aggregate-write-values c = search needs
+
+write-values-requires : tie.Need-write-values-requires
+write-values-requires c κs = search needs
+
+write-answer-requires : tie.Need-write-answer-requires
+write-answer-requires c κs = search needs
+
+same-length : tie.Need-same-length
+same-length c = search needs
+
+same-length-2 : tie.Need-same-length-2
+same-length-2 c = search needs
+
+returns : tie.Need-returns
+returns c = let checks = c .before .before .before .before .before .before .before .before .before .before .before .check-plan .ensures in let written = c .before .before .before .before .before .before .write-values .ensures in (written ∙ rw (checks .end), c .before .before .write-answer .ensures ∙ rw (checks .refusal, checks .tally))
+
+pub hollchiku-check-plan-spec : {M : Type 1} → statement M
+hollchiku-check-plan-spec =
+    tie.close
+    (tie.spec
+    check-plan-requires
+    slice-aggregate-write-values
+    write-values-requires
+    write-answer-requires
+    same-length
+    same-length-2
+    returns)

@@ -1,0 +1,20 @@
+-- `hollchiku_kept_part` meets its contract: the part that is shown is copied. Assumes nothing.
+use borrow.Author.Needs.{needs}
+use Rattle.exports.proofs.hollchiku_kept_part.Statement.{statement}
+use Rattle.exports.proofs.hollchiku_kept_part.Tie as tie
+
+kept-part-requires : tie.Need-kept-part-requires
+kept-part-requires c κs = search needs
+
+write-values-requires : tie.Need-write-values-requires
+write-values-requires c κs = search needs
+
+same-length : tie.Need-same-length
+same-length c = search needs
+
+returns : tie.Need-returns
+returns c = (cc, cc)
+
+pub hollchiku-kept-part-spec : {M : Type 1} → statement M
+hollchiku-kept-part-spec =
+    tie.close (tie.spec kept-part-requires write-values-requires same-length returns)

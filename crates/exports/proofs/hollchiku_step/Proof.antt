@@ -1,0 +1,41 @@
+-- `hollchiku_step` meets its contract: what is written back and what is answered are those of one step in the state that was lent. Assumes nothing.
+use borrow.Author.Needs.{needs}
+use Rattle.exports.proofs.hollchiku_step.Statement.{statement}
+use Rattle.exports.proofs.hollchiku_step.Tie as tie
+
+read-state-requires : tie.Need-read-state-requires
+read-state-requires c κs = search needs
+
+step-requires : tie.Need-step-requires
+step-requires c κs = search needs
+
+slice-aggregate-write-values : tie.Need-slice-aggregate-write-values
+slice-aggregate-write-values c = search needs
+
+write-values-requires : tie.Need-write-values-requires
+write-values-requires c κs = search needs
+
+write-verdict-requires : tie.Need-write-verdict-requires
+write-verdict-requires c κs = search needs
+
+same-length : tie.Need-same-length
+same-length c = search needs
+
+same-length-2 : tie.Need-same-length-2
+same-length-2 c = search needs
+
+returns : tie.Need-returns
+returns c = (cc, cc)
+
+pub hollchiku-step-spec : {M : Type 1} → statement M
+hollchiku-step-spec =
+    tie.close
+    (tie.spec
+    read-state-requires
+    step-requires
+    slice-aggregate-write-values
+    write-values-requires
+    write-verdict-requires
+    same-length
+    same-length-2
+    returns)

@@ -1,0 +1,66 @@
+-- What answers, tallies, orders and states are as words. Assumes nothing.
+use Prim.Native.Nat.{ℕ, min}
+use mathlib.Core.Path.{_≡_}
+use mathlib.Core.Option.{Option, none, some}
+use mathlib.Core.List.{List, [], _∷_, _++_}
+use lib.ListN.{length, replicate}
+use lib.Seq.{sets}
+use Rattle.refusal.specs.Refusal.{Told}
+use Rattle.refusal.specs.Check.{Check, answer}
+use Rattle.tally.specs.declared.Tally.{Tally}
+use Rattle.tally.specs.declared.Order.{Order}
+use Rattle.tally.specs.declared.Order.the-variants.{Less, Equal, Greater}
+use Rattle.tally.specs.Tally.{nothing}
+use Rattle.reduction.specs.Reduction.{Reduction}
+use Rattle.mask.specs.Mask.{mask-length, mask-words}
+use Rattle.service.specs.Reduced.{reduction-checks, unless-refused, tally-left, output-left}
+use Rattle.elimination.specs.Eliminations.{elimination-of, greedy-elimination-of}
+use Rattle.minimal.specs.Minimised.{most-unmarked, minimal-checks, minimal-of}
+use Rattle.sheet.specs.Limits.{limits}
+use Rattle.sheet.specs.Layout.{word}
+use Rattle.sheet.specs.Decode.{table}
+
+-- an answer: the number and the place of a refusal, or 0 and 0
+abbrev pub answer-words : Option Told → List ℕ
+answer-words none = 0 ∷ 0 ∷ []
+answer-words (some t) = t .number ∷ t .place ∷ []
+
+-- a tally of two numbers, and its words: the cost, then the steps
+abbrev pub tally-of : ℕ → ℕ → Tally
+tally-of cost steps = record { cost = cost; steps = steps }
+
+abbrev pub tally-words : Tally → List ℕ
+tally-words t = t .cost ∷ t .steps ∷ []
+
+-- which of two tallies is the lower, as a number
+abbrev pub order-number : Order → ℕ
+order-number Less = 0
+order-number Equal = 1
+order-number Greater = 2
+
+-- the state that lent words are: the first 64 of them, 0 past their end
+unfoldable pub lent-state : List ℕ → List ℕ
+lent-state words = table (word words) 0 (limits .variables)
+
+-- the reduction m of the list l over lent words, from a service with these checks: the list left over `output`, the mask over `mask`, the answer and the
+-- tally over `out`
+pub record Answers-lent (checks : List Check) (w l : List ℕ) (m : Reduction) (output output′ mask mask′ out out′ : List ℕ) : Type 0 where
+  pub list-left : output′ ≡ unless-refused (answer checks) (output-left l m output) output
+  pub told-by : mask′ ≡ sets mask 0 (unless-refused (answer checks) (mask-words m) (replicate mask-length 0))
+  pub answered : out′ ≡ sets out 0 (answer-words (answer checks) ++ tally-words (unless-refused (answer checks) (tally-left w l m) nothing))
+
+-- an elimination over lent words
+abbrev pub Reduces-lent : List ℕ → List ℕ → Reduction → List ℕ → List ℕ → List ℕ → List ℕ → List ℕ → List ℕ → Type 0
+Reduces-lent w l m output = Answers-lent (reduction-checks w l (length output)) w l m output
+
+-- the exact reduction over lent words
+abbrev pub Minimises-lent : List ℕ → List ℕ → List ℕ → List ℕ → List ℕ → List ℕ → List ℕ → List ℕ → Type 0
+Minimises-lent w l output = Answers-lent (minimal-checks most-unmarked w l (length output)) w l (minimal-of w l) output
+
+-- both eliminations over lent words
+pub record Reduces-both-lent (w l first first′ second second′ out out′ : List ℕ) : Type 0 where
+  pub first-left : first′ ≡ unless-refused (answer (reduction-checks w l (min (length first) (length second)))) (output-left l (elimination-of w l) first) first
+  pub second-left : second′ ≡ unless-refused (answer (reduction-checks w l (min (length first) (length second)))) (output-left l (greedy-elimination-of w l) second) second
+  pub answered : out′ ≡ sets out 0 (answer-words (answer (reduction-checks w l (min (length first) (length second))))
+      ++ (tally-words (unless-refused (answer (reduction-checks w l (min (length first) (length second)))) (tally-left w l (elimination-of w l)) nothing)
+      ++ tally-words (unless-refused (answer (reduction-checks w l (min (length first) (length second)))) (tally-left w l (greedy-elimination-of w l)) nothing)))

@@ -1,0 +1,227 @@
+// The services as a static library, for programs in other languages: C's names, slices and numbers alone.
+// A slice is passed as its pointer and then its length. What does not fit into a lent slice is dropped.
+// lent: how answers and states go into lent words, and how a state is read from them.
+mod lent;
+
+use crate::lent::read_state;
+use crate::lent::write_answer;
+use crate::lent::write_both;
+use crate::lent::write_pair;
+use crate::lent::write_values;
+use crate::lent::write_verdict;
+use crate::lent::write_wide;
+use elimination::both::cheaper;
+use elimination::both::kept_part;
+use elimination::single::eliminate_greedily;
+use elimination::single::eliminate_plan;
+use landmark::masked::marks_mask;
+use minimal::reduce::minimal_reduction;
+use plan::check::check_plan;
+use sheet::check::check_sheet;
+use step::one::step;
+use tally::Order;
+use tally::Tally;
+ghost use mathlib.Core.Path.{_≡_};
+ghost use mathlib.Core.List.{_++_};
+ghost use lib.ListN.{length};
+ghost use lib.Seq.{sets};
+ghost use Rattle.refusal.specs.Check.{answer};
+ghost use Rattle.tally.specs.Tally.{one-more, comparison};
+ghost use Rattle.sheet.specs.Causes.{sheet-checks};
+ghost use Rattle.step.specs.Step.{step-checks, state-after};
+ghost use Rattle.plan.specs.Checked.{plan-checks, tally-of as plan-tally, end-state};
+ghost use Rattle.mask.specs.Mask.{mask-words};
+ghost use Rattle.landmark.specs.Marks.{marks-of};
+ghost use Rattle.elimination.specs.Eliminations.{elimination-of, greedy-elimination-of, cheaper-part};
+ghost use Rattle.exports.specs.Words.{answer-words, tally-of, tally-words, order-number, lent-state, Reduces-lent, Minimises-lent, Reduces-both-lent};
+
+// Checks a task: the number and the place of its refusal go to `out`, or 0 and 0.
+#[no_mangle]
+pub extern "C" fn hollchiku_check_sheet(words: &[u32], out: &mut [u64])
+    ensures { λ _. ⌜ now (out .exit) ≡ sets (now (out .entry)) 0 (answer-words (answer (sheet-checks (now (words .entry))))) ⌝ }
+{
+    write_verdict(out, check_sheet(words));
+}
+
+// Adds a step to a tally: the cost and the steps after it go to `out`.
+#[no_mangle]
+pub extern "C" fn hollchiku_tally_add(cost: u32, steps: u32, price: u32, out: &mut [u64])
+    ensures { λ _. ⌜ now (out .exit) ≡ sets (now (out .entry)) 0 (tally-words (one-more (tally-of cost steps) price)) ⌝ }
+{
+    let after = Tally { cost, steps }.add(price);
+    write_pair(out, 0, after.cost as u64, after.steps as u64);
+}
+
+// Compares two tallies: 0 where the first is the lower, 1 where they are equal, 2 where the second is.
+#[no_mangle]
+pub extern "C" fn hollchiku_tally_compare(
+    cost_a: u32,
+    steps_a: u32,
+    cost_b: u32,
+    steps_b: u32,
+) -> u32
+    ensures { λ r. ⌜ r ≡ order-number (comparison (tally-of «cost_a» «steps_a») (tally-of «cost_b» «steps_b»)) ⌝ }
+{
+    let first = Tally {
+        cost: cost_a,
+        steps: steps_a,
+    };
+    let second = Tally {
+        cost: cost_b,
+        steps: steps_b,
+    };
+    match first.compare(second) {
+        Order::Less => 0,
+        Order::Equal => 1,
+        Order::Greater => 2,
+    }
+}
+
+// Does one step in a lent state of 64 values: the number and the place of its refusal go to `out`, or 0 and 0.
+#[no_mangle]
+pub extern "C" fn hollchiku_step(words: &[u32], state: &mut [u32], action: u32, out: &mut [u64])
+    ensures state { λ _. ⌜ now (state .exit) ≡ sets (now (state .entry)) 0 (state-after (now (words .entry)) (lent-state (now (state .entry))) action) ⌝ }
+    ensures out { λ _. ⌜ now (out .exit) ≡ sets (now (out .entry)) 0 (answer-words (answer (step-checks (now (words .entry)) (lent-state (now (state .entry))) action))) ⌝ }
+{
+    let stepped = step(words, read_state(state), action);
+    let after = stepped.state;
+    let values = after.values;
+    let verdict = stepped.verdict;
+    write_values(state, &values);
+    write_verdict(out, verdict);
+}
+
+// Checks a plan of a task: the number and the place of its refusal, or 0 and 0, then its cost and steps go to `out`, and the end state to the lent state.
+#[no_mangle]
+pub extern "C" fn hollchiku_check_plan(
+    words: &[u32],
+    plan: &[u32],
+    state: &mut [u32],
+    out: &mut [u64],
+)
+    ensures state { λ _. ⌜ now (state .exit) ≡ sets (now (state .entry)) 0 (end-state (now (words .entry)) (now (plan .entry))) ⌝ }
+    ensures out { λ _. ⌜ now (out .exit) ≡ sets (now (out .entry)) 0 (answer-words (answer (plan-checks (now (words .entry)) (now (plan .entry)))) ++ tally-words (plan-tally (now (words .entry)) (now (plan .entry)))) ⌝ }
+{
+    let checked = check_plan(words, plan);
+    let end = checked.state;
+    let values = end.values;
+    let given = checked.answer;
+    write_values(state, &values);
+    write_answer(out, given);
+}
+
+// Marks the landmarks of a plan: the four words of their mask go to the lent mask, the number and the place of a refusal, or 0 and 0, to `out`.
+#[no_mangle]
+pub extern "C" fn hollchiku_marks(words: &[u32], plan: &[u32], mask: &mut [u64], out: &mut [u64])
+    ensures mask { λ _. ⌜ now (mask .exit) ≡ sets (now (mask .entry)) 0 (mask-words (marks-of (now (words .entry)) (now (plan .entry)))) ⌝ }
+    ensures out { λ _. ⌜ now (out .exit) ≡ sets (now (out .entry)) 0 (answer-words (answer (plan-checks (now (words .entry)) (now (plan .entry))))) ⌝ }
+{
+    let marked = marks_mask(words, plan);
+    let verdict = marked.verdict;
+    let marks = marked.mask;
+    let bits = marks.words;
+    write_wide(mask, &bits);
+    write_verdict(out, verdict);
+}
+
+// Elimination: the kept action numbers go to the front of `output`, the four words of their mask to `mask`, and the number and the place of a refusal, or 0 and 0, then the cost and the steps to `out`.
+#[no_mangle]
+pub extern "C" fn hollchiku_eliminate(
+    words: &[u32],
+    plan: &[u32],
+    output: &mut [u32],
+    mask: &mut [u64],
+    out: &mut [u64],
+)
+    ensures { λ _. ⌜ Reduces-lent (now (words .entry)) (now (plan .entry)) (elimination-of (now (words .entry)) (now (plan .entry))) (now (output .entry)) (now (output .exit)) (now (mask .entry)) (now (mask .exit)) (now (out .entry)) (now (out .exit)) ⌝ }
+{
+    let reduced = eliminate_plan(words, plan, output);
+    let given = reduced.answer;
+    let kept = reduced.mask;
+    let bits = kept.words;
+    write_wide(mask, &bits);
+    write_answer(out, given);
+}
+
+// Greedy elimination, in the same form.
+#[no_mangle]
+pub extern "C" fn hollchiku_greedy(
+    words: &[u32],
+    plan: &[u32],
+    output: &mut [u32],
+    mask: &mut [u64],
+    out: &mut [u64],
+)
+    ensures { λ _. ⌜ Reduces-lent (now (words .entry)) (now (plan .entry)) (greedy-elimination-of (now (words .entry)) (now (plan .entry))) (now (output .entry)) (now (output .exit)) (now (mask .entry)) (now (mask .exit)) (now (out .entry)) (now (out .exit)) ⌝ }
+{
+    let reduced = eliminate_greedily(words, plan, output);
+    let given = reduced.answer;
+    let kept = reduced.mask;
+    let bits = kept.words;
+    write_wide(mask, &bits);
+    write_answer(out, given);
+}
+
+// The minimal reduction, in the same form.
+#[no_mangle]
+pub extern "C" fn hollchiku_exact(
+    words: &[u32],
+    plan: &[u32],
+    output: &mut [u32],
+    mask: &mut [u64],
+    out: &mut [u64],
+)
+    ensures { λ _. ⌜ Minimises-lent (now (words .entry)) (now (plan .entry)) (now (output .entry)) (now (output .exit)) (now (mask .entry)) (now (mask .exit)) (now (out .entry)) (now (out .exit)) ⌝ }
+{
+    let reduced = minimal_reduction(words, plan, output);
+    let given = reduced.answer;
+    let kept = reduced.mask;
+    let bits = kept.words;
+    write_wide(mask, &bits);
+    write_answer(out, given);
+}
+
+// Both eliminations: the list that each leaves goes to the front of its output, elimination's to `first`; the number and the place of a refusal, or 0 and 0, then both tallies go to `out`.
+#[no_mangle]
+pub extern "C" fn hollchiku_cheaper(
+    words: &[u32],
+    plan: &[u32],
+    first: &mut [u32],
+    second: &mut [u32],
+    out: &mut [u64],
+)
+    ensures { λ _. ⌜ Reduces-both-lent (now (words .entry)) (now (plan .entry)) (now (first .entry)) (now (first .exit)) (now (second .entry)) (now (second .exit)) (now (out .entry)) (now (out .exit)) ⌝ }
+{
+    let both = cheaper(words, plan, first, second);
+    let verdict = both.verdict;
+    let of_first = both.first;
+    let of_second = both.second;
+    write_both(out, verdict, of_first, of_second);
+}
+
+// The kept part of the cheaper of two lists goes to the front of `part`; its length is returned.
+#[no_mangle]
+pub extern "C" fn hollchiku_kept_part<'a>(
+    first: &'a [u32],
+    second: &'a [u32],
+    cost: u32,
+    steps: u32,
+    other: u32,
+    others: u32,
+    part: &mut [u32],
+) -> u64
+    ensures part { λ _. ⌜ now (part .exit) ≡ sets (now (part .entry)) 0 (cheaper-part (now (first .entry)) (now (second .entry)) (tally-of cost steps) (tally-of other others)) ⌝ }
+    ensures length { λ r. ⌜ r ≡ length (cheaper-part (now (first .entry)) (now (second .entry)) (tally-of cost steps) (tally-of other others)) ⌝ }
+{
+    let kept = kept_part(
+        first,
+        second,
+        Tally { cost, steps },
+        Tally {
+            cost: other,
+            steps: others,
+        },
+    );
+    write_values(part, kept);
+    kept.len() as u64
+}

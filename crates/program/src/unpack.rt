@@ -1,0 +1,16 @@
+// Bytes as words.
+use crate::word::word;
+ghost use mathlib.Core.Path.{_≡_};
+ghost use lib.ListN.{length};
+ghost use Rattle.program.specs.Form.{unpacked};
+
+// Fills `words` with the first words of the bytes.
+pub fn unpack(bytes: &[u8], words: &mut [u32])
+    ensures { λ _. ⌜ now (words .exit) ≡ unpacked (now (bytes .entry)) (length (now (words .entry))) ⌝ }
+{
+    let mut i = 0;
+    while i < words.len() {
+        words[i] = word(bytes, i);
+        i += 1;
+    }
+}

@@ -1,0 +1,52 @@
+-- What is told and written of a reduction, and with it what a service answers, refused or not. The mask tells the reduction by the laws of masks, and
+-- the tally is plain by those of tallies. Assumes nothing.
+use Prim.Native.Nat.{ℕ, _≤_}
+use native.Mathlib.Omega.{arith}
+use mathlib.Core.Path.{_≡_, sym, _∙_, ap}
+use mathlib.Core.List.{List}
+use lib.ListN.{length, replicate}
+use lib.Seq.{sets}
+use Rattle.refusal.specs.declared.Refusal.{Refusal}
+use Rattle.refusal.specs.declared.Verdict.{Verdict}
+use Rattle.refusal.specs.declared.Verdict.the-variants.{Passed, Refused as Refused-verdict}
+use Rattle.refusal.specs.Refusal.{told}
+use Rattle.refusal.specs.Check.{Check, answer}
+use Rattle.tally.specs.declared.Tally.{Tally}
+use Rattle.plan.specs.declared.check.Answer.the-variants.{Valid, Refused}
+use Rattle.reduction.specs.Reduction.{Reduction}
+use Rattle.mask.specs.Mask.{mask-length, mask-bits, mask-words, ones-of, kept-by-words}
+use Rattle.mask.proofs.MaskTheorem.{ones-are-kept, mask-keeps}
+use Rattle.service.specs.Tallied.{tallied}
+use Rattle.service.specs.Reduced.{Answers}
+use Rattle.service.specs.Kept.{Keeps}
+use Rattle.service.proofs.TalliedLaws.{plainly}
+use Rattle.plan.specs.Readable.{Readable}
+
+pub keeps : (w l : List ℕ) (m : Reduction) (before after words : List ℕ) (tally : Tally) (ones : ℕ) → Readable w l → length m ≡ length l → words ≡ mask-words m
+    → tally ≡ tallied w l m → ones ≡ ones-of words → after ≡ sets before 0 (kept-by-words words l) → Keeps w l m before (record { cost = tally .cost; steps = ones }) words after
+keeps w l m before after words tally ones readable fits told-by counts counted writes =
+    let few : length m ≤ mask-bits = omega (arith, readable .few) in
+    record {
+      counted = rw (counts ∙ plainly w l m readable fits, counted, told-by, ones-are-kept m few);
+      told-by = told-by;
+      written = writes ∙ rw (told-by, mask-keeps m l few fits);
+    }
+
+module _ (checks : List Check) (w l : List ℕ) (m : Reduction) (before : List ℕ) (v : Verdict) (checked : told v ≡ answer checks) where
+  -- a service refuses, with zeros, and touches nothing
+  pub answers-refused : (r : Refusal) → v ≡ Refused-verdict r → Answers checks w l m before (Refused r) (replicate mask-length 0) before
+  answers-refused r refuses =
+      let refused : told (Refused-verdict r) ≡ answer checks = sym (ap told refuses) ∙ checked in
+      record { refusal = refused; tally = rw (← refused); told-by = rw (← refused); output = rw (← refused) }
+
+  -- or hands on what is told and written of its reduction
+  pub answers-kept : (left : Reduction) (after words : List ℕ) (tally : Tally) → v ≡ Passed → left ≡ m → Keeps w l left before tally words after
+      → Answers checks w l m before (Valid tally) words after
+  answers-kept left after words tally passes same keeps =
+      let passed : told Passed ≡ answer checks = sym (ap told passes) ∙ checked in
+      record {
+        refusal = passed;
+        tally = rw (← passed, ← same) (keeps .counted);
+        told-by = rw (← passed, ← same) (keeps .told-by);
+        output = rw (← passed, ← same) (keeps .written);
+      }

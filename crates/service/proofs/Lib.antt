@@ -1,0 +1,10 @@
+-- HeldLaws: the flags of a plan of which nothing is struck, and flags that hold a reduction.
+pub mod HeldLaws
+-- TalliedLaws: the tally of a reduction, step by step and plainly.
+pub mod TalliedLaws
+-- LessLaws: the lower of two tallies, in numbers, and flags past the end of a plan.
+pub mod LessLaws
+-- ChecksLaws: what the checks of a service answer, and what holds of a list that passes.
+pub mod ChecksLaws
+-- AnswerLaws: what is told and written of a reduction, and what a service answers with it.
+pub mod AnswerLaws

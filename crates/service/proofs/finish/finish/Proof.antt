@@ -1,0 +1,34 @@
+-- `finish` meets its contract: what it calls is what the law of a kept reduction asks. Assumes nothing.
+use Rattle.service.proofs.AnswerLaws.{keeps}
+use borrow.Author.Needs.{needs}
+use Rattle.service.proofs.finish.finish.Statement.{statement}
+use Rattle.service.proofs.finish.finish.Tie as tie
+
+mask-of-requires : tie.Need-mask-of-requires
+mask-of-requires c κs = search needs
+
+tally-of-requires : tie.Need-tally-of-requires
+tally-of-requires c κs = search needs
+
+count-requires : tie.Need-count-requires
+count-requires c κs = search needs
+
+write-kept-requires : tie.Need-write-kept-requires
+write-kept-requires c κs = search needs
+
+same-length : tie.Need-same-length
+same-length c = search needs
+
+returns : tie.Need-returns
+returns c = let start = c .before .before .before .before .before .before .before .before .before .before .before in keeps _ _ _ _ _ _ _ _ (start .pre .0) (start .pre .1) (c .before .before .before .before .before .before .mask-of .ensures) (c .before .before .before .before .before .tally-of .ensures) (c .before .before .before .before .count .ensures) (c .before .before .write-kept .ensures .0)
+
+pub finish-spec : {M : Type 1} → statement M
+finish-spec =
+    tie.close
+    (tie.spec
+    mask-of-requires
+    tally-of-requires
+    count-requires
+    write-kept-requires
+    same-length
+    returns)

@@ -1,0 +1,137 @@
+// Where the parts of a task stand among its words. Each function is safe for any words: what a word lacks reads as 0.
+use access::word;
+ghost use mathlib.Core.Path.{_≡_};
+ghost use Prim.Native.Nat.{_<_, _≤_, _^_};
+ghost use Rattle.sheet.specs.Layout.{word as word-at, variables as variables-of, actions as actions-of, offset as offset-of, size as size-of, goal-start, goal-end as goal-end-of, cost-word, precondition-start, effect-start, effect-end};
+
+// The words of the header, and the pair where the actions begin.
+pub(crate) const EDITION_AT: usize = 0;
+
+pub(crate) const VARIABLES_AT: usize = 1;
+
+pub(crate) const ACTIONS_AT: usize = 2;
+
+pub const LENGTH_AT: usize = 3;
+
+pub const PAIRS_AT: usize = 4;
+
+pub(crate) const PAIR: usize = 2;
+
+pub(crate) const DOMAINS: usize = 0;
+
+pub(crate) const INITIAL: usize = 1;
+
+pub(crate) const GOAL: usize = 2;
+
+pub(crate) const FIRST_ACTION: usize = 3;
+// An action's part begins with its cost and its number of precondition facts.
+pub(crate) const ACTION_HEADER: usize = 2;
+
+// A word as a number.
+pub(crate) fn number(w: &[u32], i: usize) -> usize
+    ensures { λ r. ⌜ (r ≡ word-at (now (w .entry)) i) × (r < 2 ^ 32) ⌝ }
+{
+    word(w, i) as usize
+}
+
+// The number of variables, 01's V.
+pub fn variables(w: &[u32]) -> usize
+    ensures { λ r. ⌜ (r ≡ variables-of (now (w .entry))) × (r < 2 ^ 32) ⌝ }
+{
+    number(w, VARIABLES_AT)
+}
+
+// The number of actions, 01's A.
+pub fn actions(w: &[u32]) -> usize
+    ensures { λ r. ⌜ (r ≡ actions-of (now (w .entry))) × (r < 2 ^ 32) ⌝ }
+{
+    number(w, ACTIONS_AT)
+}
+
+// The offset in pair k.
+pub(crate) fn offset(w: &[u32], k: usize) -> usize
+    requires { ⌜ k ≤ 2 ^ 33 ⌝ }
+    ensures { λ r. ⌜ (r ≡ offset-of (now (w .entry)) k) × (r < 2 ^ 32) ⌝ }
+{
+    number(w, PAIRS_AT + PAIR * k)
+}
+
+// The length in pair k.
+pub(crate) fn size(w: &[u32], k: usize) -> usize
+    requires { ⌜ k ≤ 2 ^ 33 ⌝ }
+    ensures { λ r. ⌜ (r ≡ size-of (now (w .entry)) k) × (r < 2 ^ 32) ⌝ }
+{
+    number(w, PAIRS_AT + PAIR * k + 1)
+}
+
+// Where the starting values begin.
+pub fn start_at(w: &[u32]) -> usize
+    ensures { λ r. ⌜ (r ≡ offset-of (now (w .entry)) 1) × (r < 2 ^ 32) ⌝ }
+{
+    offset(w, INITIAL)
+}
+
+// Where the goal begins.
+pub fn goal_at(w: &[u32]) -> usize
+    ensures { λ r. ⌜ (r ≡ goal-start (now (w .entry))) × (r < 2 ^ 32) ⌝ }
+{
+    offset(w, GOAL)
+}
+
+// Where the goal ends.
+pub fn goal_end(w: &[u32]) -> usize
+    ensures { λ r. ⌜ (r ≡ goal-end-of (now (w .entry))) × (r < 2 ^ 33) ⌝ }
+{
+    offset(w, GOAL) + size(w, GOAL)
+}
+
+// The cost of action a.
+pub fn cost(w: &[u32], a: u32) -> u32
+    ensures { λ r. ⌜ (r ≡ cost-word (now (w .entry)) a) × (r < 2 ^ 32) ⌝ }
+{
+    word(w, offset(w, FIRST_ACTION + a as usize))
+}
+
+// Where the precondition of an action begins, where its effect does, and where both end.
+pub struct ActionParts {
+    pub precondition: usize,
+    pub effect: usize,
+    pub end: usize,
+}
+
+// The parts of action a, from one reading of its pair.
+pub fn parts_of(w: &[u32], a: u32) -> ActionParts
+    ensures { λ r. ⌜ (r .precondition ≡ precondition-start (now (w .entry)) a) × ((r .effect ≡ effect-start (now (w .entry)) a) × (r .end ≡ effect-end (now (w .entry)) a)) ⌝ }
+{
+    let k = FIRST_ACTION + a as usize;
+    let from = offset(w, k);
+    let precondition = from + ACTION_HEADER;
+    ActionParts {
+        precondition,
+        effect: precondition + number(w, from + 1),
+        end: from + size(w, k),
+    }
+}
+
+// Where the precondition of action a begins.
+pub fn precondition_at(w: &[u32], a: u32) -> usize
+    ensures { λ r. ⌜ (r ≡ precondition-start (now (w .entry)) a) × (r < 2 ^ 33) ⌝ }
+{
+    offset(w, FIRST_ACTION + a as usize) + ACTION_HEADER
+}
+
+// Where the precondition of action a ends and its effect begins.
+pub fn effect_at(w: &[u32], a: u32) -> usize
+    ensures { λ r. ⌜ (r ≡ effect-start (now (w .entry)) a) × (r < 2 ^ 34) ⌝ }
+{
+    let part = offset(w, FIRST_ACTION + a as usize);
+    part + ACTION_HEADER + number(w, part + 1)
+}
+
+// Where the part of action a ends.
+pub fn action_end(w: &[u32], a: u32) -> usize
+    ensures { λ r. ⌜ (r ≡ effect-end (now (w .entry)) a) × (r < 2 ^ 33) ⌝ }
+{
+    let k = FIRST_ACTION + a as usize;
+    offset(w, k) + size(w, k)
+}
