@@ -2,33 +2,15 @@
 //! random cases and on the document's own worked lists. A case compares the answer and every word
 //! of memory that is lent. What the built programs print is compared byte for byte.
 
-mod answered;
 mod bench;
 mod cases;
 mod comparison;
-mod cycles;
-mod families;
-mod faults;
-mod kinds;
-mod layout;
-mod library;
-mod long;
-mod memory;
+mod makers;
 mod options;
-mod plans;
-mod programs;
-mod random;
-mod report;
 mod rules;
-mod search;
-mod self_test;
-mod sheets;
-mod text;
-mod worked;
 
-use comparison::Comparison;
+use comparison::{inputs, long, programs, self_test, Comparison};
 use options::{Mode, Options};
-use programs::inputs;
 use std::process::ExitCode;
 
 fn main() -> ExitCode {

@@ -1,9 +1,9 @@
 //! The arguments of the program.
 
 use crate::bench::{HardPlan, Side, LENGTHS, SIDES};
-use crate::families::{FAMILIES, PLACEMENTS};
-use crate::long;
-use crate::programs::Built;
+use crate::comparison::long;
+use crate::comparison::programs::Built;
+use crate::makers::families::{FAMILIES, PLACEMENTS};
 use std::collections::VecDeque;
 
 const USAGE: &str = "usage: compare [--cases N] [--seed S] [--program PATH]...

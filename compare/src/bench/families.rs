@@ -4,7 +4,7 @@
 use super::plans::{HardPlan, LENGTHS, UNMARKED};
 use super::table;
 use super::timed::{Timed, RUNS};
-use crate::families::{FAMILIES, PLACEMENTS};
+use crate::makers::families::{FAMILIES, PLACEMENTS};
 
 /// Prints the table, and answers whether all answers were right, with the plan that took the library
 /// longest.

@@ -3,7 +3,7 @@
 
 use super::plans::{HardPlan, UNMARKED};
 use super::{table, Side, SIDES};
-use crate::families::{Family, FAMILIES};
+use crate::makers::families::{Family, FAMILIES};
 use crate::rules;
 use std::env;
 use std::process::Command;

@@ -1,12 +1,12 @@
 //! The plans that are measured.
 
 use crate::cases::{Call, Case};
-use crate::cycles::random_applicable;
-use crate::families::{Family, Made, Placement, Shape};
-use crate::plans::Walk;
-use crate::random::Random;
+use crate::makers::cycles::random_applicable;
+use crate::makers::families::{Family, Made, Placement, Shape};
+use crate::makers::random::Random;
+use crate::makers::task::{Action, Fact, Task};
+use crate::makers::walk::Walk;
 use crate::rules;
-use crate::sheets::{Action, Fact, Task};
 
 pub const LENGTHS: [usize; 3] = [60, 128, rules::MAX_STEPS];
 pub const UNMARKED: usize = rules::MAX_UNMARKED;

@@ -3,9 +3,9 @@
 use super::plans::HardPlan;
 use super::table;
 use super::timed::RUNS;
-use crate::families::{Made, FAMILIES};
-use crate::programs::inputs::{closed, input_bytes, Input};
-use crate::programs::{printed, Built};
+use crate::comparison::inputs::{closed, input_bytes, Input};
+use crate::comparison::programs::{printed, Built};
+use crate::makers::families::{Made, FAMILIES};
 use std::time::Instant;
 
 /// Prints the table, and answers whether each program printed what was due: on each family's plan

@@ -3,11 +3,11 @@
 use super::plans::{case_of, gates_walk, with_large_actions, HardPlan};
 use super::table;
 use super::timed::{Timed, RUNS};
+use crate::cases::memory::Memory;
 use crate::cases::Call;
-use crate::families::{Family, Placement};
-use crate::memory::Memory;
+use crate::makers::families::{Family, Placement};
+use crate::makers::task::Task;
 use crate::rules;
-use crate::sheets::Task;
 
 /// Those that take any plan.
 const CALLS: [Call; 4] = [Call::CheckPlan, Call::Marks, Call::Eliminate, Call::Greedy];

@@ -3,9 +3,9 @@
 
 use super::plans::{HardPlan, UNMARKED};
 use super::{table, SIDES};
-use crate::families::{Family, Made, Placement, FAMILIES};
-use crate::programs::inputs::input_bytes;
-use crate::programs::Built;
+use crate::comparison::inputs::input_bytes;
+use crate::comparison::programs::Built;
+use crate::makers::families::{Family, Made, FAMILIES};
 use crate::rules;
 use std::env;
 use std::ffi::OsStr;

@@ -1,8 +1,8 @@
 //! The times of both sides on one case.
 
 use super::{Side, SIDES};
+use crate::cases::memory::Memory;
 use crate::cases::Case;
-use crate::memory::Memory;
 use std::hint::black_box;
 use std::time::{Duration, Instant};
 

@@ -2,8 +2,6 @@
 //! still equal, at the first step where two differ, the one that strikes it. Neither way of finding
 //! it knows anything of marks, so that a fault in the marks can't hide in it; they are only counted.
 
-mod states;
-
 use super::{all_hold, do_step, refuse, Cause, Kept, Lodged, Refusal, MAX_UNMARKED};
 
 /// Plans of so many steps have all their reductions gone through; longer ones would take too long.
