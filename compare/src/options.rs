@@ -1,8 +1,8 @@
 //! The arguments of the program.
 
-use crate::bench::{HardPlan, Side, LENGTHS, SIDES};
-use crate::comparison::long;
+use crate::bench::{name, HardPlan, Side, LENGTHS, SIDES};
 use crate::comparison::programs::Built;
+use crate::comparison::{fresh_seed, LONG_SECONDS};
 use crate::makers::families::{FAMILIES, PLACEMENTS};
 use std::collections::VecDeque;
 
@@ -28,7 +28,7 @@ const DEFAULT_CASES: u64 = 500_000;
 pub struct Options {
     pub mode: Mode,
     pub seed: u64,
-    pub programs: Vec<Built>,
+    pub built: Vec<Built>,
 }
 
 pub enum Mode {
@@ -46,24 +46,20 @@ impl Options {
     pub fn parse(arguments: impl Iterator<Item = String>) -> Result<Self, String> {
         let mut arguments = Arguments(arguments.collect());
         let cases = DEFAULT_CASES;
-        let (mut mode, mut seed, mut programs) = (Mode::All { cases }, None, Vec::new());
+        let (mut mode, mut seed, mut built) = (Mode::All { cases }, None, Vec::new());
         while let Some(argument) = arguments.0.pop_front() {
             match argument.as_str() {
                 "--seed" => seed = Some(arguments.number()?),
-                "--program" => programs.push(Built::at(arguments.text()?.into())?),
+                "--program" => built.push(Built::at(arguments.text()?.into())?),
                 _ => mode = arguments.mode(&argument)?,
             }
         }
         let seed = match (seed, &mode) {
             (Some(seed), _) => seed,
-            (None, Mode::Long { .. }) => long::fresh_seed().map_err(|error| error.to_string())?,
+            (None, Mode::Long { .. }) => fresh_seed().map_err(|error| error.to_string())?,
             (None, _) => DEFAULT_SEED,
         };
-        Ok(Options {
-            mode,
-            seed,
-            programs,
-        })
+        Ok(Options { mode, seed, built })
     }
 }
 
@@ -71,34 +67,38 @@ impl Options {
 struct Arguments(VecDeque<String>);
 
 impl Arguments {
-    fn mode(&mut self, name: &str) -> Result<Mode, String> {
-        Ok(match name {
-            "--cases" => Mode::All {
-                cases: self.number()?,
-            },
-            "--long" => Mode::Long {
-                seconds: self.number_if_any().unwrap_or(long::DEFAULT_SECONDS),
-            },
-            "--case" => Mode::One {
-                case: self.number()?,
-            },
+    fn mode(&mut self, argument: &str) -> Result<Mode, String> {
+        let mode = match argument {
+            "--cases" => {
+                let cases = self.number()?;
+                Mode::All { cases }
+            }
+            "--long" => {
+                let seconds = self.number_if_any().unwrap_or(LONG_SECONDS);
+                Mode::Long { seconds }
+            }
+            "--case" => {
+                let case = self.number()?;
+                Mode::One { case }
+            }
             "--self-test" => Mode::SelfTest,
             "--bench" => Mode::Bench,
             "--instructions" => Mode::Instructions,
             "--stack" => Mode::Stack,
-            "--once" => Mode::Once {
-                side: self.one_of(&SIDES, |side| side.name().to_string())?,
-                plan: self.plan()?,
-            },
+            "--once" => {
+                let (side, plan) = (self.one_of(&SIDES, name)?, self.plan()?);
+                Mode::Once { side, plan }
+            }
             _ => return Err(USAGE.to_string()),
-        })
+        };
+        Ok(mode)
     }
 
     fn plan(&mut self) -> Result<HardPlan, String> {
         Ok(HardPlan {
-            family: self.one_of(&FAMILIES, |family| family.name().to_string())?,
-            placement: self.one_of(&PLACEMENTS, |placement| placement.name().to_string())?,
-            steps: self.one_of(&LENGTHS, |steps| steps.to_string())?,
+            family: self.one_of(&FAMILIES, name)?,
+            placement: self.one_of(&PLACEMENTS, name)?,
+            steps: self.one_of(&LENGTHS, name)?,
         })
     }
 
@@ -116,7 +116,7 @@ impl Arguments {
         Some(number)
     }
 
-    fn one_of<T: Copy>(&mut self, all: &[T], name: impl Fn(T) -> String) -> Result<T, String> {
+    fn one_of<T: Copy>(&mut self, all: &[T], name: fn(T) -> String) -> Result<T, String> {
         let text = self.text()?;
         let found = all.iter().copied().find(|&it| name(it) == text);
         found.ok_or_else(|| USAGE.to_string())

@@ -1,17 +1,48 @@
 //! Exact reductions that each have one fault, to show that the comparison finds it.
 
+use super::by_rules::{exact_by, Way};
+use crate::cases::answer::Answer;
 use crate::cases::memory::Memory;
-use crate::rules::{self, count, steps_of, Cause, Kept, Lodged, Refusal, MAX_UNMARKED};
+use crate::cases::service::Service;
+use crate::rules::{self, steps_of, Cause, Kept, Lodged, Refusal, MAX_UNMARKED};
 use std::cmp::Reverse;
 
-pub enum Fault {
-    /// It keeps other steps.
-    Keeps(fn(&Lodged) -> Vec<usize>),
-    /// It takes the sheet, the plan and the length of the output, and answers otherwise.
-    Answers(fn(&[u32], &[u32], usize) -> Result<Kept, Refusal>),
-    /// It spoils what the right answer has written.
-    Spoils(fn(&mut Memory)),
-}
+/// Answers in a copy of what is lent.
+type Faulty = fn(&Memory) -> Memory;
+
+/// Each with its name.
+pub const FAULTS: [(&str, Faulty); 12] = [
+    ("hands the lodged plan back", |lent| {
+        keeping(lent, all_steps)
+    }),
+    ("strikes everything", |lent| keeping(lent, |_| Vec::new())),
+    ("is greedy", |lent| {
+        keeping(lent, |lodged| lodged.greedily_eliminated())
+    }),
+    ("decides at one step alone", |lent| {
+        keeping(lent, one_struck)
+    }),
+    ("breaks ties the other way", |lent| {
+        keeping(lent, |lodged| {
+            least_by(lodged, |kept| (lodged.counts(kept), Reverse(kept.clone())))
+        })
+    }),
+    ("compares costs alone", |lent| {
+        keeping(lent, |lodged| {
+            least_by(lodged, |kept| (lodged.counts(kept).0, kept.clone()))
+        })
+    }),
+    ("refuses 20 unmarked steps", |lent| {
+        going(lent, refuse_twenty)
+    }),
+    ("counts no marks", |lent| going(lent, count_no_marks)),
+    ("looks at the output last", |lent| going(lent, output_last)),
+    ("tells the lodged plan's cost", |lent| {
+        going(lent, lodged_cost)
+    }),
+    ("writes past the kept part", write_past_kept),
+    ("writes what it refuses", write_refused),
+];
 
 /// The most steps of a plan whose reductions are all gone through; the answer about a longer one
 /// has no fault.
@@ -19,40 +50,17 @@ const FEW_STEPS: usize = 10;
 /// Where `out` has the steps.
 const STEPS_AT: usize = 3;
 
-/// Each with its name.
-pub const FAULTS: [(&str, Fault); 12] = [
-    ("hands the lodged plan back", Fault::Keeps(all_steps)),
-    ("strikes everything", Fault::Keeps(|_| Vec::new())),
-    (
-        "is greedy",
-        Fault::Keeps(|lodged| lodged.greedily_eliminated()),
-    ),
-    ("decides at one step alone", Fault::Keeps(one_struck)),
-    ("breaks ties the other way", Fault::Keeps(last_of_least)),
-    ("compares costs alone", Fault::Keeps(cheapest)),
-    ("refuses 20 unmarked steps", Fault::Answers(refuse_twenty)),
-    ("counts no marks", Fault::Answers(count_no_marks)),
-    ("looks at the output last", Fault::Answers(output_last)),
-    ("tells the lodged plan's cost", Fault::Answers(lodged_cost)),
-    ("writes past the kept part", Fault::Spoils(write_past_kept)),
-    ("writes what it refuses", Fault::Spoils(write_refused)),
-];
+/// The right checks, but these steps are kept.
+fn keeping(lent: &Memory, steps: fn(&Lodged) -> Vec<usize>) -> Memory {
+    let lodged = Lodged::check_unmarked(&lent.words, &lent.plan, lent.first.len());
+    lent.after(&match lodged {
+        Ok(lodged) => Answer::keeping(lodged.kept(steps)),
+        Err(refusal) => Answer::refused(Service::Exact, refusal),
+    })
+}
 
-impl Memory {
-    pub fn answer_with_fault(&mut self, fault: &Fault) {
-        match fault {
-            Fault::Keeps(steps) => self.reduce(|words, plan, output| {
-                let lodged = Lodged::check_unmarked(words, plan, output)?;
-                Ok(lodged.kept(plan, *steps))
-            }),
-            Fault::Answers(answer) => self.reduce(answer),
-            Fault::Spoils(spoil) => {
-                let number = self.reduce(rules::exact);
-                spoil(self);
-                number
-            }
-        };
-    }
+fn going(lent: &Memory, way: Way) -> Memory {
+    lent.after(&exact_by(lent, way))
 }
 
 fn all_steps(lodged: &Lodged) -> Vec<usize> {
@@ -68,33 +76,18 @@ fn one_struck(lodged: &Lodged) -> Vec<usize> {
     valid.map_or(all_steps(lodged), |kept| steps_of(&kept))
 }
 
-fn last_of_least(lodged: &Lodged) -> Vec<usize> {
-    let key = |kept: &Vec<bool>| (lodged.cost(kept), count(kept), Reverse(kept.clone()));
-    least_by(lodged, key)
-}
-
-fn cheapest(lodged: &Lodged) -> Vec<usize> {
-    least_by(lodged, |kept| (lodged.cost(kept), kept.clone()))
-}
-
 fn least_by<K: Ord>(lodged: &Lodged, key: impl Fn(&Vec<bool>) -> K) -> Vec<usize> {
     if lodged.actions.len() > FEW_STEPS {
         return lodged.least_by_states();
     }
     let valid = lodged.reductions().filter(|kept| lodged.is_valid(kept));
-    valid
-        .min_by_key(key)
-        .map_or(Vec::new(), |kept| steps_of(&kept))
-}
-
-fn refuse_unmarked(place: usize) -> Result<Kept, Refusal> {
-    let cause = Cause::Unmarked;
-    Err(Refusal { cause, place })
+    let least = valid.min_by_key(key);
+    least.map_or(Vec::new(), |kept| steps_of(&kept))
 }
 
 fn refuse_twenty(words: &[u32], plan: &[u32], output: usize) -> Result<Kept, Refusal> {
     match Lodged::check(words, plan, &[output])?.unmarked() {
-        MAX_UNMARKED => refuse_unmarked(MAX_UNMARKED),
+        MAX_UNMARKED => Err(Cause::Unmarked.at(MAX_UNMARKED)),
         _ => rules::exact(words, plan, output),
     }
 }
@@ -102,7 +95,7 @@ fn refuse_twenty(words: &[u32], plan: &[u32], output: usize) -> Result<Kept, Ref
 fn count_no_marks(words: &[u32], plan: &[u32], output: usize) -> Result<Kept, Refusal> {
     let kept = rules::exact(words, plan, output)?;
     match plan.len() > MAX_UNMARKED {
-        true => refuse_unmarked(plan.len()),
+        true => Err(Cause::Unmarked.at(plan.len())),
         false => Ok(kept),
     }
 }
@@ -115,21 +108,24 @@ fn output_last(words: &[u32], plan: &[u32], output: usize) -> Result<Kept, Refus
 
 fn lodged_cost(words: &[u32], plan: &[u32], output: usize) -> Result<Kept, Refusal> {
     let kept = rules::exact(words, plan, output)?;
-    let cost = rules::check_plan(words, plan)?.cost;
+    let cost = Lodged::check(words, plan, &[])?.cost();
     Ok(Kept { cost, ..kept })
 }
 
-fn write_past_kept(memory: &mut Memory) {
-    let steps = memory.out.words().get(STEPS_AT).copied().unwrap_or(0);
-    if let Some(word) = memory.first.words_mut().get_mut(steps as usize) {
+fn write_past_kept(lent: &Memory) -> Memory {
+    let mut memory = going(lent, rules::exact);
+    let steps = memory.out.get(STEPS_AT).copied().unwrap_or(0);
+    if let Some(word) = memory.first.get_mut(steps as usize) {
         *word = 0;
     }
+    memory
 }
 
 /// The number of a refusal is the first word of `out`.
-fn write_refused(memory: &mut Memory) {
-    let is_refused = memory.out.words().first().is_some_and(|&number| number > 0);
-    if is_refused {
+fn write_refused(lent: &Memory) -> Memory {
+    let mut memory = going(lent, rules::exact);
+    if memory.out.first().is_some_and(|&number| number > 0) {
         memory.first.write(&[0]);
     }
+    memory
 }

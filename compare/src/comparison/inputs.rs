@@ -1,10 +1,10 @@
 //! Inputs of the programs: those of document 01, cut off and run on, and seeded ones.
 
-use crate::cases::kinds;
+use super::text;
 use crate::cases::worked::{self, LIST_1, SHEET_P};
-use crate::cases::Case;
+use crate::cases::{kinds, Case};
 use crate::makers::random::Random;
-use crate::rules::{self, COUNT_WORD, EDITION_WORD, HEADER, MAX_STEPS, MAX_WORDS};
+use crate::rules::{COUNT_WORD, EDITION_WORD, HEADER, MAX_ACTION_COST, MAX_STEPS, MAX_WORDS};
 
 /// The bytes of an input; the pipe of one that stays open is not closed before the answer.
 pub struct Input {
@@ -24,7 +24,8 @@ pub fn fixed() -> Vec<Input> {
     inputs.extend(running_on());
     inputs.extend(of_other_counts());
     inputs.extend(too_long());
-    inputs.extend(of_worked_lists());
+    let worked = worked::cases().into_iter();
+    inputs.extend(worked.filter_map(|(name, case)| Some(closed(name, bytes_of_case(&case)?))));
     inputs
 }
 
@@ -34,7 +35,13 @@ fn bytes_of(words: &[u32]) -> Vec<u8> {
 
 /// The sheet, the length of the plan and the plan.
 pub fn input_bytes(words: &[u32], plan: &[u32]) -> Vec<u8> {
-    bytes_of(&[words, &[plan.len() as u32], plan].concat())
+    bytes_of(&[words, &text::length_and_plan(plan)].concat())
+}
+
+/// The input of a case that has a plan.
+fn bytes_of_case(case: &Case) -> Option<Vec<u8>> {
+    let takes_plan = case.call.service.takes_plan();
+    takes_plan.then(|| input_bytes(&case.lent.words, &case.lent.plan))
 }
 
 pub fn closed(name: &str, bytes: Vec<u8>) -> Input {
@@ -98,7 +105,7 @@ fn of_other_counts() -> Vec<Input> {
 fn too_long() -> Vec<Input> {
     let mut of_other_edition = SHEET_P;
     of_other_edition[EDITION_WORD] = 2;
-    let too_dear = worked::with_lamp_cost(rules::MAX_ACTION_COST as u32 + 1);
+    let too_dear = worked::with_lamp_cost(MAX_ACTION_COST as u32 + 1);
     let mut inputs = Vec::new();
     for words in [SHEET_P, of_other_edition, too_dear] {
         for length in [MAX_STEPS as u32 + 1, 1 << 16, 1 << 31, u32::MAX] {
@@ -112,32 +119,16 @@ fn too_long() -> Vec<Input> {
     inputs
 }
 
-fn has_plan(case: &Case) -> bool {
-    case.call.service().takes_plan
-}
-
-fn of_worked_lists() -> Vec<Input> {
-    let cases = worked::cases()
-        .into_iter()
-        .filter(|(_, case)| has_plan(case));
-    cases
-        .map(|(name, case)| closed(name, input_bytes(&case.words, &case.plan)))
-        .collect()
-}
-
 pub fn of_random_cases(seed: u64) -> Vec<Input> {
     let kinds = kinds::all();
-    let mut inputs = Vec::new();
-    for number in 1..=RANDOM_CASES {
+    let input = |number| {
         let (kind, case) = kinds::numbered(&kinds, seed, number);
-        if has_plan(&case) {
-            let name = format!("{}, --seed {seed} --case {number}", kinds[kind].name());
-            let bytes = input_bytes(&case.words, &case.plan);
-            let random = &mut Random::of_case(!seed, number);
-            inputs.push(closed(&name, spoilt(random, bytes)));
-        }
-    }
-    inputs
+        let bytes = bytes_of_case(&case)?;
+        let random = &mut Random::of_case(!seed, number);
+        let name = format!("{kind}, --seed {seed} --case {number}");
+        Some(closed(&name, spoilt(random, bytes)))
+    };
+    (1..=RANDOM_CASES).filter_map(input).collect()
 }
 
 /// Most of the time whole; otherwise cut off, run on, or with one byte changed.

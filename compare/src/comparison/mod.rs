@@ -1,170 +1,86 @@
-//! A run of the comparison: what it has tried, what was answered, and how many answers differed.
+//! The comparison: the services of the library and the built programs, held to the rules.
 
-mod by_rules;
+pub mod by_rules;
 mod faulty;
 pub mod inputs;
 pub mod library;
-pub mod long;
 pub mod programs;
+mod record;
 mod report;
 pub mod self_test;
+mod services;
 mod text;
 
-use crate::cases::kinds;
-use crate::cases::memory::Memory;
-use crate::cases::worked;
-use crate::cases::{Case, SERVICES};
-use programs::PROGRAMS;
-use std::collections::BTreeMap;
-use std::ops::RangeInclusive;
-use std::time::Instant;
+use crate::cases::service::SERVICES;
+use programs::Built;
+use record::Record;
+use std::fs::File;
+use std::io::{self, Read};
+use std::time::{Duration, Instant};
 
-const WORKED: &str = "document 01: worked lists and limits";
-/// After so many differences the run ends.
-const MOST_DIFFERENCES: usize = 5;
+/// How long a long run takes unless it is said.
+pub const LONG_SECONDS: u64 = 600;
+const CASES_OF_ROUND: u64 = 100_000;
 
-#[derive(Default)]
-pub struct Comparison {
-    pub differences: usize,
-    /// When the run ends, unless what there is to try ends it.
-    end: Option<Instant>,
-    /// The cases tried of each kind, by its name.
-    counts: BTreeMap<String, usize>,
-    /// The answers seen of each service and of each program, by its name.
-    answers: BTreeMap<&'static str, BTreeMap<u64, usize>>,
+/// Tries the worked lists on the rules alone. Answers whether nothing failed, as the others do.
+pub fn worked() -> bool {
+    let mut record = Record::default();
+    services::try_worked(&mut record, false);
+    record.finish()
 }
 
-impl Comparison {
-    pub fn until(end: Instant) -> Self {
-        let end = Some(end);
-        Comparison {
-            end,
-            ..Comparison::default()
-        }
-    }
-
-    pub fn is_over(&self) -> bool {
-        let is_late = self.end.is_some_and(|end| Instant::now() >= end);
-        is_late || self.differences >= MOST_DIFFERENCES
-    }
-
-    pub fn try_worked(&mut self, with_library: bool) {
-        for (name, case) in worked::cases() {
-            if self.is_over() {
-                break;
-            }
-            self.try_case(WORKED, &case, with_library, || format!("{WORKED}: {name}"));
-        }
-    }
-
-    pub fn try_random(&mut self, seed: u64, numbers: RangeInclusive<u64>) {
-        let kinds = kinds::all();
-        for number in numbers {
-            if self.is_over() {
-                break;
-            }
-            let (kind, case) = kinds::numbered(&kinds, seed, number);
-            let kind = kinds[kind].name();
-            self.try_case(&kind, &case, true, || {
-                format!("{kind}\n# replay: compare/run --seed {seed} --case {number}")
-            });
-        }
-    }
-
-    fn try_case(
-        &mut self,
-        kind: &str,
-        case: &Case,
-        with_library: bool,
-        title: impl Fn() -> String,
-    ) {
-        let mut by_rules = Memory::of(case);
-        let answer = by_rules.answer_by_rules(case.call);
-        let by_library = with_library.then(|| {
-            let mut memory = Memory::of(case);
-            memory.answer_by_library(case.call);
-            memory
-        });
-        self.count(kind, case.call.service().name, answer);
-        let as_due = case.due.as_ref().is_none_or(|due| by_rules.meets(due));
-        let alike = by_library.as_ref().is_none_or(|memory| *memory == by_rules);
-        if !(as_due && alike) {
-            self.differ(&title());
-            report::print_difference(case, &by_rules, by_library.as_ref());
-        }
-    }
-
-    /// Counts a case of the kind, and its answer as one of the service or program.
-    pub fn count(&mut self, kind: &str, name: &'static str, answer: u64) {
-        match self.counts.get_mut(kind) {
-            Some(count) => *count += 1,
-            None => {
-                self.counts.insert(kind.to_string(), 1);
-            }
-        }
-        let seen = self.answers.entry(name).or_default();
-        *seen.entry(answer).or_default() += 1;
-    }
-
-    /// Counts a difference and prints its title; the case is to be printed behind it.
-    pub fn differ(&mut self, title: &str) {
-        self.differences += 1;
-        println!("\n# difference {}: {title}", self.differences);
-    }
-
-    /// Prints what was tried, and answers whether nothing differed.
-    pub fn finish(&self) -> bool {
-        self.print_counts();
-        self.print_total()
-    }
-
-    /// The same for a run that shows too little where it never saw some answer of a service or of a
-    /// program. One that differences have ended has failed anyway.
-    pub fn finish_all(&self) -> bool {
-        self.print_counts();
-        let services = SERVICES.iter().map(|it| (it.name, it.answers));
-        let programs = PROGRAMS.iter().map(|it| (it.name, it.answers));
-        let built = programs.filter(|(name, _)| self.answers.contains_key(name));
-        let mut all_seen = true;
-        for (name, answers) in services.chain(built) {
-            all_seen &= self.print_answers(name, answers);
-        }
-        self.print_total() && all_seen
-    }
-
-    fn print_counts(&self) {
-        for (kind, &count) in &self.counts {
-            print_count(kind, count);
-        }
-    }
-
-    /// Answers whether each was seen.
-    fn print_answers(&self, name: &str, answers: &[u64]) -> bool {
-        let seen = self.answers.get(name);
-        let times = |answer: &u64| *seen.and_then(|seen| seen.get(answer)).unwrap_or(&0);
-        let listed = answers.iter().map(|it| format!("{it}: {}", times(it)));
-        println!(
-            "answers of {name}: {}",
-            listed.collect::<Vec<_>>().join(", ")
-        );
-        let unseen: Vec<u64> = answers
-            .iter()
-            .copied()
-            .filter(|it| times(it) == 0)
-            .collect();
-        if !unseen.is_empty() && self.differences == 0 {
-            println!("never answered by {name}: {}", text::listed(&unseen));
-        }
-        unseen.is_empty()
-    }
-
-    fn print_total(&self) -> bool {
-        let tried: usize = self.counts.values().sum();
-        println!("compared {tried} cases, {} differences", self.differences);
-        self.differences == 0
-    }
+/// Tries the one random case with this number.
+pub fn one(seed: u64, case: u64) -> bool {
+    let mut record = Record::default();
+    services::try_random(&mut record, seed, case..=case);
+    record.finish()
 }
 
-pub fn print_count(kind: &str, count: usize) {
-    println!("{kind:<42} {count:>9}");
+/// Tries the programs, the worked lists and so many random cases.
+pub fn all(built: &[Built], seed: u64, cases: u64) -> bool {
+    let mut record = expecting_all(built);
+    programs::compare(&mut record, built, &inputs::fixed());
+    programs::compare(&mut record, built, &inputs::of_random_cases(seed));
+    services::try_worked(&mut record, true);
+    services::try_random(&mut record, seed, 1..=cases);
+    record.finish()
+}
+
+/// A run as long as wished: rounds of random cases and of input for the programs, each round with a
+/// seed of its own. Every round but the last, which the end of the time cuts off, is the same in
+/// each run from the same first seed.
+pub fn long(built: &[Built], first_seed: u64, seconds: u64) -> bool {
+    println!("first seed {first_seed}; again: compare/run --long {seconds} --seed {first_seed}");
+    let mut record = expecting_all(built);
+    record.end = Some(Instant::now() + Duration::from_secs(seconds));
+    services::try_worked(&mut record, true);
+    programs::compare(&mut record, built, &inputs::fixed());
+    let mut rounds = 0;
+    while !record.is_over() {
+        let seed = first_seed.wrapping_add(rounds);
+        programs::compare(&mut record, built, &inputs::of_random_cases(seed));
+        services::try_random(&mut record, seed, 1..=CASES_OF_ROUND);
+        rounds += 1;
+    }
+    println!("first seed {first_seed}; rounds of {CASES_OF_ROUND} cases begun: {rounds}");
+    record.finish()
+}
+
+/// The record of a run that must show every answer of the services and of these programs.
+fn expecting_all(built: &[Built]) -> Record {
+    let mut record = Record::default();
+    for service in SERVICES {
+        record.expect(service.name(), service.answers());
+    }
+    for Built { program, .. } in built {
+        record.expect(program.name, program.answers);
+    }
+    record
+}
+
+/// A first seed that no run before has had: half a word, so that the seeds of all rounds fit in one.
+pub fn fresh_seed() -> io::Result<u64> {
+    let mut bytes = [0; 4];
+    File::open("/dev/urandom")?.read_exact(&mut bytes)?;
+    Ok(u64::from(u32::from_le_bytes(bytes)))
 }

@@ -1,8 +1,8 @@
 //! Compares what the built programs print with what the rules have them print, byte for byte.
 
 use super::inputs::Input;
-use crate::comparison::text;
-use crate::comparison::Comparison;
+use super::record::Record;
+use super::text;
 use crate::rules::{printed_by_shorten, printed_by_validate};
 use std::fs;
 use std::io::{Read, Write};
@@ -20,7 +20,7 @@ pub struct Program {
     pub answers: &'static [u64],
 }
 
-pub static PROGRAMS: [Program; 2] = [
+static PROGRAMS: [Program; 2] = [
     Program {
         name: "validate",
         due: printed_by_validate,
@@ -56,25 +56,25 @@ impl Built {
 }
 
 /// Tries the inputs on each program.
-pub fn compare(comparison: &mut Comparison, built: &[Built], inputs: &[Input]) {
+pub fn compare(record: &mut Record, built: &[Built], inputs: &[Input]) {
     for built in built {
         for input in inputs {
-            if comparison.is_over() {
+            if record.is_over() {
                 return;
             }
-            try_input(comparison, built, input);
+            try_input(record, built, input);
         }
     }
 }
 
-fn try_input(comparison: &mut Comparison, built: &Built, input: &Input) {
+fn try_input(record: &mut Record, built: &Built, input: &Input) {
     let Program { name, due, .. } = built.program;
     let due = due(&input.bytes);
     let printed = printed(&built.path, input);
-    comparison.count(&format!("program: {name}"), name, answer_in(&due));
+    record.count(&format!("program: {name}"), name, answer_in(&due));
     if printed.as_deref() != Ok(due.as_str()) {
-        comparison.differ(&format!("program {name}: {}", input.name));
-        let replay = format!("{REPLAY}{}", comparison.differences);
+        record.differ(&format!("program {name}: {}", input.name));
+        let replay = format!("{REPLAY}{}", record.differences);
         print_replay(&built.path, input, &replay);
         print_input(&input.bytes);
         print_lines("the program prints", &printed.unwrap_or_else(|error| error));

@@ -3,15 +3,14 @@
 //! read back as its words.
 
 use super::faulty::FAULTS;
-use crate::cases::kinds;
+use super::inputs::input_bytes;
+use super::record::print_count;
+use super::{by_rules, text};
 use crate::cases::memory::Memory;
+use crate::cases::service::Service;
 use crate::cases::worked::{self, LIST_1, SHEET_P};
-use crate::cases::{Call, Case};
-use crate::comparison::inputs::input_bytes;
-use crate::comparison::print_count;
-use crate::comparison::text;
-use crate::rules::search;
-use crate::rules::{printed_by_shorten, Lodged};
+use crate::cases::{kinds, Case};
+use crate::rules::{printed_by_shorten, search, Lodged};
 
 /// All reductions of plans of at most so many steps are gone through.
 const FEW_STEPS: usize = 12;
@@ -40,21 +39,26 @@ fn lines_are_as_documented() -> bool {
     alike
 }
 
+/// The random cases up to a number, with their numbers.
+fn numbered_cases(seed: u64, last: u64) -> impl Iterator<Item = (u64, Case)> {
+    let kinds = kinds::all();
+    (1..=last).map(move |number| (number, kinds::numbered(&kinds, seed, number).1))
+}
+
+fn is_exact(case: &Case) -> bool {
+    case.call.service == Service::Exact
+}
+
 /// Sheets of every fault among them.
 fn texts_read_back(seed: u64) -> bool {
-    let kinds = kinds::all();
-    let reads_back = |number: &u64| {
-        let case = kinds::numbered(&kinds, seed, *number).1;
-        let length_and_plan = [&[case.plan.len() as u32], &case.plan[..]].concat();
-        let words = [&case.words[..], &length_and_plan].concat();
-        let texts = [
-            text::of_input(&case.words, &length_and_plan),
-            text::of_program_input(&words),
-        ];
-        texts.iter().all(|text| words_in(text) == words)
+    let reads_back = |Memory { words, plan, .. }: &Memory| {
+        let length_and_plan = text::length_and_plan(plan);
+        let all = [&words[..], &length_and_plan].concat();
+        let text = text::of_input(words, &length_and_plan);
+        words_in(&text) == all && words_in(&text::of_program_input(&all)) == all
     };
-    let failing = (1..=CASES_FOR_TEXTS).find(|number| !reads_back(number));
-    if let Some(number) = failing {
+    let failing = numbered_cases(seed, CASES_FOR_TEXTS).find(|(_, case)| !reads_back(&case.lent));
+    if let Some((number, _)) = &failing {
         println!("the text has other words: --seed {seed} --case {number}");
     }
     print_count("texts that read back", CASES_FOR_TEXTS as usize);
@@ -69,20 +73,13 @@ fn words_in(text: &str) -> Vec<u32> {
         .collect()
 }
 
-/// The cases of the exact reduction among random ones, with their numbers.
-fn exact_cases(seed: u64, cases: u64) -> impl Iterator<Item = (u64, Case)> {
-    let kinds = kinds::all();
-    let case = move |number| (number, kinds::numbered(&kinds, seed, number).1);
-    let cases = (1..=cases).map(case);
-    cases.filter(|(_, case)| matches!(case.call, Call::Exact))
-}
-
 /// The rules' way by states and the search against each other, and against the way through all
 /// reductions where there are few enough.
 fn ways_are_alike(seed: u64) -> bool {
     let (mut tried, mut tried_all) = (0, 0);
-    for (number, case) in exact_cases(seed, CASES_FOR_WAYS) {
-        let (words, plan, output) = (&case.words, &case.plan, case.first.len());
+    let cases = numbered_cases(seed, CASES_FOR_WAYS).filter(|(_, case)| is_exact(case));
+    for (number, case) in cases {
+        let (words, plan, output) = (&case.lent.words, &case.lent.plan, case.lent.first.len());
         let Ok(lodged) = Lodged::check_unmarked(words, plan, output) else {
             continue;
         };
@@ -104,27 +101,21 @@ fn ways_are_alike(seed: u64) -> bool {
 }
 
 fn faults_are_found(seed: u64) -> bool {
-    let random = exact_cases(seed, CASES_FOR_FAULTS).map(|(_, case)| case);
     let worked = worked::cases().into_iter().map(|(_, case)| case);
-    let worked = worked.filter(|case| matches!(case.call, Call::Exact));
-    let cases: Vec<(Case, Memory)> = worked.chain(random).map(with_answer).collect();
+    let random = numbered_cases(seed, CASES_FOR_FAULTS).map(|(_, case)| case);
+    let with_answer = |Case { call, lent, .. }| {
+        let right = lent.after(&by_rules::answer(call, &lent));
+        (lent, right)
+    };
+    let cases = worked.chain(random).filter(is_exact).map(with_answer);
+    let cases: Vec<(Memory, Memory)> = cases.collect();
     let mut all_found = true;
-    for (name, fault) in FAULTS {
-        let differs = |(case, right): &&(Case, Memory)| {
-            let mut memory = Memory::of(case);
-            memory.answer_with_fault(&fault);
-            memory != *right
-        };
-        let found = cases.iter().filter(differs).count();
+    for (name, faulty) in FAULTS {
+        let found = cases.iter().filter(|(lent, right)| faulty(lent) != *right);
+        let found = found.count();
         print_count(&format!("fault found: {name}"), found);
         all_found &= found > 0;
     }
     print_count("cases that the faults were tried on", cases.len());
     all_found
-}
-
-fn with_answer(case: Case) -> (Case, Memory) {
-    let mut memory = Memory::of(&case);
-    memory.answer_by_rules(case.call);
-    (case, memory)
 }

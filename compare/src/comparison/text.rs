@@ -2,8 +2,7 @@
 //! comments from `#` to the end of the line. Without the comments it is the input of the programs,
 //! word by word.
 
-use crate::makers::task::offset_word;
-use crate::rules::{self, split, ACTION_HEAD, FIRST_ACTION_PAIR, HEADER};
+use crate::rules::{self, pair_word, split, ACTION_HEAD, FIRST_ACTION_PAIR, HEADER};
 use std::fmt::Display;
 
 /// The words of a sheet, then the length of the plan and the plan. The length is passed with the
@@ -15,6 +14,11 @@ pub fn of_input(sheet: &[u32], length_and_plan: &[u32]) -> String {
         lines.push(line(plan, "plan"));
     }
     lines.concat()
+}
+
+/// The words that stand behind the sheet in a program's input.
+pub fn length_and_plan(plan: &[u32]) -> Vec<u32> {
+    [&[plan.len() as u32], plan].concat()
 }
 
 /// The same of the words of a program's input, where word 3 says how long the sheet is.
@@ -47,7 +51,7 @@ fn sheet_lines(words: &[u32]) -> Vec<String> {
     let actions = words.get(rules::ACTIONS_WORD).copied().unwrap_or(0);
     let pairs = FIRST_ACTION_PAIR + actions as usize;
     let (header, rest) = words.split_at(HEADER.min(words.len()));
-    let pair_words = (offset_word(pairs) - HEADER).min(rest.len());
+    let pair_words = (pair_word(pairs) - HEADER).min(rest.len());
     let mut lines = vec![
         line(header, "header: edition, variables, actions, words"),
         line(&rest[..pair_words], "pairs: offset and length of each part"),
@@ -62,10 +66,10 @@ fn sheet_lines(words: &[u32]) -> Vec<String> {
 /// A part goes as far as the next one's offset says, whatever its length, and the last one to the
 /// end: so each word stands in one line, even where the pairs are wrong.
 fn parts(words: &[u32], pairs: usize) -> Vec<&[u32]> {
-    let mut start = offset_word(pairs);
+    let mut start = pair_word(pairs);
     let part = |pair| {
         let next = match pair + 1 < pairs {
-            true => words[offset_word(pair + 1)] as usize,
+            true => words[pair_word(pair + 1)] as usize,
             false => words.len(),
         };
         let is_in_order = (start..=words.len()).contains(&next);

@@ -1,21 +1,18 @@
 //! Plans of small tasks that go round in circles, so that many strikings succeed: gates that are
 //! lifted and dropped, steps that undo others, and several ways to the same fact.
 
-use crate::makers::random::Random;
-use crate::makers::task::{Action, Fact, Task};
-use crate::makers::walk::Walk;
+use super::random::Random;
+use super::task::{action, set, Fact, Task};
+use super::walk::Walk;
 use crate::rules::State;
 
-/// What the costs of a task's actions are taken from.
-type Costs = &'static [u32];
-
-/// The most actions of a task, their costs, and whether most of them move a variable from one value
-/// to another; otherwise most of them have no preconditions.
+/// The most actions of a task, what their costs are taken from, and whether most of them move a
+/// variable from one value to another; otherwise most of them have no preconditions.
 #[derive(Clone, Copy)]
 pub struct Shape {
-    pub actions: usize,
-    pub costs: Costs,
-    pub moves: bool,
+    actions: usize,
+    costs: &'static [u32],
+    moves: bool,
 }
 
 pub const USUAL: Shape = Shape {
@@ -42,22 +39,17 @@ pub const MANY_WRITERS: Shape = Shape {
 
 /// A walk of `length` steps, part of it detours, whose goal is some of its end state.
 pub fn walk(random: &mut Random, shape: Shape, length: usize) -> Walk {
-    let mut walk = Walk::within(small_task(random, shape));
+    let mut walk = Walk::of(small_task(random, shape), &[]);
     let detours = random.size(0..=length / 2);
     while walk.plan.len() < length {
         let room = length - walk.plan.len();
         let place = random.index(walk.plan.len() + 1);
-        let detour = detour(random, &walk.task, walk.states[place]);
-        match detour {
+        match detour(random, &walk, place) {
             Some(detour) if room <= detours && detour.len() <= room => walk.insert(place, &detour),
-            _ => {
-                let next = random_applicable(random, &walk.task, walk.end());
-                walk.insert(walk.plan.len(), &[next]);
-            }
+            _ => walk.push(walk.random_applicable(random, walk.end())),
         }
     }
-    let end = *walk.end();
-    walk.task.goal = some_facts(random, &walk.task, &end);
+    walk.task.goal = some_facts(random, &walk);
     walk
 }
 
@@ -67,17 +59,15 @@ fn small_task(random: &mut Random, shape: Shape) -> Task {
     let sizes: Vec<u32> = (0..variables).map(|_| random.within(2..=3)).collect();
     let start = sizes.iter().map(|&n| random.within(0..=n - 1)).collect();
     let mut task = Task {
-        sizes,
         start,
-        goal: Vec::new(),
-        actions: Vec::new(),
+        ..Task::from_zero(sizes, Vec::new(), Vec::new())
     };
-    add_setter(random, &mut task, shape.costs);
+    add_setter(random, &mut task, shape);
     for _ in 0..random.size(0..=shape.actions) {
         if shape.moves != random.once_in(4) {
-            add_move(random, &mut task, shape.costs);
+            add_move(random, &mut task, shape);
         } else {
-            add_setter(random, &mut task, shape.costs);
+            add_setter(random, &mut task, shape);
         }
     }
     task
@@ -101,68 +91,48 @@ fn fact_and_more(random: &mut Random, task: &Task, fact: Fact) -> Vec<Fact> {
 }
 
 /// An action without preconditions.
-fn add_setter(random: &mut Random, task: &mut Task, costs: Costs) {
+fn add_setter(random: &mut Random, task: &mut Task, shape: Shape) {
     let fact = random_fact(random, task);
     let effects = fact_and_more(random, task, fact);
-    task.actions.push(Action {
-        cost: random.pick(costs),
-        preconditions: Vec::new(),
-        effects,
-    });
+    let cost = random.pick(shape.costs);
+    task.actions.push(action(cost, Vec::new(), effects));
 }
 
 /// An action that gives a variable another value, and most of the time one that gives it the old
 /// one back.
-fn add_move(random: &mut Random, task: &mut Task, costs: Costs) {
+fn add_move(random: &mut Random, task: &mut Task, shape: Shape) {
     let from = random_fact(random, task);
-    let size = task.sizes[from.variable];
-    let value = (from.value + random.within(1..=size - 1)) % size;
-    let to = Fact { value, ..from };
+    let to = task.other_value(random, from);
+    let to = to.expect("a variable of a small task has two values or three");
     let both_ways = !random.once_in(4);
-    for (from, to) in [(from, to), (to, from)]
-        .into_iter()
-        .take(1 + usize::from(both_ways))
-    {
-        let action = Action {
-            cost: random.pick(costs),
-            preconditions: fact_and_more(random, task, from),
-            effects: fact_and_more(random, task, to),
-        };
-        task.actions.push(action);
+    let ways = [(from, to), (to, from)];
+    for (from, to) in ways.into_iter().take(1 + usize::from(both_ways)) {
+        let cost = random.pick(shape.costs);
+        let preconditions = fact_and_more(random, task, from);
+        let effects = fact_and_more(random, task, to);
+        task.actions.push(action(cost, preconditions, effects));
     }
 }
 
-pub fn random_applicable(random: &mut Random, task: &Task, state: &State) -> u32 {
-    let actions = 0..task.actions.len() as u32;
-    let applicable: Vec<u32> = actions
-        .filter(|&action| task.actions[action as usize].is_applicable(state))
-        .collect();
-    random.pick(&applicable)
-}
-
-/// One or two steps that lead from a state back to it.
-fn detour(random: &mut Random, task: &Task, state: State) -> Option<Vec<u32>> {
+/// One or two steps that lead from the state at a place back to it.
+fn detour(random: &mut Random, walk: &Walk, place: usize) -> Option<Vec<u32>> {
     let mut detour = Vec::new();
-    let mut reached = state;
+    let mut reached: State = walk.states[place];
     for _ in 0..2 {
-        let action = random_applicable(random, task, &reached);
-        task.actions[action as usize].apply(&mut reached);
+        let action = walk.random_applicable(random, &reached);
+        set(&mut reached, &walk.task.actions[action as usize].effects);
         detour.push(action);
-        if reached == state {
+        if reached == walk.states[place] {
             return Some(detour);
         }
     }
     None
 }
 
-/// None, some or all of the facts that hold in a state.
-fn some_facts(random: &mut Random, task: &Task, state: &State) -> Vec<Fact> {
+/// None, some or all of the facts that hold in the end state.
+fn some_facts(random: &mut Random, walk: &Walk) -> Vec<Fact> {
     let share = random.size(1..=3);
-    let mut facts = Vec::new();
-    for (variable, &value) in state.iter().enumerate().take(task.sizes.len()) {
-        if random.once_in(share) {
-            facts.push(Fact { variable, value });
-        }
-    }
+    let mut facts = walk.end_facts();
+    facts.retain(|_| random.once_in(share));
     facts
 }

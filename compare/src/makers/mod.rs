@@ -5,6 +5,7 @@ pub mod answered;
 pub mod cycles;
 pub mod families;
 pub mod faults;
+mod parts;
 pub mod random;
 pub mod sheet;
 pub mod task;

@@ -47,6 +47,23 @@ impl Random {
         choices[self.index(choices.len())]
     }
 
+    /// Which of `all` are chosen, so that `count` are and each choice is as likely as the others.
+    pub fn choose(&mut self, count: usize, all: usize) -> Vec<bool> {
+        let mut left = count;
+        let is_chosen = |index| {
+            let is_chosen = self.index(all - index) < left;
+            left -= usize::from(is_chosen);
+            is_chosen
+        };
+        (0..all).map(is_chosen).collect()
+    }
+
+    pub fn shuffle<T>(&mut self, items: &mut [T]) {
+        for last in (1..items.len()).rev() {
+            items.swap(last, self.index(last + 1));
+        }
+    }
+
     /// Any word, half of the time one at an edge.
     pub fn word(&mut self) -> u32 {
         if self.once_in(2) {

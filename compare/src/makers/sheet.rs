@@ -1,29 +1,35 @@
 //! The words of a sheet together with where its parts truly stand, whatever its words say by now:
 //! so one fault can be put beside another.
 
-use crate::makers::random::Random;
-use crate::makers::task::{length_word, offset_word, places, Task};
-use crate::rules;
+use super::random::Random;
+use super::task::Task;
+use crate::rules::{self, pair_word, Cause, Refusal};
 use std::ops::Range;
 
 pub struct Sheet {
     pub words: Vec<u32>,
-    parts: Vec<Range<usize>>,
+    /// The word indices of each pair's part.
+    pub parts: Vec<Range<usize>>,
     /// The number of preconditions of each action.
     preconditions: Vec<usize>,
+}
+
+/// The word index of a pair's length.
+pub fn length_word(pair: usize) -> usize {
+    pair_word(pair) + 1
 }
 
 impl Sheet {
     pub fn of(task: &Task) -> Self {
         Sheet {
             words: task.words(),
-            parts: places(&task.parts()),
+            parts: task.places(),
             preconditions: task.actions.iter().map(|a| a.preconditions.len()).collect(),
         }
     }
 
     pub fn variables(&self) -> usize {
-        self.part(rules::SIZES_PAIR).len()
+        self.parts[rules::SIZES_PAIR].len()
     }
 
     pub fn actions(&self) -> usize {
@@ -34,12 +40,9 @@ impl Sheet {
         self.parts.len() - 1
     }
 
-    pub fn part(&self, pair: usize) -> Range<usize> {
-        self.parts[pair].clone()
-    }
-
-    pub fn action_part(&self, action: usize) -> Range<usize> {
-        self.part(rules::FIRST_ACTION_PAIR + action)
+    /// The index of the word behind the pairs.
+    pub fn pairs_end(&self) -> usize {
+        self.parts[rules::SIZES_PAIR].start
     }
 
     /// The word at an index that an earlier fault may have cut off.
@@ -51,6 +54,18 @@ impl Sheet {
         if let Some(old) = self.words.get_mut(index) {
             *old = word;
         }
+    }
+
+    /// Sets a word that is refused for this cause at this place.
+    pub fn spoil(
+        &mut self,
+        index: usize,
+        word: u32,
+        cause: Cause,
+        place: usize,
+    ) -> Option<Refusal> {
+        self.set(index, word);
+        Some(cause.at(place))
     }
 
     /// Has word 3 say how many words there are.
@@ -84,9 +99,9 @@ impl Sheet {
         self.parts[pair].end = moved(self.parts[pair].end);
         self.add(length_word(pair), change);
         for later in pair + 1..self.parts.len() {
-            let part = self.part(later);
+            let part = &self.parts[later];
             self.parts[later] = moved(part.start)..moved(part.end);
-            self.add(offset_word(later), change);
+            self.add(pair_word(later), change);
         }
         self.add(rules::COUNT_WORD, change);
     }
@@ -98,9 +113,9 @@ impl Sheet {
 
     /// The word indices of the goal, of each action's preconditions and of each one's effects.
     fn groups(&self) -> Vec<Range<usize>> {
-        let mut groups = vec![self.part(rules::GOAL_PAIR)];
-        for (action, &count) in self.preconditions.iter().enumerate() {
-            let part = self.action_part(action);
+        let mut groups = vec![self.parts[rules::GOAL_PAIR].clone()];
+        let parts = self.parts[rules::FIRST_ACTION_PAIR..].iter();
+        for (part, count) in parts.zip(&self.preconditions) {
             let facts = (part.start + rules::ACTION_HEAD).min(part.end);
             let effects = (facts + count).min(part.end);
             groups.extend([facts..effects, effects..part.end]);
@@ -119,8 +134,10 @@ impl Sheet {
         Some(random.size(group.start + before..=group.end - 1))
     }
 
+    /// The pair of an action.
     pub fn random_action(&self, random: &mut Random) -> Option<usize> {
-        (self.actions() > 0).then(|| random.index(self.actions()))
+        let actions = self.actions();
+        (actions > 0).then(|| rules::FIRST_ACTION_PAIR + random.index(actions))
     }
 
     pub fn random_pair(&self, random: &mut Random) -> usize {
@@ -130,11 +147,6 @@ impl Sheet {
     /// The word index of a variable's domain size.
     pub fn size_word(&self, variable: usize) -> usize {
         self.parts[rules::SIZES_PAIR].start + variable
-    }
-
-    /// The word index of a variable's starting value.
-    pub fn start_word(&self, variable: usize) -> usize {
-        self.parts[rules::START_PAIR].start + variable
     }
 
     /// The domain size of the variable of the fact at word `index`.

@@ -1,22 +1,18 @@
 //! Tasks of random shape, with every edge of their ranges, and the sheets that hold them.
 
-use crate::makers::random::Random;
-use crate::rules::{self, State};
-use std::ops::Range;
-
-/// The words that a task has apart from its variables, its actions and its facts.
-const FIXED_WORDS: usize = offset_word(rules::FIRST_ACTION_PAIR);
-/// A variable's domain size and starting value.
-const VARIABLE_WORDS: usize = 2;
-/// An action's pair and the words before its facts.
-const ACTION_WORDS: usize = PAIR_WORDS + rules::ACTION_HEAD;
-/// A part's offset and length.
-const PAIR_WORDS: usize = 2;
+use super::random::Random;
+use crate::rules::{self, pair_word, State};
+use std::ops::{Range, RangeInclusive};
 
 #[derive(Clone, Copy)]
 pub struct Fact {
     pub variable: usize,
     pub value: u32,
+}
+
+pub fn fact(variable: usize, value: usize) -> Fact {
+    let value = value as u32;
+    Fact { variable, value }
 }
 
 impl Fact {
@@ -29,6 +25,20 @@ impl Fact {
     }
 }
 
+/// Has the state hold these facts.
+pub fn set(state: &mut State, facts: &[Fact]) {
+    for fact in facts {
+        state[fact.variable] = fact.value;
+    }
+}
+
+/// Gives the facts' variables the values that they have in the state.
+pub fn fit(facts: &mut [Fact], state: &State) {
+    for fact in facts {
+        fact.value = state[fact.variable];
+    }
+}
+
 #[derive(Clone)]
 pub struct Action {
     pub cost: u32,
@@ -36,15 +46,17 @@ pub struct Action {
     pub effects: Vec<Fact>,
 }
 
+pub fn action(cost: u32, preconditions: Vec<Fact>, effects: Vec<Fact>) -> Action {
+    Action {
+        cost,
+        preconditions,
+        effects,
+    }
+}
+
 impl Action {
     pub fn is_applicable(&self, state: &State) -> bool {
         self.preconditions.iter().all(|fact| fact.holds(state))
-    }
-
-    pub fn apply(&self, state: &mut State) {
-        for effect in &self.effects {
-            state[effect.variable] = effect.value;
-        }
     }
 
     fn part(&self) -> Vec<u32> {
@@ -62,78 +74,69 @@ pub struct Task {
     pub actions: Vec<Action>,
 }
 
-/// The numbers of variables and actions, and of the words that the sheet may have.
-struct Shape {
-    variables: usize,
-    actions: usize,
-    limit: usize,
-}
-
-impl Shape {
-    /// The words left for facts.
-    fn room(&self) -> usize {
-        let needed = FIXED_WORDS + VARIABLE_WORDS * self.variables + ACTION_WORDS * self.actions;
-        self.limit - needed
-    }
-}
-
 impl Task {
+    /// A task whose variables all start at 0.
+    pub fn from_zero(sizes: Vec<u32>, goal: Vec<Fact>, actions: Vec<Action>) -> Self {
+        Task {
+            start: vec![0; sizes.len()],
+            sizes,
+            goal,
+            actions,
+        }
+    }
+
     /// An accepted task of any shape.
     pub fn random(random: &mut Random) -> Self {
-        let variables = random_variables(random);
-        let actions = random_actions(random);
+        let most = rules::MAX_VARIABLES;
+        let variables = edged(random, 4, &[1, 2, most - 1, most], 1..=8);
+        let most = rules::MAX_ACTIONS;
+        // Few actions in most tasks: sheets with many take long and show little more.
+        let actions = edged(random, 16, &[0, 1, most - 1, most], 0..=12);
         let many_facts = random.once_in(4);
-        let shape = Shape {
-            variables,
-            actions,
-            limit: rules::MAX_WORDS,
+        let group_size = |random: &mut Random| match random.index(8) {
+            0 => 0,
+            1 if many_facts => variables,
+            2 if many_facts => random.size(0..=variables),
+            _ => random.size(0..=variables.min(3)),
         };
-        Task::of_shape(random, shape, |random| {
-            random_group_size(random, variables, many_facts)
-        })
+        Task::of_shape(random, variables, actions, rules::MAX_WORDS, group_size)
     }
 
     /// A task whose sheet has as many words as a sheet may have, or one or two fewer.
     pub fn filling(random: &mut Random) -> Self {
         let variables = rules::MAX_VARIABLES - random.index(2);
         let enough_actions = rules::MAX_WORDS / (2 * variables) + 1;
-        let shape = Shape {
-            variables,
-            actions: random.size(enough_actions..=rules::MAX_ACTIONS),
-            limit: rules::MAX_WORDS - random.index(3),
-        };
-        Task::of_shape(random, shape, |_| variables)
+        let actions = random.size(enough_actions..=rules::MAX_ACTIONS);
+        let limit = rules::MAX_WORDS - random.index(3);
+        Task::of_shape(random, variables, actions, limit, |_| variables)
     }
 
-    /// Takes facts for one group after another until the sheet is full.
+    /// Takes facts for one group after another until the sheet has as many words as the limit says.
     fn of_shape(
         random: &mut Random,
-        shape: Shape,
+        variables: usize,
+        actions: usize,
+        limit: usize,
         group_size: impl Fn(&mut Random) -> usize,
     ) -> Self {
-        let sizes: Vec<u32> = (0..shape.variables)
-            .map(|_| random_domain(random))
-            .collect();
+        let sizes: Vec<u32> = (0..variables).map(|_| random_domain(random)).collect();
         let start = sizes.iter().map(|&n| random_value(random, n)).collect();
-        let mut room = shape.room();
+        let pairs = rules::FIRST_ACTION_PAIR + actions;
+        let values = 2 * variables;
+        let mut room = limit - pair_word(pairs) - values - rules::ACTION_HEAD * actions;
         let mut group = |random: &mut Random| {
             let size = group_size(random).min(room);
             room -= size;
             random_group(random, &sizes, size)
         };
         let goal = group(random);
-        let actions = (0..shape.actions)
-            .map(|_| Action {
-                cost: random_cost(random),
-                preconditions: group(random),
-                effects: group(random),
-            })
-            .collect();
+        let actions =
+            (0..actions).map(|_| action(random_cost(random), group(random), group(random)));
         Task {
-            sizes,
+            actions: actions.collect(),
             start,
             goal,
-            actions,
+            sizes,
         }
     }
 
@@ -143,9 +146,9 @@ impl Task {
         state
     }
 
-    /// Gives the goal's variables the values that they have in `state`.
-    pub fn set_goal_from(&mut self, state: &State) {
-        fit(&mut self.goal, state);
+    /// The cost of a step of this action.
+    pub fn cost(&self, action: u32) -> usize {
+        self.actions[action as usize].cost as usize
     }
 
     /// Gives a fact another value of its variable's domain, if there is one.
@@ -158,103 +161,65 @@ impl Task {
     }
 
     /// The parts of the sheet in the order of their pairs.
-    pub fn parts(&self) -> Vec<Vec<u32>> {
+    fn parts(&self) -> Vec<Vec<u32>> {
         let goal = self.goal.iter().map(|fact| fact.word()).collect();
         let mut parts = vec![self.sizes.clone(), self.start.clone(), goal];
         parts.extend(self.actions.iter().map(Action::part));
         parts
     }
 
-    pub fn words(&self) -> Vec<u32> {
+    /// The word indices of the parts, one behind the other from the end of the pairs.
+    pub fn places(&self) -> Vec<Range<usize>> {
         let parts = self.parts();
-        let places = places(&parts);
+        let mut end = pair_word(parts.len());
+        let place = |part: &Vec<u32>| {
+            let start = end;
+            end += part.len();
+            start..end
+        };
+        parts.iter().map(place).collect()
+    }
+
+    pub fn words(&self) -> Vec<u32> {
+        let places = self.places();
         let count = places.last().map_or(0, |last| last.end);
         let edition = rules::EDITION;
         let header = [edition, self.sizes.len(), self.actions.len(), count];
         let pairs = places.iter().flat_map(|place| [place.start, place.len()]);
         let words = header.into_iter().chain(pairs).map(|word| word as u32);
-        words.chain(parts.concat()).collect()
+        words.chain(self.parts().concat()).collect()
     }
 }
 
-/// The word indices of the parts, one behind the other from the end of the pairs.
-pub fn places(parts: &[Vec<u32>]) -> Vec<Range<usize>> {
-    let mut end = offset_word(parts.len());
-    let place = |part: &Vec<u32>| {
-        let start = end;
-        end += part.len();
-        start..end
-    };
-    parts.iter().map(place).collect()
-}
-
-/// The word index of a pair's offset.
-pub const fn offset_word(pair: usize) -> usize {
-    rules::HEADER + PAIR_WORDS * pair
-}
-
-/// The word index of a pair's length.
-pub fn length_word(pair: usize) -> usize {
-    offset_word(pair) + 1
-}
-
-/// Gives the facts' variables the values that they have in `state`.
-pub fn fit(facts: &mut [Fact], state: &State) {
-    for fact in facts {
-        fact.value = state[fact.variable];
-    }
-}
-
-fn random_variables(random: &mut Random) -> usize {
-    let most = rules::MAX_VARIABLES;
-    match random.index(4) {
-        0 => random.pick(&[1, 2, most - 1, most]),
-        1 => random.size(1..=most),
-        _ => random.size(1..=8),
-    }
-}
-
-/// Few actions in most tasks: sheets with many take long and show little more.
-fn random_actions(random: &mut Random) -> usize {
-    let most = rules::MAX_ACTIONS;
-    match random.index(16) {
-        0 => random.pick(&[0, 1, most - 1, most]),
-        1 => random.size(0..=most),
-        _ => random.size(0..=12),
-    }
-}
-
-fn random_group_size(random: &mut Random, variables: usize, many_facts: bool) -> usize {
-    match random.index(8) {
-        0 => 0,
-        1 if many_facts => variables,
-        2 if many_facts => random.size(0..=variables),
-        _ => random.size(0..=variables.min(3)),
+/// Once in `times` one of the edges, once any number between the first and the last of them, and
+/// otherwise a usual one.
+fn edged(
+    random: &mut Random,
+    times: usize,
+    edges: &[usize],
+    usual: RangeInclusive<usize>,
+) -> usize {
+    match random.index(times) {
+        0 => random.pick(edges),
+        1 => random.size(edges[0]..=edges[edges.len() - 1]),
+        _ => random.size(usual),
     }
 }
 
 fn random_domain(random: &mut Random) -> u32 {
-    let most = rules::MAX_DOMAIN as u32;
-    match random.index(4) {
-        0 => random.pick(&[1, most - 1, most]),
-        1 => random.within(1..=most),
-        _ => random.within(1..=4),
-    }
+    let most = rules::MAX_DOMAIN;
+    edged(random, 4, &[1, most - 1, most], 1..=4) as u32
+}
+
+fn random_cost(random: &mut Random) -> u32 {
+    let most = rules::MAX_ACTION_COST;
+    edged(random, 4, &[0, 1, most - 1, most], 0..=20) as u32
 }
 
 fn random_value(random: &mut Random, size: u32) -> u32 {
     match random.index(4) {
         0 => size - 1,
         _ => random.within(0..=size - 1),
-    }
-}
-
-fn random_cost(random: &mut Random) -> u32 {
-    let most = rules::MAX_ACTION_COST as u32;
-    match random.index(4) {
-        0 => random.pick(&[0, 1, most - 1, most]),
-        1 => random.within(0..=most),
-        _ => random.within(0..=20),
     }
 }
 

@@ -1,8 +1,8 @@
-//! Plans made by walks of applicable actions, ways to spoil them, and states for single steps.
+//! Plans made by walks of applicable actions, and ways to spoil them.
 
-use crate::makers::random::Random;
-use crate::makers::task::{fit, Task};
-use crate::rules::{self, State};
+use super::random::Random;
+use super::task::{fit, set, Fact, Task};
+use crate::rules::{self, Cause, Refusal, State};
 
 /// A task with a plan of it whose every step can be done.
 pub struct Walk {
@@ -13,13 +13,15 @@ pub struct Walk {
 }
 
 impl Walk {
-    /// The walk of no steps.
-    pub fn within(task: Task) -> Self {
-        Walk {
+    /// The walk of these steps, which can be done.
+    pub fn of(task: Task, plan: &[u32]) -> Self {
+        let mut walk = Walk {
             plan: Vec::new(),
             states: vec![task.start()],
             task,
-        }
+        };
+        walk.insert(0, plan);
+        walk
     }
 
     /// A walk of `length` steps, whose task has the goal of its end state.
@@ -29,12 +31,13 @@ impl Walk {
             return None;
         }
         let mut used = vec![false; task.actions.len()];
-        let mut walk = Walk::within(task);
+        let mut walk = Walk::of(task, &[]);
         for _ in 0..length {
-            walk.go_on(random, &mut used);
+            let action = walk.next_action(random, &used);
+            used[action] = true;
+            walk.push(action as u32);
         }
-        let end = *walk.end();
-        walk.task.set_goal_from(&end);
+        walk.set_goal_of(walk.plan.len());
         Some(walk)
     }
 
@@ -54,18 +57,26 @@ impl Walk {
         &self.states[self.plan.len()]
     }
 
-    fn go_on(&mut self, random: &mut Random, used: &mut [bool]) {
-        let state = *self.end();
-        let action = self.next_action(random, used, &state);
-        used[action] = true;
-        self.insert(self.plan.len(), &[action as u32]);
+    /// Every fact that holds in the end state.
+    pub fn end_facts(&self) -> Vec<Fact> {
+        let values = self.end()[..self.task.sizes.len()].iter().enumerate();
+        let fact = |(variable, &value)| Fact { variable, value };
+        values.map(fact).collect()
+    }
+
+    pub fn cost(&self) -> usize {
+        self.plan.iter().map(|&action| self.task.cost(action)).sum()
+    }
+
+    pub fn push(&mut self, action: u32) {
+        self.insert(self.plan.len(), &[action]);
     }
 
     /// Inserts steps that can be done at a place and, unless it is the end, lead back to its state.
     pub fn insert(&mut self, place: usize, steps: &[u32]) {
         let mut state = self.states[place];
         let reached = steps.iter().map(|&action| {
-            self.task.actions[action as usize].apply(&mut state);
+            set(&mut state, &self.task.actions[action as usize].effects);
             state
         });
         self.states.splice(place + 1..place + 1, reached);
@@ -74,16 +85,17 @@ impl Walk {
 
     /// An action that was not used yet has its preconditions fitted to the state, so that they
     /// matter and still hold.
-    fn next_action(&mut self, random: &mut Random, used: &[bool], state: &State) -> usize {
+    fn next_action(&mut self, random: &mut Random, used: &[bool]) -> usize {
         let attempts = 4;
+        let state = *self.end();
         let mut index = 0;
         for _ in 0..attempts {
             index = random.index(used.len());
             let action = &mut self.task.actions[index];
             if !used[index] {
-                fit(&mut action.preconditions, state);
+                fit(&mut action.preconditions, &state);
             }
-            if action.is_applicable(state) {
+            if action.is_applicable(&state) {
                 return index;
             }
         }
@@ -92,57 +104,78 @@ impl Walk {
         index
     }
 
-    fn is_first_use(&self, step: usize) -> bool {
-        !self.plan[..step].contains(&self.plan[step])
+    /// An action that is applicable in a state; the task has one for each state.
+    pub fn random_applicable(&self, random: &mut Random, state: &State) -> u32 {
+        let actions = 0..self.task.actions.len() as u32;
+        let applicable: Vec<u32> = actions
+            .filter(|&action| self.task.actions[action as usize].is_applicable(state))
+            .collect();
+        random.pick(&applicable)
+    }
+
+    /// Gives the goal's variables the values that they have before the step with this index.
+    pub fn set_goal_of(&mut self, step: usize) {
+        fit(&mut self.task.goal, &self.states[step]);
+    }
+
+    /// The index of a step, if there is one.
+    pub fn random_step(&self, random: &mut Random) -> Option<usize> {
+        let steps = self.plan.len();
+        (steps > 0).then(|| random_step(random, steps))
     }
 
     /// Has the step with this index fail, either by one precondition alone or by another action in
-    /// its place.
-    pub fn spoil_step(&mut self, random: &mut Random, step: usize) -> Option<()> {
-        if self.is_first_use(step) && !random.once_in(4) {
-            self.spoil_precondition(random, step)
+    /// its place. At an action's first use no earlier step fails with it.
+    pub fn spoil_step(&mut self, random: &mut Random, step: usize) -> Option<Refusal> {
+        let is_first_use = !self.plan[..step].contains(&self.plan[step]);
+        if is_first_use && !random.once_in(4) {
+            let action = self.plan[step] as usize;
+            let preconditions = &self.task.actions[action].preconditions;
+            let (failing, fact) = self.other_fact(random, preconditions)?;
+            self.task.actions[action].preconditions[failing] = fact;
         } else {
-            self.swap_in_failing_action(random, step)
+            self.plan[step] = self.failing_action(random, step)?;
         }
+        Some(Cause::NotValid.at(step + 1))
     }
 
-    /// At an action's first use no earlier step fails with it.
-    fn spoil_precondition(&mut self, random: &mut Random, step: usize) -> Option<()> {
-        let index = self.plan[step] as usize;
-        let preconditions = &self.task.actions[index].preconditions;
-        if preconditions.is_empty() {
-            return None;
-        }
-        let failing = random.index(preconditions.len());
-        let fact = self.task.other_value(random, preconditions[failing])?;
-        self.task.actions[index].preconditions[failing] = fact;
-        Some(())
-    }
-
-    fn swap_in_failing_action(&mut self, random: &mut Random, step: usize) -> Option<()> {
+    fn failing_action(&self, random: &mut Random, step: usize) -> Option<u32> {
         let actions = &self.task.actions;
         let first = random.index(actions.len());
-        let failing = (0..actions.len())
-            .map(|index| (first + index) % actions.len())
-            .find(|&index| !actions[index].is_applicable(&self.states[step]))?;
-        self.plan[step] = failing as u32;
-        Some(())
+        let mut indices = (first..actions.len()).chain(0..first);
+        let failing = indices.find(|&index| !actions[index].is_applicable(&self.states[step]));
+        failing.map(|index| index as u32)
     }
 
     /// Has one goal fact alone ask for a value that the end state doesn't have.
-    pub fn spoil_goal(&mut self, random: &mut Random) -> Option<()> {
-        if self.task.goal.is_empty() {
+    pub fn spoil_goal(&mut self, random: &mut Random) -> Option<Refusal> {
+        let (unmet, fact) = self.other_fact(random, &self.task.goal)?;
+        self.task.goal[unmet] = fact;
+        Some(Cause::NotValid.at(self.plan.len() + 1))
+    }
+
+    /// Another value for one of the facts, with its index.
+    fn other_fact(&self, random: &mut Random, facts: &[Fact]) -> Option<(usize, Fact)> {
+        if facts.is_empty() {
             return None;
         }
-        let unmet = random.index(self.task.goal.len());
-        let fact = self.task.other_value(random, self.task.goal[unmet])?;
-        self.task.goal[unmet] = fact;
-        Some(())
+        let index = random.index(facts.len());
+        Some((index, self.task.other_value(random, facts[index])?))
+    }
+
+    /// Half of the time the goal is spoilt, otherwise a step.
+    pub fn spoil(&mut self, random: &mut Random) -> Option<Refusal> {
+        if random.once_in(2) {
+            return self.spoil_goal(random);
+        }
+        let step = self.random_step(random)?;
+        self.spoil_step(random, step)
     }
 
     /// Puts an action that the task doesn't have in the place of the step with this index.
-    pub fn put_unknown_action(&mut self, random: &mut Random, step: usize) {
+    pub fn put_unknown_action(&mut self, random: &mut Random, step: usize) -> Refusal {
         self.plan[step] = unknown_action(random, &self.task);
+        Cause::UnknownAction.at(step + 1)
     }
 }
 
@@ -159,30 +192,5 @@ pub fn random_step(random: &mut Random, steps: usize) -> usize {
         0 => 0,
         1 => steps - 1,
         _ => random.index(steps),
-    }
-}
-
-/// A state with values within the domains and outside them.
-pub fn random_state(random: &mut Random, task: &Task) -> State {
-    let mut state = task.start();
-    let outside = random.once_in(2);
-    for (variable, value) in state.iter_mut().enumerate() {
-        match task.sizes.get(variable) {
-            Some(&size) if !outside => *value = random.within(0..=size - 1),
-            _ => *value = random.word(),
-        }
-    }
-    state
-}
-
-/// Another value, near the old one or alike in its low bits.
-pub fn other_state_value(random: &mut Random, value: u32) -> u32 {
-    let alike_in_low_byte = value ^ (1 << random.within(8..=31));
-    let any = random.word();
-    let other = random.pick(&[value ^ 1, alike_in_low_byte, !value, any]);
-    if other == value {
-        !value
-    } else {
-        other
     }
 }

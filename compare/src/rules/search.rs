@@ -6,13 +6,12 @@ use crate::rules::{
     all_hold, do_step, has, mask_of, Action, Kept, Lodged, Mask, Refusal, State, Tally, FACT_BASE,
     MAX_VARIABLES, WORD_BITS,
 };
-use std::cmp::Ordering;
 
 /// Refusals 1 to 12.
 #[inline(never)]
 pub fn exact(words: &[u32], plan: &[u32], output: usize) -> Result<Kept, Refusal> {
     let lodged = Lodged::check_unmarked(words, plan, output)?;
-    Ok(lodged.kept(plan, |lodged| Search::of(lodged).run()))
+    Ok(lodged.kept(|lodged| Search::of(lodged).run()))
 }
 
 /// A reduction with its tally.
@@ -33,7 +32,7 @@ impl Reduction {
     }
 
     fn is_lower_than(&self, other: &Self) -> bool {
-        self.tally.compare(other.tally) == Ordering::Less
+        self.tally < other.tally
     }
 
     fn keeping(mut self, step: usize, cost: usize) -> Self {

@@ -24,7 +24,7 @@ pub struct Action<'a> {
 }
 
 /// The word index of a pair's offset; its length stands next to it.
-fn pair_word(pair: usize) -> usize {
+pub const fn pair_word(pair: usize) -> usize {
     HEADER + 2 * pair
 }
 

@@ -1,90 +1,90 @@
 //! Plans: valid ones by walks, for the checker of plans, and each way for a plan to be refused, for
 //! every service that takes a plan.
 
-use super::{plan_case, random_plan_call, valid_plan_call, Make};
-use crate::cases::{Call, Case};
+use super::{plan_case, service_for_valid, Make};
+use crate::cases::answer::Answer;
+use crate::cases::service::{Service, TAKING_PLAN};
+use crate::cases::Case;
 use crate::makers::random::Random;
 use crate::makers::task::Task;
 use crate::makers::walk::{random_step, Walk};
-use crate::rules::{self, Cause};
+use crate::rules::{Cause, Refusal, MAX_ACTION_COST, MAX_STEPS};
 
 pub const KINDS: &[(&str, Make)] = &[
-    ("plan: valid", valid),
-    ("plan: valid, 254 or 255 steps", valid_longest),
-    ("plan: valid, dearest", valid_dearest),
-    ("plan: valid, empty", valid_empty),
-    ("plan: empty, goal unmet", empty_goal_unmet),
-    ("plan: goal unmet", goal_unmet),
+    ("plan: valid", |random| {
+        Walk::of_any_length(random)?.accepted(random)
+    }),
+    ("plan: valid, 254 or 255 steps", |random| {
+        let length = MAX_STEPS - random.index(2);
+        Walk::random(random, length)?.accepted(random)
+    }),
+    ("plan: valid, dearest", dearest),
+    ("plan: valid, empty", |random| {
+        Walk::random(random, 0)?.accepted(random)
+    }),
+    ("plan: empty, goal unmet", |random| {
+        Walk::random(random, 0)?.refused(random, Walk::spoil_goal)
+    }),
+    ("plan: goal unmet", |random| {
+        Walk::of_any_length(random)?.refused(random, Walk::spoil_goal)
+    }),
     ("plan: goal of an earlier state", earlier_goal),
-    ("plan: failing step", failing_step),
+    ("plan: failing step", |random| {
+        let (walk, step) = walk_with_step(random)?;
+        walk.refused(random, |walk, random| walk.spoil_step(random, step))
+    }),
     ("plan: two failing steps, goal unmet", two_failing_steps),
-    ("plan: unknown action", unknown_action),
+    ("plan: unknown action", |random| {
+        let (walk, step) = walk_with_step(random)?;
+        let put = |walk: &mut Walk, random: &mut _| Some(walk.put_unknown_action(random, step));
+        walk.refused(random, put)
+    }),
     ("plan: two unknown actions", two_unknown_actions),
-    (
-        "plan: failing step, unknown action",
-        failing_step_and_unknown_action,
-    ),
-    ("plan: over 255 steps", too_long),
-    (
-        "plan: over 255 steps, unknown action",
-        too_long_and_unknown_action,
-    ),
+    ("plan: failing step, unknown action", failing_and_unknown),
+    ("plan: over 255 steps", |random| {
+        walk_too_long(random)?.refused(random, |_, _| Some(TOO_LONG))
+    }),
+    ("plan: over 255 steps, unknown action", |random| {
+        walk_too_long(random)?.refused(random, |walk, random| {
+            let step = walk.random_step(random)?;
+            walk.put_unknown_action(random, step);
+            Some(TOO_LONG)
+        })
+    }),
     ("plan: random actions", random_actions),
 ];
 
-fn case_of(random: &mut Random, walk: &Walk) -> Case {
-    let call = random_plan_call(random);
-    plan_case(random, call, walk.task.words(), walk.plan.clone())
-}
+const TOO_LONG: Refusal = Refusal {
+    cause: Cause::PlanLength,
+    place: MAX_STEPS,
+};
 
-fn valid_case(random: &mut Random, walk: &Walk) -> Option<Case> {
-    let cost_of = |&action: &u32| walk.task.actions[action as usize].cost as usize;
-    let cost = walk.plan.iter().map(cost_of).sum();
-    let counts = [cost, walk.plan.len()];
-    let (words, plan) = (walk.task.words(), walk.plan.clone());
-    let case = plan_case(random, Call::CheckPlan, words, plan);
-    Some(case.accepted(&counts, walk.end()))
-}
+impl Walk {
+    fn accepted(&self, random: &mut Random) -> Option<Case> {
+        let case = plan_case(random, Service::CheckPlan, &self.task, &self.plan);
+        let answer = Answer::accepted(&[self.cost(), self.plan.len()]);
+        Some(case.due(answer.with_state(self.end())))
+    }
 
-fn valid(random: &mut Random) -> Option<Case> {
-    let walk = Walk::of_any_length(random)?;
-    valid_case(random, &walk)
-}
-
-fn valid_longest(random: &mut Random) -> Option<Case> {
-    let length = rules::MAX_STEPS - random.index(2);
-    let walk = Walk::random(random, length)?;
-    valid_case(random, &walk)
+    /// Spoils the walk and hands it to some service.
+    fn refused(
+        mut self,
+        random: &mut Random,
+        spoil: impl Fn(&mut Walk, &mut Random) -> Option<Refusal>,
+    ) -> Option<Case> {
+        let refusal = spoil(&mut self, random)?;
+        let service = random.pick(&TAKING_PLAN);
+        Some(plan_case(random, service, &self.task, &self.plan).refused(refusal))
+    }
 }
 
 /// The greatest cost that a plan can have.
-fn valid_dearest(random: &mut Random) -> Option<Case> {
-    let mut walk = Walk::random(random, rules::MAX_STEPS)?;
+fn dearest(random: &mut Random) -> Option<Case> {
+    let mut walk = Walk::random(random, MAX_STEPS)?;
     for action in &mut walk.task.actions {
-        action.cost = rules::MAX_ACTION_COST as u32;
+        action.cost = MAX_ACTION_COST as u32;
     }
-    valid_case(random, &walk)
-}
-
-fn valid_empty(random: &mut Random) -> Option<Case> {
-    let walk = Walk::random(random, 0)?;
-    valid_case(random, &walk)
-}
-
-fn empty_goal_unmet(random: &mut Random) -> Option<Case> {
-    let walk = Walk::random(random, 0)?;
-    goal_unmet_case(random, walk)
-}
-
-fn goal_unmet(random: &mut Random) -> Option<Case> {
-    let walk = Walk::of_any_length(random)?;
-    goal_unmet_case(random, walk)
-}
-
-fn goal_unmet_case(random: &mut Random, mut walk: Walk) -> Option<Case> {
-    walk.spoil_goal(random)?;
-    let place = walk.plan.len() + 1;
-    Some(case_of(random, &walk).refused(Cause::NotValid, place))
+    walk.accepted(random)
 }
 
 /// A later step may undo the goal, and often the last one does.
@@ -92,85 +92,62 @@ fn earlier_goal(random: &mut Random) -> Option<Case> {
     let mut walk = Walk::of_any_length(random)?;
     let steps_before = random_step(random, walk.states.len());
     let last_but_one = walk.states.len().saturating_sub(2);
-    let state = walk.states[random.pick(&[steps_before, last_but_one])];
-    walk.task.set_goal_from(&state);
-    let call = valid_plan_call(random, walk.plan.len());
-    let (words, plan) = (walk.task.words(), walk.plan);
-    Some(plan_case(random, call, words, plan))
+    walk.set_goal_of(random.pick(&[steps_before, last_but_one]));
+    let service = service_for_valid(random, walk.plan.len());
+    Some(plan_case(random, service, &walk.task, &walk.plan))
 }
 
 /// A walk of at least one step, and the index of one of them.
 fn walk_with_step(random: &mut Random) -> Option<(Walk, usize)> {
     let walk = Walk::of_any_length(random)?;
-    let steps = walk.plan.len();
-    let step = (steps > 0).then(|| random_step(random, steps))?;
+    let step = walk.random_step(random)?;
     Some((walk, step))
 }
 
-fn failing_step(random: &mut Random) -> Option<Case> {
-    let (mut walk, step) = walk_with_step(random)?;
-    walk.spoil_step(random, step)?;
-    Some(case_of(random, &walk).refused(Cause::NotValid, step + 1))
-}
-
 fn two_failing_steps(random: &mut Random) -> Option<Case> {
-    let (mut walk, first) = walk_with_step(random)?;
-    let second = random_step(random, walk.plan.len());
-    walk.spoil_goal(random)?;
-    walk.spoil_step(random, first)?;
-    if second > first {
-        walk.spoil_step(random, second)?;
-    }
-    Some(case_of(random, &walk).refused(Cause::NotValid, first + 1))
-}
-
-fn unknown_action(random: &mut Random) -> Option<Case> {
-    let (mut walk, step) = walk_with_step(random)?;
-    walk.put_unknown_action(random, step);
-    Some(case_of(random, &walk).refused(Cause::UnknownAction, step + 1))
+    let (walk, first) = walk_with_step(random)?;
+    walk.refused(random, |walk, random| {
+        let second = walk.random_step(random)?;
+        walk.spoil_goal(random)?;
+        let refusal = walk.spoil_step(random, first)?;
+        if second > first {
+            walk.spoil_step(random, second)?;
+        }
+        Some(refusal)
+    })
 }
 
 fn two_unknown_actions(random: &mut Random) -> Option<Case> {
-    let (mut walk, first) = walk_with_step(random)?;
-    let second = random_step(random, walk.plan.len());
-    walk.put_unknown_action(random, first);
-    walk.put_unknown_action(random, second);
-    let place = first.min(second) + 1;
-    Some(case_of(random, &walk).refused(Cause::UnknownAction, place))
+    let (walk, first) = walk_with_step(random)?;
+    walk.refused(random, |walk, random| {
+        let second = walk.random_step(random)?;
+        for step in [first, second] {
+            walk.put_unknown_action(random, step);
+        }
+        Some(Cause::UnknownAction.at(first.min(second) + 1))
+    })
 }
 
 /// Actions are known or not before any step is done.
-fn failing_step_and_unknown_action(random: &mut Random) -> Option<Case> {
-    let (mut walk, unknown) = walk_with_step(random)?;
-    let failing = random_step(random, walk.plan.len());
-    walk.spoil_step(random, failing)?;
-    walk.put_unknown_action(random, unknown);
-    Some(case_of(random, &walk).refused(Cause::UnknownAction, unknown + 1))
+fn failing_and_unknown(random: &mut Random) -> Option<Case> {
+    let (walk, unknown) = walk_with_step(random)?;
+    walk.refused(random, |walk, random| {
+        let failing = walk.random_step(random)?;
+        walk.spoil_step(random, failing)?;
+        Some(walk.put_unknown_action(random, unknown))
+    })
 }
 
 fn walk_too_long(random: &mut Random) -> Option<Walk> {
-    let most = rules::MAX_STEPS;
-    let length = random.pick(&[most + 1, most + 2, 2 * most + 2]);
+    let length = random.pick(&[MAX_STEPS + 1, MAX_STEPS + 2, 2 * MAX_STEPS + 2]);
     Walk::random(random, length)
-}
-
-fn too_long(random: &mut Random) -> Option<Case> {
-    let walk = walk_too_long(random)?;
-    Some(case_of(random, &walk).refused(Cause::PlanLength, rules::MAX_STEPS))
-}
-
-fn too_long_and_unknown_action(random: &mut Random) -> Option<Case> {
-    let mut walk = walk_too_long(random)?;
-    let step = random_step(random, walk.plan.len());
-    walk.put_unknown_action(random, step);
-    Some(case_of(random, &walk).refused(Cause::PlanLength, rules::MAX_STEPS))
 }
 
 fn random_actions(random: &mut Random) -> Option<Case> {
     let task = Task::random(random);
     let actions = task.actions.len();
     let steps = if actions > 0 { random.size(1..=6) } else { 0 };
-    let plan = (0..steps).map(|_| random.index(actions) as u32).collect();
-    let call = random_plan_call(random);
-    Some(plan_case(random, call, task.words(), plan))
+    let plan: Vec<u32> = (0..steps).map(|_| random.index(actions) as u32).collect();
+    let service = random.pick(&TAKING_PLAN);
+    Some(plan_case(random, service, &task, &plan))
 }

@@ -1,33 +1,31 @@
 //! Accepted and damaged sheets, handed to each service that takes a sheet.
 
-use super::{check_sheet, plan_case_with, random_plan_call, step, Make};
+use super::step::random_state;
+use super::{check_sheet, plan_case_with, step, Make};
+use crate::cases::answer::Answer;
+use crate::cases::service::TAKING_PLAN;
 use crate::cases::Case;
-use crate::makers::faults::{Fault, FAULTS};
+use crate::makers::faults::{self, Put};
 use crate::makers::random::Random;
 use crate::makers::sheet::Sheet;
 use crate::makers::task::Task;
-use crate::makers::walk::random_state;
 use crate::rules;
 
 pub const KINDS: &[(&str, Make)] = &[
-    ("sheet: accepted", accepted),
-    ("sheet: accepted, 8,190 to 8,192 words", accepted_full),
+    ("sheet: accepted", |random| {
+        let words = Task::random(random).words();
+        Some(check_sheet(random, words).due(Answer::accepted(&[])))
+    }),
+    ("sheet: accepted, 8,190 to 8,192 words", |random| {
+        let words = Task::filling(random).words();
+        Some(check_sheet(random, words).due(Answer::accepted(&[])))
+    }),
     ("sheet: two faults", with_two_faults),
     ("sheet: two faults of near rows", with_two_near_faults),
     ("sheet: words overwritten", overwritten),
     ("sheet: border of preconditions moved", with_moved_border),
     ("sheet: noise", noise),
 ];
-
-fn accepted(random: &mut Random) -> Option<Case> {
-    let words = Task::random(random).words();
-    Some(check_sheet(random, words).accepted(&[], &[]))
-}
-
-fn accepted_full(random: &mut Random) -> Option<Case> {
-    let words = Task::filling(random).words();
-    Some(check_sheet(random, words).accepted(&[], &[]))
-}
 
 /// Full sheets too: at their ends a fault has the least room.
 fn random_task(random: &mut Random) -> Task {
@@ -38,17 +36,17 @@ fn random_task(random: &mut Random) -> Task {
     }
 }
 
-pub fn with_fault(random: &mut Random, fault: &Fault) -> Option<Case> {
+pub fn with_fault(random: &mut Random, put: Put) -> Option<Case> {
     let task = random_task(random);
     let mut sheet = Sheet::of(&task);
-    let place = (fault.put)(&mut sheet, random)?;
-    let case = on_some_service(random, &task, sheet.words);
-    Some(case.refused(fault.cause, place))
+    let refusal = put(&mut sheet, random)?;
+    Some(on_some_service(random, &task, sheet.words).refused(refusal))
 }
 
 /// Two causes at once show whether the checks stand in their order.
 fn with_two_faults(random: &mut Random) -> Option<Case> {
-    let faults = [(); 2].map(|_| random.index(FAULTS.len()));
+    let count = faults::all().len();
+    let faults = [(); 2].map(|_| random.index(count));
     with_faults(random, faults)
 }
 
@@ -56,8 +54,9 @@ fn with_two_faults(random: &mut Random) -> Option<Case> {
 /// other.
 fn with_two_near_faults(random: &mut Random) -> Option<Case> {
     let reach = 3;
-    let first = random.index(FAULTS.len());
-    let second = (first + random.index(reach)).min(FAULTS.len() - 1);
+    let count = faults::all().len();
+    let first = random.index(count);
+    let second = (first + random.index(reach)).min(count - 1);
     let faults = random.pick(&[[first, second], [second, first]]);
     with_faults(random, faults)
 }
@@ -66,7 +65,8 @@ fn with_faults(random: &mut Random, faults: [usize; 2]) -> Option<Case> {
     let task = random_task(random);
     let mut sheet = Sheet::of(&task);
     for fault in faults {
-        (FAULTS[fault].put)(&mut sheet, random)?;
+        let (_, put) = faults::all()[fault];
+        put(&mut sheet, random)?;
     }
     Some(on_some_service(random, &task, sheet.words))
 }
@@ -74,16 +74,15 @@ fn with_faults(random: &mut Random, faults: [usize; 2]) -> Option<Case> {
 /// Half of the words overwritten stand in the header and the pairs, which are few in a long sheet.
 fn overwritten(random: &mut Random) -> Option<Case> {
     let task = random_task(random);
-    let mut words = task.words();
-    let pairs_end = Sheet::of(&task).part(rules::SIZES_PAIR).start;
+    let mut sheet = Sheet::of(&task);
     for _ in 0..random.size(1..=3) {
         let index = match random.index(2) {
-            0 => random.index(pairs_end),
-            _ => random.index(words.len()),
+            0 => random.index(sheet.pairs_end()),
+            _ => random.index(sheet.words.len()),
         };
-        words[index] = random.word();
+        sheet.words[index] = random.word();
     }
-    Some(on_some_service(random, &task, words))
+    Some(on_some_service(random, &task, sheet.words))
 }
 
 /// Facts pass from the preconditions to the effects or back, which may or may not break their
@@ -91,7 +90,7 @@ fn overwritten(random: &mut Random) -> Option<Case> {
 fn with_moved_border(random: &mut Random) -> Option<Case> {
     let task = random_task(random);
     let mut sheet = Sheet::of(&task);
-    let part = sheet.action_part(sheet.random_action(random)?);
+    let part = sheet.parts[sheet.random_action(random)?].clone();
     let facts = part.len() - rules::ACTION_HEAD;
     sheet.set(part.start + 1, random.size(0..=facts) as u32);
     Some(on_some_service(random, &task, sheet.words))
@@ -100,9 +99,8 @@ fn with_moved_border(random: &mut Random) -> Option<Case> {
 /// Small words in a short sheet whose header is in order.
 fn noise(random: &mut Random) -> Option<Case> {
     let length = random.size(rules::HEADER..=40);
-    let mut words: Vec<u32> = (0..length)
-        .map(|_| random.within(0..=length as u32))
-        .collect();
+    let words = (0..length).map(|_| random.size(0..=length) as u32);
+    let mut words: Vec<u32> = words.collect();
     words[rules::EDITION_WORD] = rules::EDITION as u32;
     words[rules::COUNT_WORD] = length as u32;
     words[rules::ACTIONS_WORD] = random.within(0..=2);
@@ -110,25 +108,23 @@ fn noise(random: &mut Random) -> Option<Case> {
     Some(on_some_service(random, &task, words))
 }
 
+/// The task tells what states and actions there are.
 fn on_some_service(random: &mut Random, task: &Task, words: Vec<u32>) -> Case {
+    // An action of the task, or the first one that it doesn't have.
+    let action = |random: &mut Random| random.index(task.actions.len() + 1) as u32;
     match random.index(6) {
         0 => {
-            let state = random_state(random, task).to_vec();
-            let action = random_action(random, task);
-            step(random, words, state, action)
+            let state = random_state(random, task);
+            let action = action(random);
+            step(random, words, &state, action)
         }
         1..=3 => {
             let steps = random.pick(&[0, 1, 2, 3, rules::MAX_STEPS + 1]);
-            let plan = (0..steps).map(|_| random_action(random, task)).collect();
+            let plan: Vec<u32> = (0..steps).map(|_| action(random)).collect();
             let outputs = [(); 2].map(|_| random.size(0..=2 * steps));
-            let call = random_plan_call(random);
-            plan_case_with(random, call, words, plan, outputs)
+            let service = random.pick(&TAKING_PLAN);
+            plan_case_with(random, service, words, &plan, outputs)
         }
         _ => check_sheet(random, words),
     }
-}
-
-/// An action of the task, or the first one that it doesn't have.
-fn random_action(random: &mut Random, task: &Task) -> u32 {
-    random.index(task.actions.len() + 1) as u32
 }

@@ -1,28 +1,52 @@
-//! Tallies of any words, most of them near the limits.
+//! Tallies of any words, most of them near the limits, and the kept parts that they choose.
 
-use super::{random_out, Make};
-use crate::cases::{Call, Case};
+use super::{fillers, random_out, Make};
+use crate::cases::memory::Memory;
+use crate::cases::service::Service;
+use crate::cases::Case;
 use crate::makers::random::Random;
-use crate::rules::{self, Tally};
+use crate::rules;
 
 pub const KINDS: &[(&str, Make)] = &[
-    ("tally: any words", any_words),
+    ("tally: any words", |random| {
+        let tally = random_tally(random);
+        let any = random.word();
+        let within_limit = random.within(0..=rules::MAX_ACTION_COST as u32);
+        let cost = random.pick(&[any, within_limit]);
+        add(random, tally, cost)
+    }),
     ("tally: sum near a limit", near_a_limit),
-    ("tally: comparison", comparison),
+    ("tally: comparison", |random| {
+        let numbers = near_each_other(random);
+        let service = Service::TallyCompare;
+        Some(Case::with_numbers(service, numbers, Memory::default()))
+    }),
 ];
 
-fn add(random: &mut Random, tally: Tally, cost: u32) -> Option<Case> {
-    let call = Call::TallyAdd { tally, cost };
-    let out = random_out(random, call);
-    Some(Case::new(call, out))
-}
+pub const PART_KINDS: &[(&str, Make)] = &[
+    ("part: tallies of the outputs", |random| {
+        let outputs = random_outputs(random);
+        let [[cost, steps], [second_cost, second_steps]] = [0, 1].map(|index| {
+            let cost = random.within(0..=2);
+            [cost, steps_for(random, &outputs[index])]
+        });
+        let numbers = [cost, steps, second_cost, second_steps];
+        part_case(random, outputs, numbers)
+    }),
+    ("part: any tallies", |random| {
+        let outputs = random_outputs(random);
+        let numbers = near_each_other(random);
+        part_case(random, outputs, numbers)
+    }),
+];
 
-fn any_words(random: &mut Random) -> Option<Case> {
-    let tally = random_tally(random);
-    let any = random.word();
-    let within_limit = random.within(0..=rules::MAX_ACTION_COST as u32);
-    let cost = random.pick(&[any, within_limit]);
-    add(random, tally, cost)
+fn add(random: &mut Random, [cost, steps]: [u32; 2], more: u32) -> Option<Case> {
+    let lent = Memory {
+        out: random_out(random, Service::TallyAdd).into(),
+        ..Memory::default()
+    };
+    let numbers = [cost, steps, more, 0];
+    Some(Case::with_numbers(Service::TallyAdd, numbers, lent))
 }
 
 /// The sum of the costs is the limit, 2^32, or a number beside them.
@@ -32,15 +56,12 @@ fn near_a_limit(random: &mut Random) -> Option<Case> {
     let cost = random.pick(&costs);
     let two_to_the_32 = 0;
     let sum = near(random, &[limit, two_to_the_32]);
-    let tally = Tally {
-        cost: sum.wrapping_sub(cost),
-        steps: random_steps(random),
-    };
+    let tally = [sum.wrapping_sub(cost), random_steps(random)];
     add(random, tally, cost)
 }
 
 /// One of the words, or one beside it.
-pub fn near(random: &mut Random, words: &[u32]) -> u32 {
+fn near(random: &mut Random, words: &[u32]) -> u32 {
     let word = random.pick(words);
     random.pick(&[word.wrapping_sub(1), word, word.wrapping_add(1)])
 }
@@ -52,35 +73,50 @@ fn random_steps(random: &mut Random) -> u32 {
     random.pick(&[any, few, edge])
 }
 
-fn random_tally(random: &mut Random) -> Tally {
+/// Cost and steps.
+fn random_tally(random: &mut Random) -> [u32; 2] {
     let any = random.word();
     let within_limit = random.within(0..=rules::MAX_TALLY_COST as u32);
-    Tally {
-        cost: random.pick(&[any, within_limit]),
-        steps: random_steps(random),
-    }
+    [random.pick(&[any, within_limit]), random_steps(random)]
 }
 
-fn comparison(random: &mut Random) -> Option<Case> {
-    let [first, second] = near_each_other(random);
-    let call = Call::TallyCompare { first, second };
-    Some(Case::new(call, Vec::new()))
-}
-
-/// Half of the tallies differ in one field by one, or not at all.
-pub fn near_each_other(random: &mut Random) -> [Tally; 2] {
-    let first = random_tally(random);
-    let second = match random.index(6) {
-        0 => first,
-        1 => Tally {
-            cost: near(random, &[first.cost]),
-            ..first
-        },
-        2 => Tally {
-            steps: near(random, &[first.steps]),
-            ..first
-        },
+/// Two tallies, half of which differ in one field by one, or not at all.
+fn near_each_other(random: &mut Random) -> [u32; 4] {
+    let [cost, steps] = random_tally(random);
+    let [second_cost, second_steps] = match random.index(6) {
+        0 => [cost, steps],
+        1 => [near(random, &[cost]), steps],
+        2 => [cost, near(random, &[steps])],
         _ => random_tally(random),
     };
-    [first, second]
+    [cost, steps, second_cost, second_steps]
+}
+
+const LONGEST_OUTPUT: usize = 12;
+
+fn random_outputs(random: &mut Random) -> [Vec<u32>; 2] {
+    [(); 2].map(|_| {
+        let length = random.size(0..=LONGEST_OUTPUT);
+        fillers(random, length)
+    })
+}
+
+/// Steps of a tally for an output: as many as it has words, fewer, or one more or fewer.
+fn steps_for(random: &mut Random, output: &[u32]) -> u32 {
+    let words = output.len() as u32;
+    let fewer = random.within(0..=words);
+    let beside = near(random, &[words]);
+    random.pick(&[words, fewer, beside])
+}
+
+fn part_case(random: &mut Random, outputs: [Vec<u32>; 2], numbers: [u32; 4]) -> Option<Case> {
+    let [first, second] = outputs.map(Into::into);
+    let length = random.size(0..=LONGEST_OUTPUT + 1);
+    let lent = Memory {
+        first,
+        second,
+        part: fillers(random, length).into(),
+        ..Memory::default()
+    };
+    Some(Case::with_numbers(Service::KeptPart, numbers, lent))
 }

@@ -1,197 +1,78 @@
 //! The worked lists of document 01 and the numbers at its limits, with the answers written out by
 //! hand from its text: they hold the independent version to the document.
 
-mod exact;
-mod reductions;
+mod sheets;
 
-use crate::cases::{Call, Case, Due, ABOVE, BELOW, EQUAL};
-use crate::rules::{self, Cause, Tally};
+pub use sheets::{with_lamp_cost, SHEET_P};
+
+use super::answer::Answer;
+use super::memory::Memory;
+use super::service::{Service, TAKING_PLAN};
+use super::Case;
+use crate::rules::{Cause, Kept, Mask, MAX_VARIABLES};
+use sheets::{DEAREST, GATE_ALONE, LAMP, TWO_WAYS, U_AND_V};
 
 /// A case with its name in a report of differences.
 type Worked = (&'static str, Case);
 
-/// Sheet P. Its actions are 0 lift, 1 drain, 2 drop, 3 lamp; its variables gate, basin, lamp.
-pub const SHEET_P: [u32; 41] = [
-    1, 3, 4, 41, // edition, variables, actions, words
-    18, 3, 21, 3, 24, 2, 26, 4, 30, 4, 34, 4, 38, 3, // pairs
-    2, 2, 2, // domain sizes
-    0, 0, 0, // starting values
-    0, 257, // goal
-    5, 1, 0, 1, // lift
-    2, 1, 1, 257, // drain
-    5, 1, 1, 0, // drop
-    1, 0, 513, // lamp
-];
-/// Where the lamp's cost stands in sheet P.
-const LAMP_COST: usize = 38;
-const LAMP: u32 = 3;
 pub const LIST_1: [u32; 6] = [3, 0, 2, 0, 1, 2];
 const LIFT_DRAIN_DROP: [u32; 3] = [0, 1, 2];
-
-/// One variable of one value, no goal, and one action of the greatest cost without facts.
-const DEAREST_SHEET: [u32; 16] = [
-    1, 1, 1, 16, // edition, variables, actions, words
-    12, 1, 13, 1, 14, 0, 14, 2, // pairs
-    1, 0, // domain size, starting value
-    1_000_000, 0, // the action
-];
+/// Stands in lent slices before the call.
+const OTHER_WORD: u32 = 77;
 
 pub fn cases() -> Vec<Worked> {
-    let mut cases = worked_lists();
+    let mut cases = valid_plans();
     cases.extend(limits());
     cases.extend(steps());
     cases.extend(tallies());
-    cases.extend(reductions::lists());
-    cases.extend(reductions::longest());
-    cases.extend(reductions::refusals());
-    cases.extend(reductions::kept_parts());
-    cases.extend(exact::lists());
-    cases.extend(exact::refusals());
-    cases.extend(exact::short_outputs());
+    cases.extend(reductions());
+    cases.extend(refusals());
+    cases.extend(short_outputs());
+    cases.extend(unmarked());
+    cases.extend(kept_parts());
     cases
 }
 
-fn worked_lists() -> Vec<Worked> {
-    let not_valid = |plan, place| check_plan(&SHEET_P, plan).refused(Cause::NotValid, place);
-    let valid = |plan, counts, end| check_plan(&SHEET_P, plan).accepted(counts, &state(end));
-    vec![
-        ("sheet P", check_sheet(&SHEET_P).accepted(&[], &[])),
-        ("list 1", valid(&LIST_1, &[23, 6], &[0, 1, 1])),
-        ("list 3", valid(&LIFT_DRAIN_DROP, &[12, 3], &[0, 1, 0])),
-        ("list 4", not_valid(&[], 1)),
-        ("list 5", not_valid(&[0, 0], 2)),
-        ("list 6", not_valid(&[0, 1], 3)),
-    ]
-}
-
-/// List 11, and the cost of the dearest plan.
-fn limits() -> Vec<Worked> {
-    let dear = with_lamp_cost(1_000_000);
-    let too_dear = with_lamp_cost(1_000_001);
-    let steps_255 = check_plan(&SHEET_P, &lamps_then_drain(255));
-    let steps_256 = check_plan(&SHEET_P, &lamps_then_drain(256));
-    let dearest_plan = check_plan(&DEAREST_SHEET, &[0; 255]);
-    let end = state(&[0, 1, 1]);
-    vec![
-        ("255 steps", steps_255.accepted(&[264, 255], &end)),
-        ("256 steps", steps_256.refused(Cause::PlanLength, 255)),
-        ("price limit", check_sheet(&dear).accepted(&[], &[])),
-        ("price", check_sheet(&too_dear).refused(Cause::Cost, 3)),
-        (
-            "price, plan",
-            check_plan(&too_dear, &[]).refused(Cause::Cost, 3),
-        ),
-        (
-            "dearest",
-            dearest_plan.accepted(&[255_000_000, 255], &state(&[])),
-        ),
-    ]
-}
-
-pub fn with_lamp_cost(cost: u32) -> [u32; 41] {
-    let mut words = SHEET_P;
-    words[LAMP_COST] = cost;
-    words
-}
-
-/// The second state has values outside the domains.
-fn steps() -> Vec<Worked> {
-    let gate_open = state(&[1]);
-    let lamp_on = state(&[9, 9, 1]);
-    vec![
-        ("lift", step(&[], 0).accepted(&[], &gate_open)),
-        ("lamp", step(&[9, 9], LAMP).accepted(&[], &lamp_on)),
-        ("drop", step(&[], 2).refused(Cause::NotValid, 1)),
-        ("unknown", step(&[], 4).refused(Cause::UnknownAction, 1)),
-    ]
-}
-
-fn tallies() -> Vec<Worked> {
-    let most = u32::MAX;
-    let million = 1_000_000;
-    vec![
-        ("first step", add([0, 0], 5, [5, 1])),
-        ("255th step", add([10, 254], 0, [10, 255])),
-        ("256th step", add([10, 255], 1, [10, 255])),
-        (
-            "to the limit",
-            add([254 * million, 7], million, [255 * million, 8]),
-        ),
-        (
-            "past it",
-            add([254 * million, 7], million + 1, [254 * million, 7]),
-        ),
-        (
-            "free, past it",
-            add([255 * million + 1, 7], 0, [255 * million + 1, 7]),
-        ),
-        ("past 2^32", add([most, 0], 1, [most, 0])),
-        ("cheaper", compare([12, 6], [23, 3], BELOW)),
-        ("more steps", compare([12, 4], [12, 3], ABOVE)),
-        ("alike", compare([12, 3], [12, 3], EQUAL)),
-    ]
+/// The outputs that the service takes have these lengths. All that it writes to is full of other
+/// words, which no answer has.
+fn case(service: Service, words: &[u32], plan: &[u32], outputs: [usize; 2]) -> Case {
+    let taken = [service.outputs() > 0, service.outputs() > 1];
+    let [first, second] = [0, 1].map(|i| vec![OTHER_WORD; outputs[i] * usize::from(taken[i])]);
+    let values = match service {
+        Service::CheckPlan => MAX_VARIABLES,
+        _ => 0,
+    };
+    let lent = Memory {
+        words: words.into(),
+        plan: plan.into(),
+        state: vec![OTHER_WORD; values].into(),
+        first: first.into(),
+        second: second.into(),
+        mask: vec![u64::MAX; service.mask_words()].into(),
+        out: vec![u64::MAX; service.out().len()].into(),
+        ..Memory::default()
+    };
+    Case::new(service, lent)
 }
 
 fn check_sheet(words: &[u32]) -> Case {
-    Case {
-        words: words.to_vec(),
-        ..new(Call::CheckSheet)
-    }
+    case(Service::CheckSheet, words, &[], [0; 2])
 }
 
 fn check_plan(words: &[u32], plan: &[u32]) -> Case {
-    Case {
-        words: words.to_vec(),
-        plan: plan.to_vec(),
-        state: vec![7; rules::MAX_VARIABLES],
-        ..new(Call::CheckPlan)
-    }
+    case(Service::CheckPlan, words, plan, [0; 2])
 }
 
-fn step(values: &[u32], action: u32) -> Case {
-    Case {
-        words: SHEET_P.to_vec(),
-        state: state(values),
-        ..new(Call::Step { action })
-    }
-}
-
-fn add(before: [u32; 2], price: u32, after: [u32; 2]) -> Case {
-    let call = Call::TallyAdd {
-        tally: tally(before),
-        cost: price,
-    };
-    new(call).due(Due {
-        out: after.map(u64::from).to_vec(),
-        ..Due::default()
-    })
-}
-
-fn compare(first: [u32; 2], second: [u32; 2], returned: u32) -> Case {
-    let call = Call::TallyCompare {
-        first: tally(first),
-        second: tally(second),
-    };
-    new(call).due(Due {
-        returned: u64::from(returned),
-        ..Due::default()
-    })
-}
-
-fn tally([cost, steps]: [u32; 2]) -> Tally {
-    Tally { cost, steps }
+fn valid(words: &[u32], plan: &[u32], cost: usize, end: &[u32]) -> Case {
+    let answer = Answer::accepted(&[cost, plan.len()]);
+    check_plan(words, plan).due(answer.with_state(&state(end)))
 }
 
 /// The first values of a state whose others are zero.
 fn state(values: &[u32]) -> Vec<u32> {
     let mut state = values.to_vec();
-    state.resize(rules::MAX_VARIABLES, 0);
+    state.resize(MAX_VARIABLES, 0);
     state
-}
-
-fn new(call: Call) -> Case {
-    let never_an_answer = u64::MAX;
-    Case::new(call, vec![never_an_answer; call.service().out_words])
 }
 
 /// As many lamps as it takes before list 3 for a plan of this length.
@@ -199,4 +80,228 @@ fn lamps_then_drain(length: usize) -> Vec<u32> {
     let mut plan = vec![LAMP; length - LIFT_DRAIN_DROP.len()];
     plan.extend(LIFT_DRAIN_DROP);
     plan
+}
+
+fn valid_plans() -> Vec<Worked> {
+    let accepted = Answer::accepted(&[]);
+    vec![
+        ("sheet P", check_sheet(&SHEET_P).due(accepted)),
+        ("list 1", valid(&SHEET_P, &LIST_1, 23, &[0, 1, 1])),
+        ("list 3", valid(&SHEET_P, &LIFT_DRAIN_DROP, 12, &[0, 1])),
+    ]
+}
+
+/// List 11, and the cost of the dearest plan.
+fn limits() -> Vec<Worked> {
+    let dear = with_lamp_cost(1_000_000);
+    let too_dear = with_lamp_cost(1_000_001);
+    let refusal = Cause::Cost.at(3);
+    let dear_plan = case(Service::Exact, &dear, &LIFT_DRAIN_DROP, [3, 0]);
+    let all_three = kept(short(0b111), 12, &LIFT_DRAIN_DROP);
+    let too_dear_plan = |service| case(service, &too_dear, &[], [0; 2]).refused(refusal);
+    let longest = lamps_then_drain(255);
+    vec![
+        ("255 steps", valid(&SHEET_P, &longest, 264, &[0, 1, 1])),
+        ("price limit", check_sheet(&dear).due(Answer::accepted(&[]))),
+        ("price limit", dear_plan.due(Answer::keeping(all_three))),
+        ("price", check_sheet(&too_dear).refused(refusal)),
+        ("price, plan", too_dear_plan(Service::CheckPlan)),
+        ("price, plan", too_dear_plan(Service::Exact)),
+        ("dearest", valid(&DEAREST, &[0; 255], 255_000_000, &[])),
+    ]
+}
+
+/// The second state has values outside the domains.
+fn steps() -> Vec<Worked> {
+    let step = |values, action| {
+        let Case { lent, .. } = case(Service::Step, &SHEET_P, &[], [0; 2]);
+        let state = state(values).into();
+        let lent = Memory { state, ..lent };
+        Case::with_numbers(Service::Step, [action, 0, 0, 0], lent)
+    };
+    let to = |values| Answer::accepted(&[]).with_state(&state(values));
+    vec![
+        ("lift", step(&[], 0).due(to(&[1]))),
+        ("lamp", step(&[9, 9], LAMP).due(to(&[9, 9, 1]))),
+        ("drop", step(&[], 2).refused(Cause::NotValid.at(1))),
+        ("unknown", step(&[], 4).refused(Cause::UnknownAction.at(1))),
+    ]
+}
+
+fn tallies() -> Vec<Worked> {
+    let add = |[cost, steps]: [u32; 2], more, after: [u32; 2]| {
+        let Case { lent, .. } = case(Service::TallyAdd, &[], &[], [0; 2]);
+        let numbers = [cost, steps, more, 0];
+        Case::with_numbers(Service::TallyAdd, numbers, lent).due(Answer {
+            out: after.map(u64::from).to_vec(),
+            ..Answer::default()
+        })
+    };
+    let compare = |numbers, returned| {
+        let case = Case::with_numbers(Service::TallyCompare, numbers, Memory::default());
+        case.due(Answer {
+            returned,
+            ..Answer::default()
+        })
+    };
+    let million = 1_000_000;
+    let [below, full, past] = [254 * million, 255 * million, 255 * million + 1];
+    let most = u32::MAX;
+    vec![
+        ("first step", add([0, 0], 5, [5, 1])),
+        ("255th step", add([10, 254], 0, [10, 255])),
+        ("256th step", add([10, 255], 1, [10, 255])),
+        ("to the limit", add([below, 7], million, [full, 8])),
+        ("past it", add([below, 7], million + 1, [below, 7])),
+        ("free, past it", add([past, 7], 0, [past, 7])),
+        ("past 2^32", add([most, 0], 1, [most, 0])),
+        ("cheaper", compare([12, 6, 23, 3], 0)),
+        ("alike", compare([12, 3, 12, 3], 1)),
+        ("more steps", compare([12, 4, 12, 3], 2)),
+    ]
+}
+
+/// A mask of a list of at most 64 steps.
+fn short(word: u64) -> Mask {
+    [word, 0, 0, 0]
+}
+
+fn kept(mask: Mask, cost: usize, actions: &[u32]) -> Kept {
+    Kept {
+        cost,
+        actions: actions.to_vec(),
+        mask,
+    }
+}
+
+/// A list with its marks and what elimination, greedy elimination and the exact reduction keep.
+fn list(
+    name: &'static str,
+    words: &[u32],
+    plan: &[u32],
+    marks: Mask,
+    kept: [Kept; 3],
+) -> Vec<Worked> {
+    let [eliminated, greedy, exact] = kept;
+    let both = [eliminated.clone(), greedy.clone()];
+    let answers = [
+        (Service::Marks, Answer::marking(marks)),
+        (Service::Eliminate, Answer::keeping(eliminated)),
+        (Service::Greedy, Answer::keeping(greedy)),
+        (Service::Cheaper, Answer::keeping_both(both)),
+        (Service::Exact, Answer::keeping(exact)),
+    ];
+    // The second output is longer than it has to be.
+    let outputs = [plan.len(), plan.len() + 2];
+    let case = |(service, answer)| (name, case(service, words, plan, outputs).due(answer));
+    answers.map(case).into()
+}
+
+/// Elimination on list 8, of which the document is silent, keeps step 2. The last step of the
+/// longest list is bit 62 of the mask's last word; the exact reduction refuses that list.
+fn reductions() -> Vec<Worked> {
+    let alike = |kept: Kept| [kept.clone(), kept.clone(), kept];
+    let in_p = |name, plan: &[u32], marks, mask| {
+        let kept = alike(kept(mask, 12, &LIFT_DRAIN_DROP));
+        list(name, &SHEET_P, plan, marks, kept)
+    };
+    let [first, second] = [kept(short(0b01), 1, &[0]), kept(short(0b10), 9, &[1])];
+    let ways = [second, first.clone(), first];
+    let both = kept(short(0b010), 6, &[1]);
+    let covers = [both.clone(), kept(short(0b101), 8, &[0, 2]), both];
+    let nothing = alike(kept(short(0), 0, &[]));
+    let last_word = |bits: u64| [0, 0, 0, bits << 60];
+    let longest = lamps_then_drain(255);
+    let mut longest = in_p("255 steps", &longest, last_word(0b011), last_word(0b111));
+    longest.pop();
+    let lists = [
+        in_p("lists 1 and 2", &LIST_1, short(0b010000), short(0b111000)),
+        in_p("list 3", &LIFT_DRAIN_DROP, short(0b011), short(0b111)),
+        list("list 7", &TWO_WAYS, &[0, 1], short(0), ways),
+        list("list 8", &U_AND_V, &[0, 1, 2], short(0), covers),
+        list("list 9", &GATE_ALONE, &[0, 2], short(0), nothing),
+        longest,
+    ];
+    lists.into_iter().flatten().collect()
+}
+
+/// Lists 4 to 6 and 11. That a list is too long is told before that the outputs are too short.
+fn refusals() -> Vec<Worked> {
+    let too_long = lamps_then_drain(256);
+    let mut cases = Vec::new();
+    for service in TAKING_PLAN {
+        let in_p = |plan: &[u32], outputs| case(service, &SHEET_P, plan, outputs);
+        let not_valid = |plan, place| in_p(plan, [2; 2]).refused(Cause::NotValid.at(place));
+        let too_long = in_p(&too_long, [0; 2]).refused(Cause::PlanLength.at(255));
+        cases.push(("list 4", not_valid(&[], 1)));
+        cases.push(("list 5", not_valid(&[0, 0], 2)));
+        cases.push(("list 6", not_valid(&[0, 1], 3)));
+        cases.push(("256 steps", too_long));
+    }
+    cases
+}
+
+/// Outputs are looked at before the steps are done and before marks are counted.
+fn short_outputs() -> Vec<Worked> {
+    let short = |service, plan: &[u32], outputs| {
+        let refusal = Cause::ShortOutput.at(plan.len());
+        case(service, &SHEET_P, plan, outputs).refused(refusal)
+    };
+    let unmarked_21 = short(Service::Exact, &lamps_then_drain(23), [22, 0]);
+    let mut cases = vec![("short output, 21 unmarked", unmarked_21)];
+    for (service, outputs) in [
+        (Service::Eliminate, [2, 0]),
+        (Service::Greedy, [2, 0]),
+        (Service::Exact, [2, 0]),
+        (Service::Cheaper, [2, 3]),
+        (Service::Cheaper, [3, 2]),
+    ] {
+        let valid = short(service, &LIFT_DRAIN_DROP, outputs);
+        let not_valid = short(service, &[0, 0, 1], outputs);
+        cases.push(("short output", valid));
+        cases.push(("short output, not valid", not_valid));
+    }
+    cases
+}
+
+/// List 10. In list 3 behind lamps the lift and the drain are marked.
+fn unmarked() -> Vec<Worked> {
+    let behind_lamps = |steps| {
+        let plan = lamps_then_drain(steps);
+        case(Service::Exact, &SHEET_P, &plan, [steps, 0])
+    };
+    let last_three = kept(short(0b111 << 19), 12, &LIFT_DRAIN_DROP);
+    let refused = |steps| behind_lamps(steps).refused(Cause::Unmarked.at(steps - 2));
+    vec![
+        ("list 10", behind_lamps(22).due(Answer::keeping(last_three))),
+        ("list 10, refused", refused(23)),
+        ("255 steps, refused", refused(255)),
+    ]
+}
+
+/// The parts shown for lists 7 and 8, for two alike, for fewer steps, after a refusal, and of an
+/// output that is shorter than its tally has steps.
+fn kept_parts() -> Vec<Worked> {
+    let [first, second] = [vec![1, 5, 6], vec![0, 2]];
+    let shown = |numbers, part: &[u32]| {
+        let lent = Memory {
+            first: first.clone().into(),
+            second: second.clone().into(),
+            part: vec![OTHER_WORD; first.len()].into(),
+            ..Memory::default()
+        };
+        Case::with_numbers(Service::KeptPart, numbers, lent).due(Answer {
+            part: part.to_vec(),
+            returned: part.len() as u64,
+            ..Answer::default()
+        })
+    };
+    vec![
+        ("part, list 7", shown([9, 1, 1, 1], &[0])),
+        ("part, list 8", shown([6, 1, 8, 2], &[1])),
+        ("part, alike", shown([4, 2, 4, 2], &[1, 5])),
+        ("part, fewer steps", shown([4, 2, 4, 1], &[0])),
+        ("part, refused", shown([0, 0, 0, 0], &[])),
+        ("part, whole", shown([4, u32::MAX, 3, 3], &[0, 2])),
+    ]
 }
