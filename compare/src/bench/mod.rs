@@ -11,9 +11,7 @@ pub use outside::{count_instructions, measure_stack};
 pub use plans::{name, HardPlan, LENGTHS};
 pub use times::run;
 
-use crate::cases::memory::Memory;
-use crate::cases::service::Service;
-use crate::cases::Call;
+use crate::cases::{Call, Memory, Service};
 use crate::comparison::{by_rules, library};
 use crate::rules::search;
 

@@ -1,12 +1,8 @@
 //! The plans that are measured.
 
-use crate::cases::memory::Memory;
-use crate::cases::service::Service;
-use crate::cases::Case;
+use crate::cases::{Case, Memory, Service};
 use crate::makers::families::{Family, Made, Placement, Shape};
-use crate::makers::random::Random;
-use crate::makers::task::{action, fact, Action, Task};
-use crate::makers::walk::Walk;
+use crate::makers::{action, fact, Action, Random, Task, Walk};
 use crate::rules::{MASK_WORDS, MAX_STEPS, MAX_UNMARKED, MAX_VARIABLES};
 use std::fmt::Debug;
 

@@ -1,8 +1,7 @@
 //! The times of both sides on one case.
 
 use super::{table, Side, SIDES};
-use crate::cases::memory::Memory;
-use crate::cases::Case;
+use crate::cases::{Case, Memory};
 use crate::comparison::by_rules;
 use std::hint::black_box;
 use std::time::{Duration, Instant};

@@ -4,12 +4,11 @@
 use super::plans::{case_of, gates_walk, with_large_actions, HardPlan, LENGTHS};
 use super::table;
 use super::timed::{times_of, Timed, RUNS};
-use crate::cases::memory::Memory;
-use crate::cases::service::Service;
+use crate::cases::{Memory, Service};
 use crate::comparison::inputs::{closed, input_bytes, Input};
 use crate::comparison::programs::{printed, Built};
 use crate::makers::families::{Family, Made, Placement, FAMILIES, PLACEMENTS};
-use crate::makers::task::Task;
+use crate::makers::Task;
 use crate::rules::{MAX_STEPS, MAX_UNMARKED};
 use std::fs;
 use std::thread;

@@ -1,6 +1,6 @@
 //! What a service answers, told in one form by the rules and by the makers of cases.
 
-use super::service::Service;
+use super::Service;
 use crate::rules::{Kept, Mask, Refusal, MAX_VARIABLES};
 
 /// The words that are written to the front of each lent slice, and what is returned by value.

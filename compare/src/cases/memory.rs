@@ -1,7 +1,7 @@
 //! The memory lent in a case, with guards on both sides of each slice, so that a write beside it
 //! shows.
 
-use super::answer::Answer;
+use super::Answer;
 use std::fmt::Display;
 use std::ops::{Deref, DerefMut};
 

@@ -1,16 +1,17 @@
 //! Cases: calls of services with all that is lent to them and, where the way that a case was made
 //! tells it, the answer that is due.
 
-pub mod answer;
+mod answer;
 pub mod kinds;
-pub mod memory;
-pub mod service;
+mod memory;
+mod service;
 pub mod worked;
 
+pub use answer::Answer;
+pub use memory::Memory;
+pub use service::{Service, LEFT, REDUCING, SERVICES, TAKEN, TAKING_PLAN};
+
 use crate::rules::Refusal;
-use answer::Answer;
-use memory::Memory;
-use service::Service;
 
 /// A service and the numbers that it takes beside slices; those that it doesn't take are zero.
 #[derive(Clone, Copy)]

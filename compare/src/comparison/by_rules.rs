@@ -1,9 +1,6 @@
 //! The side of the rules: what each service answers by the independent version.
 
-use crate::cases::answer::Answer;
-use crate::cases::memory::Memory;
-use crate::cases::service::{Service, LEFT, TAKEN};
-use crate::cases::Call;
+use crate::cases::{Answer, Call, Memory, Service, LEFT, TAKEN};
 use crate::rules::{self, Kept, Lodged, Refusal, State, Tally};
 use std::cmp::Ordering;
 

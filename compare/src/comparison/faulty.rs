@@ -1,9 +1,7 @@
 //! Exact reductions that each have one fault, to show that the comparison finds it.
 
 use super::by_rules::{exact_by, Way};
-use crate::cases::answer::Answer;
-use crate::cases::memory::Memory;
-use crate::cases::service::Service;
+use crate::cases::{Answer, Memory, Service};
 use crate::rules::{self, steps_of, Cause, Kept, Lodged, Refusal, MAX_UNMARKED};
 use std::cmp::Reverse;
 

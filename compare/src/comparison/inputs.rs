@@ -3,7 +3,7 @@
 use super::text;
 use crate::cases::worked::{self, LIST_1, SHEET_P};
 use crate::cases::{kinds, Case};
-use crate::makers::random::Random;
+use crate::makers::Random;
 use crate::rules::{COUNT_WORD, EDITION_WORD, HEADER, MAX_ACTION_COST, MAX_STEPS, MAX_WORDS};
 
 /// The bytes of an input; the pipe of one that stays open is not closed before the answer.

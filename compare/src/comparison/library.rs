@@ -4,9 +4,7 @@
 //! Slices that a service only reads are lent mutably all the same: whether it leaves them alone is
 //! under test, so the compiler must not take it for granted.
 
-use crate::cases::memory::Memory;
-use crate::cases::service::Service;
-use crate::cases::Call;
+use crate::cases::{Call, Memory, Service};
 
 /// Declares each service by its slices, its numbers and its last slice, and has a call of it lend
 /// the slices of these names. A slice passes as its pointer and then its length.

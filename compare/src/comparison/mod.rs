@@ -11,7 +11,7 @@ pub mod self_test;
 mod services;
 mod text;
 
-use crate::cases::service::SERVICES;
+use crate::cases::SERVICES;
 use programs::Built;
 use record::Record;
 use std::fs::File;

@@ -2,8 +2,7 @@
 //! that the text can be fed back as it is printed.
 
 use super::text;
-use crate::cases::memory::Memory;
-use crate::cases::{Call, Case};
+use crate::cases::{Call, Case, Memory};
 
 pub fn print_difference(case: &Case, by_rules: &Memory, by_library: Option<&Memory>) {
     let Case { call, lent, due } = case;

@@ -6,10 +6,8 @@ use super::faulty::FAULTS;
 use super::inputs::input_bytes;
 use super::record::print_count;
 use super::{by_rules, text};
-use crate::cases::memory::Memory;
-use crate::cases::service::Service;
 use crate::cases::worked::{self, LIST_1, SHEET_P};
-use crate::cases::{kinds, Case};
+use crate::cases::{kinds, Case, Memory, Service};
 use crate::rules::{printed_by_shorten, search, Lodged};
 
 /// All reductions of plans of at most so many steps are gone through.

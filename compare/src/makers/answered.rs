@@ -1,9 +1,9 @@
 //! Plans whose marks and reductions are known by the way that they are made.
 
-use super::parts::laid_into_each_other;
-use super::parts::{chain, drain_in_lane, gate_actions, gate_goal, gate_lane};
-use super::random::Random;
-use super::task::{action, fact, Action, Fact, Task};
+use super::parts::{
+    chain, drain_in_lane, gate_actions, gate_goal, gate_lane, laid_into_each_other,
+};
+use super::{action, fact, Action, Fact, Random, Task};
 use std::cmp::Reverse;
 
 const COSTS: [u32; 4] = [0, 1, 2, 3];

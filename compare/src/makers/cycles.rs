@@ -1,9 +1,7 @@
 //! Plans of small tasks that go round in circles, so that many strikings succeed: gates that are
 //! lifted and dropped, steps that undo others, and several ways to the same fact.
 
-use super::random::Random;
-use super::task::{action, set, Fact, Task};
-use super::walk::Walk;
+use super::{action, set, Fact, Random, Task, Walk};
 use crate::rules::State;
 
 /// The most actions of a task, what their costs are taken from, and whether most of them move a

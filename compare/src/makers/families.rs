@@ -4,8 +4,7 @@
 
 use super::parts::{chain, drain_in_lane, gate_actions, gate_goal, gate_lane};
 use super::parts::{laid_into_each_other, GATE_ACTIONS};
-use super::random::Random;
-use super::task::{action, fact, Action, Fact, Task};
+use super::{action, fact, Action, Fact, Random, Task};
 use std::cmp::Reverse;
 use std::ops::RangeInclusive;
 

@@ -6,7 +6,12 @@ pub mod cycles;
 pub mod families;
 pub mod faults;
 mod parts;
-pub mod random;
-pub mod sheet;
-pub mod task;
-pub mod walk;
+mod random;
+mod sheet;
+mod task;
+mod walk;
+
+pub use random::Random;
+pub use sheet::{length_word, Sheet};
+pub use task::{action, fact, fit, set, Action, Fact, Task};
+pub use walk::{random_step, unknown_action, Walk};

@@ -1,8 +1,7 @@
 //! Parts that plans are made of: chains of steps, gates with their basins, and lanes of steps that
 //! are laid into each other.
 
-use super::random::Random;
-use super::task::{action, fact, Action, Fact};
+use super::{action, fact, Action, Fact, Random};
 
 /// The actions of a chain: each makes the next one possible, and the variable counts them.
 pub fn chain(variable: usize, length: usize, mut cost: impl FnMut() -> u32) -> Vec<Action> {

@@ -1,8 +1,7 @@
 //! The words of a sheet together with where its parts truly stand, whatever its words say by now:
 //! so one fault can be put beside another.
 
-use super::random::Random;
-use super::task::Task;
+use super::{Random, Task};
 use crate::rules::{self, pair_word, Cause, Refusal};
 use std::ops::Range;
 

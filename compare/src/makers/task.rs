@@ -1,6 +1,6 @@
 //! Tasks of random shape, with every edge of their ranges, and the sheets that hold them.
 
-use super::random::Random;
+use super::Random;
 use crate::rules::{self, pair_word, State};
 use std::ops::{Range, RangeInclusive};
 

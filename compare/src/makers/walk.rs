@@ -1,7 +1,6 @@
 //! Plans made by walks of applicable actions, and ways to spoil them.
 
-use super::random::Random;
-use super::task::{fit, set, Fact, Task};
+use super::{fit, set, Fact, Random, Task};
 use crate::rules::{self, Cause, Refusal, State};
 
 /// A task with a plan of it whose every step can be done.

@@ -1,7 +1,7 @@
 //! States and steps, the check of a plan, and the steps of it that a reduction keeps.
 
-use super::{check_sheet, refuse, split, task::Task, Action, Cause, Refusal};
-use super::{MAX_STEPS, MAX_VARIABLES};
+use super::task::Task;
+use super::{check_sheet, refuse, split, Action, Cause, Refusal, MAX_STEPS, MAX_VARIABLES};
 
 /// Any 64 values; those past a task's variables mean nothing to it.
 pub type State = [u32; MAX_VARIABLES];

@@ -2,14 +2,9 @@
 //! plans of which all or nothing is struck.
 
 use super::{kept, plan_case, plan_case_with, Make};
-use crate::cases::answer::Answer;
-use crate::cases::service::Service;
-use crate::cases::Case;
-use crate::makers::cycles;
+use crate::cases::{Answer, Case, Service};
 use crate::makers::families::{Family, Made, Shape, FAMILIES, PLACEMENTS};
-use crate::makers::random::Random;
-use crate::makers::task::{action, fact, Action, Task};
-use crate::makers::walk::Walk;
+use crate::makers::{action, cycles, fact, Action, Random, Task, Walk};
 use crate::rules::{Cause, MAX_ACTION_COST, MAX_STEPS, MAX_UNMARKED};
 use std::ops::RangeInclusive;
 

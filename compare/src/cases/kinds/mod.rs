@@ -7,12 +7,8 @@ mod sheet;
 mod step;
 mod tally;
 
-use super::memory::Memory;
-use super::service::{Service, TAKING_PLAN};
-use super::Case;
-use crate::makers::faults;
-use crate::makers::random::Random;
-use crate::makers::task::Task;
+use super::{Case, Memory, Service, TAKING_PLAN};
+use crate::makers::{faults, Random, Task};
 use crate::rules::{Kept, MAX_VARIABLES};
 
 /// Makes a case, unless the random task has no spot for it.

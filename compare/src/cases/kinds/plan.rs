@@ -2,12 +2,8 @@
 //! every service that takes a plan.
 
 use super::{plan_case, service_for_valid, Make};
-use crate::cases::answer::Answer;
-use crate::cases::service::{Service, TAKING_PLAN};
-use crate::cases::Case;
-use crate::makers::random::Random;
-use crate::makers::task::Task;
-use crate::makers::walk::{random_step, Walk};
+use crate::cases::{Answer, Case, Service, TAKING_PLAN};
+use crate::makers::{random_step, Random, Task, Walk};
 use crate::rules::{Cause, Refusal, MAX_ACTION_COST, MAX_STEPS};
 
 pub const KINDS: &[(&str, Make)] = &[

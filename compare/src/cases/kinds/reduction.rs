@@ -2,13 +2,10 @@
 //! to strike and on plans that hold little.
 
 use super::{kept, plan_case, plan_case_with, service_for_valid, Make, QUICK_STEPS};
-use crate::cases::answer::Answer;
-use crate::cases::service::{Service, REDUCING};
-use crate::cases::Case;
+use crate::cases::{Answer, Case, Service, REDUCING};
 use crate::makers::answered::{self, Answered};
 use crate::makers::cycles::{self, Shape};
-use crate::makers::random::Random;
-use crate::makers::walk::Walk;
+use crate::makers::{Random, Walk};
 use crate::rules::{mask_of, Cause, Refusal, MAX_STEPS, MAX_UNMARKED};
 
 pub const KINDS: &[(&str, Make)] = &[

@@ -2,13 +2,9 @@
 
 use super::step::random_state;
 use super::{check_sheet, plan_case_with, step, Make};
-use crate::cases::answer::Answer;
-use crate::cases::service::TAKING_PLAN;
-use crate::cases::Case;
+use crate::cases::{Answer, Case, TAKING_PLAN};
 use crate::makers::faults::{self, Put};
-use crate::makers::random::Random;
-use crate::makers::sheet::Sheet;
-use crate::makers::task::Task;
+use crate::makers::{Random, Sheet, Task};
 use crate::rules;
 
 pub const KINDS: &[(&str, Make)] = &[

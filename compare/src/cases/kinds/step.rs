@@ -1,11 +1,8 @@
 //! Single steps on lent states of any values and many lengths.
 
 use super::{random_length, step, Make};
-use crate::cases::answer::Answer;
-use crate::cases::Case;
-use crate::makers::random::Random;
-use crate::makers::task::{set, Task};
-use crate::makers::walk::unknown_action;
+use crate::cases::{Answer, Case};
+use crate::makers::{set, unknown_action, Random, Task};
 use crate::rules::{self, Cause, State};
 
 pub const KINDS: &[(&str, Make)] = &[

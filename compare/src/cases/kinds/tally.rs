@@ -1,10 +1,8 @@
 //! Tallies of any words, most of them near the limits, and the kept parts that they choose.
 
 use super::{fillers, random_out, Make};
-use crate::cases::memory::Memory;
-use crate::cases::service::Service;
-use crate::cases::Case;
-use crate::makers::random::Random;
+use crate::cases::{Case, Memory, Service};
+use crate::makers::Random;
 use crate::rules;
 
 pub const KINDS: &[(&str, Make)] = &[

@@ -5,10 +5,7 @@ mod sheets;
 
 pub use sheets::{with_lamp_cost, SHEET_P};
 
-use super::answer::Answer;
-use super::memory::Memory;
-use super::service::{Service, TAKING_PLAN};
-use super::Case;
+use super::{Answer, Case, Memory, Service, TAKING_PLAN};
 use crate::rules::{Cause, Kept, Mask, MAX_VARIABLES};
 use sheets::{DEAREST, GATE_ALONE, LAMP, TWO_WAYS, U_AND_V};
 

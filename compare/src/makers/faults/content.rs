@@ -1,8 +1,7 @@
 //! Faults of what the parts hold: causes 5 to 7.
 
 use super::{word_above, zero_or_above, Put};
-use crate::makers::random::Random;
-use crate::makers::sheet::Sheet;
+use crate::makers::{Random, Sheet};
 use crate::rules::{self, Cause, Refusal, FACT_BASE};
 
 pub const FAULTS: &[(&str, Put)] = &[

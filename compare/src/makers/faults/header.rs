@@ -1,8 +1,7 @@
 //! Faults of the sheet's length and of its header: causes 1 to 3.
 
 use super::{other_word, word_above, zero_or_above, Put};
-use crate::makers::random::Random;
-use crate::makers::sheet::{length_word, Sheet};
+use crate::makers::{length_word, Random, Sheet};
 use crate::rules::{self, Cause, Refusal, HEADER, MAX_WORDS};
 
 pub const FAULTS: &[(&str, Put)] = &[

@@ -6,8 +6,7 @@ mod content;
 mod header;
 mod pairs;
 
-use super::random::Random;
-use super::sheet::Sheet;
+use super::{Random, Sheet};
 use crate::rules::Refusal;
 
 /// Spoils a sheet and answers with the refusal, or with nothing if the sheet has no spot for the

@@ -1,10 +1,8 @@
 //! Faults of the pairs and of the parts that they tell of: cause 4.
 
 use super::{other_word, word_above, Put};
-use crate::makers::random::Random;
-use crate::makers::sheet::{length_word, Sheet};
-use crate::rules::{self, pair_word, Cause, Refusal};
-use crate::rules::{ACTION_HEAD, MAX_ACTIONS, MAX_VARIABLES};
+use crate::makers::{length_word, Random, Sheet};
+use crate::rules::{self, pair_word, Cause, Refusal, ACTION_HEAD, MAX_ACTIONS, MAX_VARIABLES};
 
 pub const FAULTS: &[(&str, Put)] = &[
     ("sheet: pairs that don't fit", pairs_past_end),
