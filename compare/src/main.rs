@@ -27,13 +27,13 @@ fn main() -> ExitCode {
 /// Answers whether nothing failed.
 fn run(Options { mode, seed, built }: &Options) -> bool {
     match *mode {
-        Mode::All { cases } => self_test::run(*seed) && comparison::all(built, *seed, cases),
-        Mode::Long { seconds } => comparison::long(built, *seed, seconds),
-        Mode::One { case } => comparison::one(*seed, case),
+        Mode::All(cases) => self_test::run(*seed) && comparison::all(built, *seed, cases),
+        Mode::Long(seconds) => comparison::long(built, *seed, seconds),
+        Mode::One(case) => comparison::one(*seed, case),
         Mode::SelfTest => self_test::run(*seed) && comparison::worked(),
         Mode::Bench => bench::run(built),
         Mode::Instructions => bench::count_instructions(),
         Mode::Stack => bench::measure_stack(built),
-        Mode::Once { side, plan } => bench::once(side, plan),
+        Mode::Once(side, plan) => bench::once(side, plan),
     }
 }

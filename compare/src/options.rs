@@ -5,6 +5,7 @@ use crate::comparison::programs::Built;
 use crate::comparison::{fresh_seed, LONG_SECONDS};
 use crate::makers::families::{FAMILIES, PLACEMENTS};
 use std::collections::VecDeque;
+use std::fmt::Debug;
 
 const USAGE: &str = "usage: compare [--cases N] [--seed S] [--program PATH]...
                                       try N random cases, the worked lists and built programs
@@ -32,21 +33,23 @@ pub struct Options {
 }
 
 pub enum Mode {
-    All { cases: u64 },
-    Long { seconds: u64 },
-    One { case: u64 },
+    /// So many random cases.
+    All(u64),
+    /// For so many seconds.
+    Long(u64),
+    /// The random case with this number.
+    One(u64),
     SelfTest,
     Bench,
     Instructions,
     Stack,
-    Once { side: Side, plan: HardPlan },
+    Once(Side, HardPlan),
 }
 
 impl Options {
     pub fn parse(arguments: impl Iterator<Item = String>) -> Result<Self, String> {
         let mut arguments = Arguments(arguments.collect());
-        let cases = DEFAULT_CASES;
-        let (mut mode, mut seed, mut built) = (Mode::All { cases }, None, Vec::new());
+        let (mut mode, mut seed, mut built) = (Mode::All(DEFAULT_CASES), None, Vec::new());
         while let Some(argument) = arguments.0.pop_front() {
             match argument.as_str() {
                 "--seed" => seed = Some(arguments.number()?),
@@ -56,7 +59,7 @@ impl Options {
         }
         let seed = match (seed, &mode) {
             (Some(seed), _) => seed,
-            (None, Mode::Long { .. }) => fresh_seed().map_err(|error| error.to_string())?,
+            (None, Mode::Long(_)) => fresh_seed().map_err(|error| error.to_string())?,
             (None, _) => DEFAULT_SEED,
         };
         Ok(Options { mode, seed, built })
@@ -68,37 +71,24 @@ struct Arguments(VecDeque<String>);
 
 impl Arguments {
     fn mode(&mut self, argument: &str) -> Result<Mode, String> {
-        let mode = match argument {
-            "--cases" => {
-                let cases = self.number()?;
-                Mode::All { cases }
-            }
-            "--long" => {
-                let seconds = self.number_if_any().unwrap_or(LONG_SECONDS);
-                Mode::Long { seconds }
-            }
-            "--case" => {
-                let case = self.number()?;
-                Mode::One { case }
-            }
+        Ok(match argument {
+            "--cases" => Mode::All(self.number()?),
+            "--long" => Mode::Long(self.number_if_any().unwrap_or(LONG_SECONDS)),
+            "--case" => Mode::One(self.number()?),
             "--self-test" => Mode::SelfTest,
             "--bench" => Mode::Bench,
             "--instructions" => Mode::Instructions,
             "--stack" => Mode::Stack,
-            "--once" => {
-                let (side, plan) = (self.one_of(&SIDES, name)?, self.plan()?);
-                Mode::Once { side, plan }
-            }
+            "--once" => Mode::Once(self.one_of(&SIDES)?, self.plan()?),
             _ => return Err(USAGE.to_string()),
-        };
-        Ok(mode)
+        })
     }
 
     fn plan(&mut self) -> Result<HardPlan, String> {
         Ok(HardPlan {
-            family: self.one_of(&FAMILIES, name)?,
-            placement: self.one_of(&PLACEMENTS, name)?,
-            steps: self.one_of(&LENGTHS, name)?,
+            family: self.one_of(&FAMILIES)?,
+            placement: self.one_of(&PLACEMENTS)?,
+            steps: self.one_of(&LENGTHS)?,
         })
     }
 
@@ -116,9 +106,9 @@ impl Arguments {
         Some(number)
     }
 
-    fn one_of<T: Copy>(&mut self, all: &[T], name: fn(T) -> String) -> Result<T, String> {
+    fn one_of<T: Copy + Debug>(&mut self, all: &[T]) -> Result<T, String> {
         let text = self.text()?;
-        let found = all.iter().copied().find(|&it| name(it) == text);
+        let found = all.iter().copied().find(|it| name(it) == text);
         found.ok_or_else(|| USAGE.to_string())
     }
 }

@@ -1,6 +1,6 @@
 //! The plans that are measured.
 
-use crate::cases::{Case, Memory, Service};
+use crate::cases::{Case, Lent, Memory, Service};
 use crate::makers::families::{Family, Made, Placement, Shape};
 use crate::makers::{action, fact, Action, Random, Task, Walk};
 use crate::rules::{MASK_WORDS, MAX_STEPS, MAX_UNMARKED, MAX_VARIABLES};
@@ -73,12 +73,12 @@ fn hardest(family: Family) -> u64 {
 
 pub fn case_of(service: Service, task: &Task, plan: &[u32]) -> Case {
     let lent = Memory {
-        words: task.words().into(),
-        plan: plan.into(),
-        state: vec![0; MAX_VARIABLES].into(),
-        first: vec![0; plan.len()].into(),
-        mask: vec![0; MASK_WORDS].into(),
-        out: vec![0; service.out().len()].into(),
+        words: Lent::of(task.words()),
+        plan: Lent::of(plan),
+        state: Lent::of(vec![0; MAX_VARIABLES]),
+        first: Lent::of(vec![0; plan.len()]),
+        mask: Lent::of(vec![0; MASK_WORDS]),
+        out: Lent::of(vec![0; service.out().len()]),
         ..Memory::default()
     };
     Case::new(service, lent)

@@ -12,22 +12,33 @@ const GUARD_WORD: u32 = 0xa5a5_a5a5;
 #[derive(Clone, PartialEq, Eq)]
 pub struct Lent<T>(Vec<T>);
 
-impl<T: Copy + From<u32>> From<&[T]> for Lent<T> {
-    fn from(words: &[T]) -> Self {
+impl<T: Copy + From<u32>> Lent<T> {
+    pub fn of(words: impl AsRef<[T]>) -> Self {
         let guards = [T::from(GUARD_WORD); GUARD];
-        Lent([&guards, words, &guards].concat())
+        Lent([&guards, words.as_ref(), &guards].concat())
+    }
+
+    /// Writes at the front; what doesn't fit is dropped, and words behind it stay.
+    pub fn write(&mut self, words: &[T]) {
+        for (old, &word) in self.iter_mut().zip(words) {
+            *old = word;
+        }
     }
 }
 
-impl<T: Copy + From<u32>> From<Vec<T>> for Lent<T> {
-    fn from(words: Vec<T>) -> Self {
-        Lent::from(&words[..])
+impl<T: Copy + From<u32> + PartialEq + Display> Lent<T> {
+    /// The words as text, and whether the guards stand.
+    fn shown(&self) -> (Vec<String>, bool) {
+        let end = self.0.len() - GUARD;
+        let mut guards = self.0[..GUARD].iter().chain(&self.0[end..]);
+        let stand = guards.all(|&word| word == T::from(GUARD_WORD));
+        (self.iter().map(T::to_string).collect(), stand)
     }
 }
 
 impl<T: Copy + From<u32>> Default for Lent<T> {
     fn default() -> Self {
-        Lent::from(&[][..])
+        Lent::of([])
     }
 }
 
@@ -43,33 +54,6 @@ impl<T> DerefMut for Lent<T> {
     fn deref_mut(&mut self) -> &mut [T] {
         let end = self.0.len() - GUARD;
         &mut self.0[GUARD..end]
-    }
-}
-
-impl<T: Copy> Lent<T> {
-    /// Writes at the front; what doesn't fit is dropped, and words behind it stay.
-    pub fn write(&mut self, words: &[T]) {
-        for (old, &word) in self.iter_mut().zip(words) {
-            *old = word;
-        }
-    }
-}
-
-/// What a report says of a slice of either width.
-pub trait Shown {
-    fn words(&self) -> Vec<String>;
-    fn guards_stand(&self) -> bool;
-}
-
-impl<T: Copy + From<u32> + PartialEq + Display> Shown for Lent<T> {
-    fn words(&self) -> Vec<String> {
-        self.iter().map(T::to_string).collect()
-    }
-
-    fn guards_stand(&self) -> bool {
-        let end = self.0.len() - GUARD;
-        let mut guards = self.0[..GUARD].iter().chain(&self.0[end..]);
-        guards.all(|&word| word == T::from(GUARD_WORD))
     }
 }
 
@@ -106,15 +90,16 @@ impl Memory {
         memory
     }
 
-    /// The slices that services write to, with their names.
-    pub fn written(&self) -> [(&'static str, &dyn Shown); 6] {
+    /// The slices that services write to, each with its name, its words and whether its guards
+    /// stand.
+    pub fn written(&self) -> [(&'static str, (Vec<String>, bool)); 6] {
         [
-            ("state", &self.state),
-            ("first", &self.first),
-            ("second", &self.second),
-            ("part", &self.part),
-            ("mask", &self.mask),
-            ("out", &self.out),
+            ("state", self.state.shown()),
+            ("first", self.first.shown()),
+            ("second", self.second.shown()),
+            ("part", self.part.shown()),
+            ("mask", self.mask.shown()),
+            ("out", self.out.shown()),
         ]
     }
 }

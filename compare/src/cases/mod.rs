@@ -8,7 +8,7 @@ mod service;
 pub mod worked;
 
 pub use answer::Answer;
-pub use memory::Memory;
+pub use memory::{Lent, Memory};
 pub use service::{Service, LEFT, REDUCING, SERVICES, TAKEN, TAKING_PLAN};
 
 use crate::rules::Refusal;

@@ -3,34 +3,39 @@
 use crate::rules::MASK_WORDS;
 use Service::*;
 
-#[derive(Clone, Copy, PartialEq, Eq)]
-pub enum Service {
-    CheckSheet,
-    Step,
-    CheckPlan,
-    TallyAdd,
-    TallyCompare,
-    Marks,
-    Eliminate,
-    Greedy,
-    Exact,
-    Cheaper,
-    KeptPart,
+/// Declares the services, each with its name.
+macro_rules! services {
+    ($($service:ident = $name:literal,)*) => {
+        #[derive(Clone, Copy, PartialEq, Eq)]
+        pub enum Service {
+            $($service),*
+        }
+
+        pub const SERVICES: &[Service] = &[$($service),*];
+
+        impl Service {
+            pub fn name(self) -> &'static str {
+                match self {
+                    $($service => $name),*
+                }
+            }
+        }
+    };
 }
 
-pub const SERVICES: [Service; 11] = [
-    CheckSheet,
-    Step,
-    CheckPlan,
-    TallyAdd,
-    TallyCompare,
-    Marks,
-    Eliminate,
-    Greedy,
-    Exact,
-    Cheaper,
-    KeptPart,
-];
+services! {
+    CheckSheet = "check_sheet",
+    Step = "step",
+    CheckPlan = "check_plan",
+    TallyAdd = "tally_add",
+    TallyCompare = "tally_compare",
+    Marks = "marks",
+    Eliminate = "eliminate",
+    Greedy = "greedy",
+    Exact = "exact",
+    Cheaper = "cheaper",
+    KeptPart = "kept_part",
+}
 
 /// Those that strike steps of a plan.
 pub const REDUCING: [Service; 4] = [Eliminate, Greedy, Exact, Cheaper];
@@ -41,22 +46,6 @@ pub const TAKEN: u64 = 0;
 pub const LEFT: u64 = 1;
 
 impl Service {
-    pub fn name(self) -> &'static str {
-        match self {
-            CheckSheet => "check_sheet",
-            Step => "step",
-            CheckPlan => "check_plan",
-            TallyAdd => "tally_add",
-            TallyCompare => "tally_compare",
-            Marks => "marks",
-            Eliminate => "eliminate",
-            Greedy => "greedy",
-            Exact => "exact",
-            Cheaper => "cheaper",
-            KeptPart => "kept_part",
-        }
-    }
-
     /// The numbers that it takes beside slices.
     pub fn numbers(self) -> &'static [&'static str] {
         match self {

@@ -31,12 +31,11 @@ fn described(call: Call) -> String {
 /// A slice that the service doesn't take is empty, and not printed.
 fn print_memory(title: &str, memory: &Memory, lent: &Memory) {
     println!("# {title}, returned {}:", memory.returned);
-    for (name, slice) in memory.written() {
-        let words = slice.words();
+    for (name, (words, guards_stand)) in memory.written() {
         if !words.is_empty() {
             println!("#   {name} ({}): {}", words.len(), words.join(" "));
         }
-        print_if_changed(&format!("memory beside {name}"), slice.guards_stand());
+        print_if_changed(&format!("memory beside {name}"), guards_stand);
     }
     print_if_changed("words", memory.words == lent.words);
     print_if_changed("plan", memory.plan == lent.plan);

@@ -19,19 +19,19 @@ impl Random {
         Random { state }
     }
 
-    fn next(&mut self) -> u64 {
+    /// Any word of 64 bits: one that a service is not likely to write by chance.
+    pub fn filler(&mut self) -> u64 {
         self.state = self.state.wrapping_add(GOLDEN_GAMMA);
         scramble(self.state)
     }
 
     /// An index below `count`, which is not 0.
     pub fn index(&mut self, count: usize) -> usize {
-        ((u128::from(self.next()) * count as u128) >> u64::BITS) as usize
+        ((u128::from(self.filler()) * count as u128) >> u64::BITS) as usize
     }
 
     pub fn within(&mut self, range: RangeInclusive<u32>) -> u32 {
-        let width = (range.end() - range.start()) as usize + 1;
-        range.start() + self.index(width) as u32
+        self.size(*range.start() as usize..=*range.end() as usize) as u32
     }
 
     pub fn size(&mut self, range: RangeInclusive<usize>) -> usize {
@@ -69,13 +69,8 @@ impl Random {
         if self.once_in(2) {
             self.pick(&EDGE_WORDS)
         } else {
-            self.next() as u32
+            self.filler() as u32
         }
-    }
-
-    /// A word that a service is not likely to write by chance.
-    pub fn filler(&mut self) -> u64 {
-        self.next()
     }
 }
 

@@ -172,9 +172,9 @@ impl Walk {
     }
 
     /// Puts an action that the task doesn't have in the place of the step with this index.
-    pub fn put_unknown_action(&mut self, random: &mut Random, step: usize) -> Refusal {
+    pub fn put_unknown_action(&mut self, random: &mut Random, step: usize) -> Option<Refusal> {
         self.plan[step] = unknown_action(random, &self.task);
-        Cause::UnknownAction.at(step + 1)
+        Some(Cause::UnknownAction.at(step + 1))
     }
 }
 

@@ -8,49 +8,38 @@ use crate::makers::{action, cycles, fact, Action, Random, Task, Walk};
 use crate::rules::{Cause, MAX_ACTION_COST, MAX_STEPS, MAX_UNMARKED};
 use std::ops::RangeInclusive;
 
-pub const KINDS: &[(&str, Make)] = &[
-    ("exact: lamps", |random| of_family(random, Family::Lamps)),
-    ("exact: several writers of each goal", |random| {
-        of_family(random, Family::Writers)
-    }),
-    ("exact: overlapping covers", |random| {
-        of_family(random, Family::Covers)
-    }),
-    ("exact: gates opened and shut", |random| {
-        of_family(random, Family::Gates)
-    }),
-    ("exact: one step for several", with_one_for_all),
-    ("exact: 20 unmarked", with_most_unmarked),
-    ("exact: 21 unmarked", |random| {
-        too_many(random, MAX_UNMARKED + 1)
-    }),
-    ("exact: over 20 unmarked", |random| {
-        let unmarked = random_too_many(random);
-        too_many(random, unmarked)
-    }),
-    ("exact: over 20 unmarked, not valid", not_valid),
-    ("exact: over 20 unmarked, output short", output_short),
-    ("exact: everything struck", everything_struck),
-    ("exact: nothing struck", |random| {
+pub const KINDS: &[(&str, Make)] = kinds! { random:
+    "exact: lamps" => of_family(random, Family::Lamps),
+    "exact: several writers of each goal" => of_family(random, Family::Writers),
+    "exact: overlapping covers" => of_family(random, Family::Covers),
+    "exact: gates opened and shut" => of_family(random, Family::Gates),
+    "exact: one step for several" => with_one_for_all(random),
+    "exact: 20 unmarked" => with_most_unmarked(random),
+    "exact: 21 unmarked" => too_many_unmarked(random, MAX_UNMARKED + 1),
+    "exact: over 20 unmarked" => {
+        let unmarked = random.size(TOO_MANY);
+        too_many_unmarked(random, unmarked)
+    },
+    "exact: over 20 unmarked, not valid" => not_valid(random),
+    "exact: over 20 unmarked, output short" => output_short(random),
+    "exact: everything struck" => everything_struck(random),
+    "exact: nothing struck" => {
         let shape = random_shape(random, Family::Lamps);
-        let shape = Shape {
-            unmarked: 0,
-            ..shape
-        };
-        Some(shape.make(random).case(random))
-    }),
-    ("exact: few actions, alike or free", |random| {
-        use cycles::{FEW_ACTIONS, FREE_ACTIONS, TIED_COSTS};
-        of_cycles(random, &[FEW_ACTIONS, FREE_ACTIONS, TIED_COSTS])
-    }),
-    ("exact: cycles, up to 20 steps", |random| {
-        of_cycles(random, &[cycles::USUAL, cycles::MANY_WRITERS])
-    }),
-];
+        Some(Shape { unmarked: 0, ..shape }.make(random).case(random))
+    },
+    "exact: few actions, alike or free" => of_cycles(random, &ALIKE_OR_FREE),
+    "exact: cycles, up to 20 steps" => of_cycles(random, &[cycles::USUAL, cycles::MANY_WRITERS]),
+};
 
+const ALIKE_OR_FREE: [cycles::Shape; 3] = [
+    cycles::FEW_ACTIONS,
+    cycles::FREE_ACTIONS,
+    cycles::TIED_COSTS,
+];
 /// Numbers of steps at which a word of a mask ends, beside them, and the ends.
 const LENGTHS: [usize; 9] = [0, 1, 63, 64, 65, 127, 128, 129, MAX_STEPS];
 const SHORT: usize = 10;
+const TOO_MANY: RangeInclusive<usize> = MAX_UNMARKED + 1..=MAX_STEPS;
 /// Numbers of unmarked steps that don't take long.
 const FEW_UNMARKED: usize = 8;
 /// One case in so many has any number of unmarked steps.
@@ -145,19 +134,19 @@ fn with_most_unmarked(random: &mut Random) -> Option<Case> {
     Some(with_unmarked(random, families, MAX_UNMARKED)?.case(random))
 }
 
-fn random_too_many(random: &mut Random) -> usize {
-    random.size(MAX_UNMARKED + 1..=MAX_STEPS)
+fn with_too_many(random: &mut Random) -> Option<Made> {
+    let unmarked = random.size(TOO_MANY);
+    with_unmarked(random, &FAMILIES, unmarked)
 }
 
-fn too_many(random: &mut Random, unmarked: usize) -> Option<Case> {
+fn too_many_unmarked(random: &mut Random, unmarked: usize) -> Option<Case> {
     let case = with_unmarked(random, &FAMILIES, unmarked)?.case(random);
     Some(case.refused(Cause::Unmarked.at(unmarked)))
 }
 
 /// Whether a plan is valid is told before its marks are counted.
 fn not_valid(random: &mut Random) -> Option<Case> {
-    let unmarked = random_too_many(random);
-    let made = with_unmarked(random, &FAMILIES, unmarked)?;
+    let made = with_too_many(random)?;
     let mut walk = Walk::of(made.task, &made.plan);
     let refusal = walk.spoil(random)?;
     let case = plan_case(random, Service::Exact, &walk.task, &walk.plan);
@@ -165,8 +154,7 @@ fn not_valid(random: &mut Random) -> Option<Case> {
 }
 
 fn output_short(random: &mut Random) -> Option<Case> {
-    let unmarked = random_too_many(random);
-    let made = with_unmarked(random, &FAMILIES, unmarked)?;
+    let made = with_too_many(random)?;
     let steps = made.plan.len();
     let shorter = random.size(0..=steps - 1);
     let outputs = [random.pick(&[steps - 1, shorter]), 0];

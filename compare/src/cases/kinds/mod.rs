@@ -1,5 +1,12 @@
 //! The kinds of cases that are tried, and what they share: calls with buffers of many lengths.
 
+/// A table of kinds: the name of each, and what makes a case of it.
+macro_rules! kinds {
+    ($random:ident: $($name:literal => $case:expr,)*) => {
+        &[$(($name, |$random| $case)),*]
+    };
+}
+
 mod exact;
 mod plan;
 mod reduction;
@@ -7,7 +14,7 @@ mod sheet;
 mod step;
 mod tally;
 
-use super::{Case, Memory, Service, TAKING_PLAN};
+use super::{Case, Lent, Memory, Service, TAKING_PLAN};
 use crate::makers::{faults, Random, Task};
 use crate::rules::{Kept, MAX_VARIABLES};
 
@@ -54,8 +61,8 @@ pub fn numbered(kinds: &[Kind], seed: u64, number: u64) -> (&'static str, Case) 
 
 fn check_sheet(random: &mut Random, words: Vec<u32>) -> Case {
     let lent = Memory {
-        words: words.into(),
-        out: random_out(random, Service::CheckSheet).into(),
+        words: Lent::of(words),
+        out: Lent::of(random_out(random, Service::CheckSheet)),
         ..Memory::default()
     };
     Case::new(Service::CheckSheet, lent)
@@ -63,9 +70,9 @@ fn check_sheet(random: &mut Random, words: Vec<u32>) -> Case {
 
 fn step(random: &mut Random, words: Vec<u32>, state: &[u32], action: u32) -> Case {
     let lent = Memory {
-        words: words.into(),
-        state: state.into(),
-        out: random_out(random, Service::Step).into(),
+        words: Lent::of(words),
+        state: Lent::of(state),
+        out: Lent::of(random_out(random, Service::Step)),
         ..Memory::default()
     };
     Case::with_numbers(Service::Step, [action, 0, 0, 0], lent)
@@ -102,13 +109,13 @@ fn plan_case_with(
     let mut outputs = outputs.into_iter().take(service.outputs());
     let mut next_output = |random: &mut Random| fillers(random, outputs.next().unwrap_or(0));
     let lent = Memory {
-        words: words.into(),
-        plan: plan.into(),
-        state: fillers(random, state_length).into(),
-        first: next_output(random).into(),
-        second: next_output(random).into(),
-        mask: wide_fillers(random, mask_length).into(),
-        out: out.into(),
+        words: Lent::of(words),
+        plan: Lent::of(plan),
+        state: Lent::of(fillers(random, state_length)),
+        first: Lent::of(next_output(random)),
+        second: Lent::of(next_output(random)),
+        mask: Lent::of(wide_fillers(random, mask_length)),
+        out: Lent::of(out),
         ..Memory::default()
     };
     Case::new(service, lent)

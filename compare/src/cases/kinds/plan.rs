@@ -6,49 +6,32 @@ use crate::cases::{Answer, Case, Service, TAKING_PLAN};
 use crate::makers::{random_step, Random, Task, Walk};
 use crate::rules::{Cause, Refusal, MAX_ACTION_COST, MAX_STEPS};
 
-pub const KINDS: &[(&str, Make)] = &[
-    ("plan: valid", |random| {
-        Walk::of_any_length(random)?.accepted(random)
-    }),
-    ("plan: valid, 254 or 255 steps", |random| {
+pub const KINDS: &[(&str, Make)] = kinds! { random:
+    "plan: valid" => Walk::of_any_length(random)?.accepted(random),
+    "plan: valid, 254 or 255 steps" => {
         let length = MAX_STEPS - random.index(2);
         Walk::random(random, length)?.accepted(random)
-    }),
-    ("plan: valid, dearest", dearest),
-    ("plan: valid, empty", |random| {
-        Walk::random(random, 0)?.accepted(random)
-    }),
-    ("plan: empty, goal unmet", |random| {
-        Walk::random(random, 0)?.refused(random, Walk::spoil_goal)
-    }),
-    ("plan: goal unmet", |random| {
-        Walk::of_any_length(random)?.refused(random, Walk::spoil_goal)
-    }),
-    ("plan: goal of an earlier state", earlier_goal),
-    ("plan: failing step", |random| {
-        let (walk, step) = walk_with_step(random)?;
-        walk.refused(random, |walk, random| walk.spoil_step(random, step))
-    }),
-    ("plan: two failing steps, goal unmet", two_failing_steps),
-    ("plan: unknown action", |random| {
-        let (walk, step) = walk_with_step(random)?;
-        let put = |walk: &mut Walk, random: &mut _| Some(walk.put_unknown_action(random, step));
-        walk.refused(random, put)
-    }),
-    ("plan: two unknown actions", two_unknown_actions),
-    ("plan: failing step, unknown action", failing_and_unknown),
-    ("plan: over 255 steps", |random| {
-        walk_too_long(random)?.refused(random, |_, _| Some(TOO_LONG))
-    }),
-    ("plan: over 255 steps, unknown action", |random| {
+    },
+    "plan: valid, dearest" => dearest(random),
+    "plan: valid, empty" => Walk::random(random, 0)?.accepted(random),
+    "plan: empty, goal unmet" => Walk::random(random, 0)?.refused(random, Walk::spoil_goal),
+    "plan: goal unmet" => Walk::of_any_length(random)?.refused(random, Walk::spoil_goal),
+    "plan: goal of an earlier state" => earlier_goal(random),
+    "plan: failing step" => spoilt(random, Walk::spoil_step),
+    "plan: two failing steps, goal unmet" => spoilt(random, put_two_failing_steps),
+    "plan: unknown action" => spoilt(random, Walk::put_unknown_action),
+    "plan: two unknown actions" => spoilt(random, put_two_unknown_actions),
+    "plan: failing step, unknown action" => spoilt(random, put_failing_and_unknown),
+    "plan: over 255 steps" => walk_too_long(random)?.refused(random, |_, _| Some(TOO_LONG)),
+    "plan: over 255 steps, unknown action" => {
         walk_too_long(random)?.refused(random, |walk, random| {
             let step = walk.random_step(random)?;
-            walk.put_unknown_action(random, step);
+            walk.put_unknown_action(random, step)?;
             Some(TOO_LONG)
         })
-    }),
-    ("plan: random actions", random_actions),
-];
+    },
+    "plan: random actions" => random_actions(random),
+};
 
 const TOO_LONG: Refusal = Refusal {
     cause: Cause::PlanLength,
@@ -93,45 +76,38 @@ fn earlier_goal(random: &mut Random) -> Option<Case> {
     Some(plan_case(random, service, &walk.task, &walk.plan))
 }
 
-/// A walk of at least one step, and the index of one of them.
-fn walk_with_step(random: &mut Random) -> Option<(Walk, usize)> {
+/// Spoils a walk at one of its steps, which it tells by its index.
+fn spoilt(
+    random: &mut Random,
+    spoil: fn(&mut Walk, &mut Random, usize) -> Option<Refusal>,
+) -> Option<Case> {
     let walk = Walk::of_any_length(random)?;
     let step = walk.random_step(random)?;
-    Some((walk, step))
+    walk.refused(random, |walk, random| spoil(walk, random, step))
 }
 
-fn two_failing_steps(random: &mut Random) -> Option<Case> {
-    let (walk, first) = walk_with_step(random)?;
-    walk.refused(random, |walk, random| {
-        let second = walk.random_step(random)?;
-        walk.spoil_goal(random)?;
-        let refusal = walk.spoil_step(random, first)?;
-        if second > first {
-            walk.spoil_step(random, second)?;
-        }
-        Some(refusal)
-    })
+fn put_two_failing_steps(walk: &mut Walk, random: &mut Random, first: usize) -> Option<Refusal> {
+    let second = walk.random_step(random)?;
+    walk.spoil_goal(random)?;
+    let refusal = walk.spoil_step(random, first)?;
+    if second > first {
+        walk.spoil_step(random, second)?;
+    }
+    Some(refusal)
 }
 
-fn two_unknown_actions(random: &mut Random) -> Option<Case> {
-    let (walk, first) = walk_with_step(random)?;
-    walk.refused(random, |walk, random| {
-        let second = walk.random_step(random)?;
-        for step in [first, second] {
-            walk.put_unknown_action(random, step);
-        }
-        Some(Cause::UnknownAction.at(first.min(second) + 1))
-    })
+fn put_two_unknown_actions(walk: &mut Walk, random: &mut Random, step: usize) -> Option<Refusal> {
+    let other = walk.random_step(random)?;
+    walk.put_unknown_action(random, step);
+    walk.put_unknown_action(random, other);
+    Some(Cause::UnknownAction.at(step.min(other) + 1))
 }
 
 /// Actions are known or not before any step is done.
-fn failing_and_unknown(random: &mut Random) -> Option<Case> {
-    let (walk, unknown) = walk_with_step(random)?;
-    walk.refused(random, |walk, random| {
-        let failing = walk.random_step(random)?;
-        walk.spoil_step(random, failing)?;
-        Some(walk.put_unknown_action(random, unknown))
-    })
+fn put_failing_and_unknown(walk: &mut Walk, random: &mut Random, step: usize) -> Option<Refusal> {
+    let failing = walk.random_step(random)?;
+    walk.spoil_step(random, failing)?;
+    walk.put_unknown_action(random, step)
 }
 
 fn walk_too_long(random: &mut Random) -> Option<Walk> {

@@ -8,66 +8,41 @@ use crate::makers::cycles::{self, Shape};
 use crate::makers::{Random, Walk};
 use crate::rules::{mask_of, Cause, Refusal, MAX_STEPS, MAX_UNMARKED};
 
-pub const KINDS: &[(&str, Make)] = &[
-    ("reduction: cycles", |random| {
-        of_shape(random, cycles::USUAL, SHORT)
-    }),
-    ("reduction: cycles, many steps", |random| {
-        of_shape(random, cycles::USUAL, QUICK_STEPS)
-    }),
-    ("reduction: repeated actions", |random| {
-        of_shape(random, cycles::FEW_ACTIONS, SHORT)
-    }),
-    ("reduction: free actions", |random| {
-        of_shape(random, cycles::FREE_ACTIONS, SHORT)
-    }),
-    ("reduction: tied costs", |random| {
-        of_shape(random, cycles::TIED_COSTS, SHORT)
-    }),
-    ("reduction: goal held at the start", of_goal_at_start),
-    ("reduction: several writers of a fact", |random| {
-        of_shape(random, cycles::MANY_WRITERS, SHORT)
-    }),
-    ("reduction: 0 or 1 steps", |random| {
-        of_shape(random, cycles::USUAL, 1)
-    }),
-    ("reduction: steps beside mask words", of_edge_length),
-    ("reduction: task of any shape", |random| {
+pub const KINDS: &[(&str, Make)] = kinds! { random:
+    "reduction: cycles" => of_shape(random, cycles::USUAL, SHORT),
+    "reduction: cycles, many steps" => of_shape(random, cycles::USUAL, QUICK_STEPS),
+    "reduction: repeated actions" => of_shape(random, cycles::FEW_ACTIONS, SHORT),
+    "reduction: free actions" => of_shape(random, cycles::FREE_ACTIONS, SHORT),
+    "reduction: tied costs" => of_shape(random, cycles::TIED_COSTS, SHORT),
+    "reduction: goal held at the start" => of_goal_at_start(random),
+    "reduction: several writers of a fact" => of_shape(random, cycles::MANY_WRITERS, SHORT),
+    "reduction: 0 or 1 steps" => of_shape(random, cycles::USUAL, 1),
+    "reduction: steps beside mask words" => of_edge_length(random),
+    "reduction: task of any shape" => {
         let walk = Walk::of_any_length(random)?;
         Some(case_of(random, &walk))
-    }),
-    ("reduction: needed steps and lamps", |random| {
-        let needed = random.size(0..=SHORT);
-        let lamps = random.size(0..=SHORT);
+    },
+    "reduction: needed steps and lamps" => {
+        let [needed, lamps] = [(); 2].map(|_| random.size(0..=SHORT));
         answered::with_lamps(random, needed, lamps).case(random)
-    }),
-    ("reduction: needed steps, few lamps", |random| {
+    },
+    "reduction: needed steps, few lamps" => {
         let lamps = random.size(0..=3);
         let steps = random.pick(&EDGE_LENGTHS).min(MAX_STEPS);
         answered::with_lamps(random, steps - lamps, lamps).case(random)
+    },
+    "reduction: ways to one goal" => answered::with_ways(random).case(random),
+    "reduction: lifts, drains and drops" => answered::with_gates(random).case(random),
+    "reduction: output short" => with_short_output(random, |walk, _| short_output(walk)),
+    "reduction: output short, plan not valid" => with_short_output(random, |walk, random| {
+        walk.spoil(random)?;
+        short_output(walk)
     }),
-    ("reduction: ways to one goal", |random| {
-        answered::with_ways(random).case(random)
+    "reduction: output short, unknown action" => with_short_output(random, |walk, random| {
+        let step = walk.random_step(random)?;
+        walk.put_unknown_action(random, step)
     }),
-    ("reduction: lifts, drains and drops", |random| {
-        answered::with_gates(random).case(random)
-    }),
-    ("reduction: output short", |random| {
-        with_short_output(random, |walk, _| Some(short_output(walk)))
-    }),
-    ("reduction: output short, plan not valid", |random| {
-        with_short_output(random, |walk, random| {
-            walk.spoil(random)?;
-            Some(short_output(walk))
-        })
-    }),
-    ("reduction: output short, unknown action", |random| {
-        with_short_output(random, |walk, random| {
-            let step = walk.random_step(random)?;
-            Some(walk.put_unknown_action(random, step))
-        })
-    }),
-];
+};
 
 /// Numbers of steps at which a word of a mask ends, and beside them; the last one is too many.
 const EDGE_LENGTHS: [usize; 9] = [63, 64, 65, 127, 128, 129, 254, MAX_STEPS, MAX_STEPS + 1];
@@ -134,8 +109,8 @@ impl Answered {
     }
 }
 
-fn short_output(walk: &Walk) -> Refusal {
-    Cause::ShortOutput.at(walk.plan.len())
+fn short_output(walk: &Walk) -> Option<Refusal> {
+    Some(Cause::ShortOutput.at(walk.plan.len()))
 }
 
 /// One output is shorter than the plan or both are; what is kept may well fit.

@@ -7,21 +7,22 @@ use crate::makers::faults::{self, Put};
 use crate::makers::{Random, Sheet, Task};
 use crate::rules;
 
-pub const KINDS: &[(&str, Make)] = &[
-    ("sheet: accepted", |random| {
-        let words = Task::random(random).words();
-        Some(check_sheet(random, words).due(Answer::accepted(&[])))
-    }),
-    ("sheet: accepted, 8,190 to 8,192 words", |random| {
-        let words = Task::filling(random).words();
-        Some(check_sheet(random, words).due(Answer::accepted(&[])))
-    }),
-    ("sheet: two faults", with_two_faults),
-    ("sheet: two faults of near rows", with_two_near_faults),
-    ("sheet: words overwritten", overwritten),
-    ("sheet: border of preconditions moved", with_moved_border),
-    ("sheet: noise", noise),
-];
+pub const KINDS: &[(&str, Make)] = kinds! { random:
+    "sheet: accepted" => accepted(Task::random(random), random),
+    "sheet: accepted, 8,190 to 8,192 words" => accepted(Task::filling(random), random),
+    "sheet: two faults" => {
+        let faults = [(); 2].map(|_| random.index(faults::all().len()));
+        with_faults(random, faults)
+    },
+    "sheet: two faults of near rows" => with_two_near_faults(random),
+    "sheet: words overwritten" => overwritten(random),
+    "sheet: border of preconditions moved" => with_moved_border(random),
+    "sheet: noise" => noise(random),
+};
+
+fn accepted(task: Task, random: &mut Random) -> Option<Case> {
+    Some(check_sheet(random, task.words()).due(Answer::accepted(&[])))
+}
 
 /// Full sheets too: at their ends a fault has the least room.
 fn random_task(random: &mut Random) -> Task {
@@ -39,13 +40,6 @@ pub fn with_fault(random: &mut Random, put: Put) -> Option<Case> {
     Some(on_some_service(random, &task, sheet.words).refused(refusal))
 }
 
-/// Two causes at once show whether the checks stand in their order.
-fn with_two_faults(random: &mut Random) -> Option<Case> {
-    let count = faults::all().len();
-    let faults = [(); 2].map(|_| random.index(count));
-    with_faults(random, faults)
-}
-
 /// The faults stand in the order of the table: near ones are of one row or of rows that follow each
 /// other.
 fn with_two_near_faults(random: &mut Random) -> Option<Case> {
@@ -57,6 +51,7 @@ fn with_two_near_faults(random: &mut Random) -> Option<Case> {
     with_faults(random, faults)
 }
 
+/// Two causes at once show whether the checks stand in their order.
 fn with_faults(random: &mut Random, faults: [usize; 2]) -> Option<Case> {
     let task = random_task(random);
     let mut sheet = Sheet::of(&task);

@@ -5,29 +5,29 @@ use crate::cases::{Answer, Case};
 use crate::makers::{set, unknown_action, Random, Task};
 use crate::rules::{self, Cause, State};
 
-pub const KINDS: &[(&str, Make)] = &[
-    ("step: done", |random| {
+pub const KINDS: &[(&str, Make)] = kinds! { random:
+    "step: done" => {
         let mut setting = Setting::random(random)?;
         setting.make_applicable();
         let lent = setting.state;
         Some(setting.done(random, &lent))
-    }),
-    ("step: done, short or long state", done_in_any_length),
-    ("step: one precondition off", one_precondition_off),
-    ("step: unknown action", |random| {
+    },
+    "step: done, short or long state" => done_in_any_length(random),
+    "step: one precondition off" => one_precondition_off(random),
+    "step: unknown action" => {
         let task = Task::random(random);
         let state = random_state(random, &task);
         let action = unknown_action(random, &task);
         let case = step(random, task.words(), &state, action);
         Some(case.refused(Cause::UnknownAction.at(1)))
-    }),
-    ("step: random state", |random| {
+    },
+    "step: random state" => {
         let setting = Setting::random(random)?;
         let length = random_length(random, rules::MAX_VARIABLES);
         let lent = setting.lent(random, length);
         Some(setting.case(random, &lent))
-    }),
-];
+    },
+};
 
 /// A task, the index of one of its actions, and a state for it.
 struct Setting {

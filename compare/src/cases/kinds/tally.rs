@@ -1,28 +1,28 @@
 //! Tallies of any words, most of them near the limits, and the kept parts that they choose.
 
 use super::{fillers, random_out, Make};
-use crate::cases::{Case, Memory, Service};
+use crate::cases::{Case, Lent, Memory, Service};
 use crate::makers::Random;
 use crate::rules;
 
-pub const KINDS: &[(&str, Make)] = &[
-    ("tally: any words", |random| {
+pub const KINDS: &[(&str, Make)] = kinds! { random:
+    "tally: any words" => {
         let tally = random_tally(random);
         let any = random.word();
         let within_limit = random.within(0..=rules::MAX_ACTION_COST as u32);
         let cost = random.pick(&[any, within_limit]);
         add(random, tally, cost)
-    }),
-    ("tally: sum near a limit", near_a_limit),
-    ("tally: comparison", |random| {
+    },
+    "tally: sum near a limit" => near_a_limit(random),
+    "tally: comparison" => {
         let numbers = near_each_other(random);
         let service = Service::TallyCompare;
         Some(Case::with_numbers(service, numbers, Memory::default()))
-    }),
-];
+    },
+};
 
-pub const PART_KINDS: &[(&str, Make)] = &[
-    ("part: tallies of the outputs", |random| {
+pub const PART_KINDS: &[(&str, Make)] = kinds! { random:
+    "part: tallies of the outputs" => {
         let outputs = random_outputs(random);
         let [[cost, steps], [second_cost, second_steps]] = [0, 1].map(|index| {
             let cost = random.within(0..=2);
@@ -30,17 +30,17 @@ pub const PART_KINDS: &[(&str, Make)] = &[
         });
         let numbers = [cost, steps, second_cost, second_steps];
         part_case(random, outputs, numbers)
-    }),
-    ("part: any tallies", |random| {
+    },
+    "part: any tallies" => {
         let outputs = random_outputs(random);
         let numbers = near_each_other(random);
         part_case(random, outputs, numbers)
-    }),
-];
+    },
+};
 
 fn add(random: &mut Random, [cost, steps]: [u32; 2], more: u32) -> Option<Case> {
     let lent = Memory {
-        out: random_out(random, Service::TallyAdd).into(),
+        out: Lent::of(random_out(random, Service::TallyAdd)),
         ..Memory::default()
     };
     let numbers = [cost, steps, more, 0];
@@ -108,12 +108,12 @@ fn steps_for(random: &mut Random, output: &[u32]) -> u32 {
 }
 
 fn part_case(random: &mut Random, outputs: [Vec<u32>; 2], numbers: [u32; 4]) -> Option<Case> {
-    let [first, second] = outputs.map(Into::into);
+    let [first, second] = outputs.map(Lent::of);
     let length = random.size(0..=LONGEST_OUTPUT + 1);
     let lent = Memory {
         first,
         second,
-        part: fillers(random, length).into(),
+        part: Lent::of(fillers(random, length)),
         ..Memory::default()
     };
     Some(Case::with_numbers(Service::KeptPart, numbers, lent))

@@ -5,7 +5,7 @@ mod sheets;
 
 pub use sheets::{with_lamp_cost, SHEET_P};
 
-use super::{Answer, Case, Memory, Service, TAKING_PLAN};
+use super::{Answer, Case, Lent, Memory, Service, TAKING_PLAN};
 use crate::rules::{Cause, Kept, Mask, MAX_VARIABLES};
 use sheets::{DEAREST, GATE_ALONE, LAMP, TWO_WAYS, U_AND_V};
 
@@ -40,13 +40,13 @@ fn case(service: Service, words: &[u32], plan: &[u32], outputs: [usize; 2]) -> C
         _ => 0,
     };
     let lent = Memory {
-        words: words.into(),
-        plan: plan.into(),
-        state: vec![OTHER_WORD; values].into(),
-        first: first.into(),
-        second: second.into(),
-        mask: vec![u64::MAX; service.mask_words()].into(),
-        out: vec![u64::MAX; service.out().len()].into(),
+        words: Lent::of(words),
+        plan: Lent::of(plan),
+        state: Lent::of(vec![OTHER_WORD; values]),
+        first: Lent::of(first),
+        second: Lent::of(second),
+        mask: Lent::of(vec![u64::MAX; service.mask_words()]),
+        out: Lent::of(vec![u64::MAX; service.out().len()]),
         ..Memory::default()
     };
     Case::new(service, lent)
@@ -112,7 +112,7 @@ fn limits() -> Vec<Worked> {
 fn steps() -> Vec<Worked> {
     let step = |values, action| {
         let Case { lent, .. } = case(Service::Step, &SHEET_P, &[], [0; 2]);
-        let state = state(values).into();
+        let state = Lent::of(state(values));
         let lent = Memory { state, ..lent };
         Case::with_numbers(Service::Step, [action, 0, 0, 0], lent)
     };
@@ -282,9 +282,9 @@ fn kept_parts() -> Vec<Worked> {
     let [first, second] = [vec![1, 5, 6], vec![0, 2]];
     let shown = |numbers, part: &[u32]| {
         let lent = Memory {
-            first: first.clone().into(),
-            second: second.clone().into(),
-            part: vec![OTHER_WORD; first.len()].into(),
+            first: Lent::of(first.clone()),
+            second: Lent::of(second.clone()),
+            part: Lent::of(vec![OTHER_WORD; first.len()]),
             ..Memory::default()
         };
         Case::with_numbers(Service::KeptPart, numbers, lent).due(Answer {
