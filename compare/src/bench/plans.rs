@@ -1,9 +1,9 @@
 //! The plans that are measured.
 
-use crate::cases::{Case, Lent, Memory, Service};
+use crate::cases::{Case, Service};
 use crate::makers::families::{Family, Made, Placement, Shape};
 use crate::makers::{action, fact, Action, Random, Task, Walk};
-use crate::rules::{MASK_WORDS, MAX_STEPS, MAX_UNMARKED, MAX_VARIABLES};
+use crate::rules::{MAX_STEPS, MAX_UNMARKED, MAX_VARIABLES};
 use std::fmt::Debug;
 
 pub const LENGTHS: [usize; 3] = [60, 128, MAX_STEPS];
@@ -72,16 +72,7 @@ fn hardest(family: Family) -> u64 {
 }
 
 pub fn case_of(service: Service, task: &Task, plan: &[u32]) -> Case {
-    let lent = Memory {
-        words: Lent::of(task.words()),
-        plan: Lent::of(plan),
-        state: Lent::of(vec![0; MAX_VARIABLES]),
-        first: Lent::of(vec![0; plan.len()]),
-        mask: Lent::of(vec![0; MASK_WORDS]),
-        out: Lent::of(vec![0; service.out().len()]),
-        ..Memory::default()
-    };
-    Case::new(service, lent)
+    Case::fitting(service, &task.words(), plan, [plan.len(), 0])
 }
 
 /// A walk as long as a plan may be, among gates that are lifted and dropped again and basins that

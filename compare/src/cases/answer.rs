@@ -1,7 +1,7 @@
 //! What a service answers, told in one form by the rules and by the makers of cases.
 
 use super::Service;
-use crate::rules::{Kept, Mask, Refusal, MAX_VARIABLES};
+use crate::rules::{Kept, Mask, Refusal};
 
 /// The words that are written to the front of each lent slice, and what is returned by value.
 #[derive(Default, PartialEq, Eq)]
@@ -28,17 +28,35 @@ impl Answer {
     /// Counts and masks are zero, outputs stay, one step leaves the state, and a plan's end state is
     /// zero.
     pub fn refused(service: Service, refusal: Refusal) -> Self {
+        let lengths = service.lengths([0; 2]);
         let mut out = vec![refusal.cause as u64, refusal.place as u64];
-        out.resize(service.out().len(), 0);
-        let values = match service {
-            Service::CheckPlan => MAX_VARIABLES,
-            _ => 0,
-        };
+        out.resize(lengths.out, 0);
         Answer {
-            state: vec![0; values],
-            mask: vec![0; service.mask_words()],
+            state: vec![0; lengths.state],
+            mask: vec![0; lengths.mask],
             out,
             ..Answer::default()
+        }
+    }
+
+    pub fn telling(out: [u32; 2]) -> Self {
+        Answer {
+            out: out.map(u64::from).to_vec(),
+            ..Answer::default()
+        }
+    }
+
+    pub fn returning(returned: u64) -> Self {
+        Answer {
+            returned,
+            ..Answer::default()
+        }
+    }
+
+    pub fn showing(part: &[u32]) -> Self {
+        Answer {
+            part: part.to_vec(),
+            ..Answer::returning(part.len() as u64)
         }
     }
 

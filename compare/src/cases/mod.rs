@@ -9,7 +9,7 @@ pub mod worked;
 
 pub use answer::Answer;
 pub use memory::{Lent, Memory};
-pub use service::{Service, LEFT, REDUCING, SERVICES, TAKEN, TAKING_PLAN};
+pub use service::{Lengths, Service, LEFT, REDUCING, SERVICES, TAKEN, TAKING_PLAN};
 
 use crate::rules::Refusal;
 
@@ -28,15 +28,66 @@ pub struct Case {
 }
 
 impl Case {
-    /// A case of a service that takes slices alone.
-    pub fn new(service: Service, lent: Memory) -> Self {
-        Case::with_numbers(service, [0; 4], lent)
+    /// A case with these lengths of what the service writes to, full of words by the filler.
+    pub fn filled(
+        service: Service,
+        words: &[u32],
+        plan: &[u32],
+        lengths: Lengths,
+        mut filler: impl FnMut() -> u64,
+    ) -> Self {
+        let mut wide = |length| (0..length).map(|_| filler()).collect::<Vec<u64>>();
+        let out = Lent::of(wide(lengths.out));
+        let mut narrow = |length| {
+            wide(length)
+                .iter()
+                .map(|&word| word as u32)
+                .collect::<Vec<u32>>()
+        };
+        let [state, first, second] = [lengths.state, lengths.outputs[0], lengths.outputs[1]]
+            .map(|length| Lent::of(narrow(length)));
+        let lent = Memory {
+            words: Lent::of(words),
+            plan: Lent::of(plan),
+            state,
+            first,
+            second,
+            mask: Lent::of(wide(lengths.mask)),
+            out,
+            ..Memory::default()
+        };
+        let numbers = [0; 4];
+        Case {
+            call: Call { service, numbers },
+            lent,
+            due: None,
+        }
     }
 
-    pub fn with_numbers(service: Service, numbers: [u32; 4], lent: Memory) -> Self {
-        let call = Call { service, numbers };
-        let due = None;
-        Case { call, lent, due }
+    /// The lengths are those that the service needs, and the words are such as no answer has.
+    pub fn fitting(service: Service, words: &[u32], plan: &[u32], outputs: [usize; 2]) -> Self {
+        let lengths = service.lengths(outputs);
+        Case::filled(service, words, plan, lengths, || u64::MAX)
+    }
+
+    /// A case of the kept part of these outputs.
+    pub fn of_parts(outputs: [Vec<u32>; 2], part: Vec<u32>) -> Self {
+        let mut case = Case::fitting(Service::KeptPart, &[], &[], [0; 2]);
+        let [first, second] = outputs;
+        case.lent.first = Lent::of(first);
+        case.lent.second = Lent::of(second);
+        case.lent.part = Lent::of(part);
+        case
+    }
+
+    pub fn with_numbers(mut self, numbers: [u32; 4]) -> Self {
+        self.call.numbers = numbers;
+        self
+    }
+
+    pub fn with_state(mut self, state: &[u32]) -> Self {
+        self.lent.state = Lent::of(state);
+        self
     }
 
     pub fn due(self, answer: Answer) -> Self {

@@ -1,6 +1,6 @@
 //! The services under test: what each one takes and writes, and the answers that a run must show.
 
-use crate::rules::MASK_WORDS;
+use crate::rules::{MASK_WORDS, MAX_VARIABLES};
 use Service::*;
 
 /// Declares the services, each with its name.
@@ -41,6 +41,14 @@ services! {
 pub const REDUCING: [Service; 4] = [Eliminate, Greedy, Exact, Cheaper];
 pub const TAKING_PLAN: [Service; 6] = [CheckPlan, Marks, Eliminate, Greedy, Exact, Cheaper];
 
+/// The lengths of the slices that a service writes to; that of one step's state is left out.
+pub struct Lengths {
+    pub state: usize,
+    pub outputs: [usize; 2],
+    pub mask: usize,
+    pub out: usize,
+}
+
 /// A tally that took the step, and one that came back unchanged.
 pub const TAKEN: u64 = 0;
 pub const LEFT: u64 = 1;
@@ -75,19 +83,24 @@ impl Service {
         TAKING_PLAN.contains(&self)
     }
 
-    pub fn mask_words(self) -> usize {
-        match self {
-            Marks | Eliminate | Greedy | Exact => MASK_WORDS,
-            _ => 0,
-        }
-    }
-
-    /// The outputs for kept actions that it takes.
-    pub fn outputs(self) -> usize {
-        match self {
-            Eliminate | Greedy | Exact => 1,
-            Cheaper => 2,
-            _ => 0,
+    /// What the service needs, with outputs of these lengths where it takes them.
+    pub fn lengths(self, outputs: [usize; 2]) -> Lengths {
+        let [first, second] = outputs;
+        Lengths {
+            state: match self {
+                CheckPlan => MAX_VARIABLES,
+                _ => 0,
+            },
+            outputs: match self {
+                Eliminate | Greedy | Exact => [first, 0],
+                Cheaper => [first, second],
+                _ => [0, 0],
+            },
+            mask: match self {
+                Marks | Eliminate | Greedy | Exact => MASK_WORDS,
+                _ => 0,
+            },
+            out: self.out().len(),
         }
     }
 

@@ -49,25 +49,18 @@ pub fn exact_by(lent: &Memory, way: Way) -> Answer {
 /// What the services without refusals answer.
 fn of_tallies(call: Call, lent: &Memory) -> Answer {
     let [first, second] = tallies(call);
-    let mut answer = Answer::default();
     match call.service {
         Service::TallyAdd => {
-            let after = first.add(call.numbers[2]);
-            answer.out = vec![u64::from(after.cost), u64::from(after.steps)];
+            let Tally { cost, steps } = first.add(call.numbers[2]);
+            Answer::telling([cost, steps])
         }
-        Service::TallyCompare => {
-            answer.returned = match first.cmp(&second) {
-                Ordering::Less => 0,
-                Ordering::Equal => 1,
-                Ordering::Greater => 2,
-            }
-        }
-        _ => {
-            answer.part = kept_part(call, lent).1.to_vec();
-            answer.returned = answer.part.len() as u64;
-        }
+        Service::TallyCompare => Answer::returning(match first.cmp(&second) {
+            Ordering::Less => 0,
+            Ordering::Equal => 1,
+            Ordering::Greater => 2,
+        }),
+        _ => Answer::showing(kept_part(call, lent).1),
     }
-    answer
 }
 
 fn tallies(call: Call) -> [Tally; 2] {

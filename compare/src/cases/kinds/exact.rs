@@ -1,7 +1,7 @@
 //! The exact reduction: on hard plans at many lengths, at the border of 20 unmarked steps, and on
 //! plans of which all or nothing is struck.
 
-use super::{kept, plan_case, plan_case_with, Make};
+use super::{case_with, kept, plan_case, Make};
 use crate::cases::{Answer, Case, Service};
 use crate::makers::families::{Family, Made, Shape, FAMILIES, PLACEMENTS};
 use crate::makers::{action, cycles, fact, Action, Random, Task, Walk};
@@ -159,7 +159,7 @@ fn output_short(random: &mut Random) -> Option<Case> {
     let shorter = random.size(0..=steps - 1);
     let outputs = [random.pick(&[steps - 1, shorter]), 0];
     let words = made.task.words();
-    let case = plan_case_with(random, Service::Exact, words, &made.plan, outputs);
+    let case = case_with(random, Service::Exact, &words, &made.plan, outputs);
     Some(case.refused(Cause::ShortOutput.at(steps)))
 }
 

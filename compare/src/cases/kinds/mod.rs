@@ -14,9 +14,9 @@ mod sheet;
 mod step;
 mod tally;
 
-use super::{Case, Lent, Memory, Service, TAKING_PLAN};
+use super::{Case, Service, TAKING_PLAN};
 use crate::makers::{faults, Random, Task};
-use crate::rules::{Kept, MAX_VARIABLES};
+use crate::rules::Kept;
 
 /// Makes a case, unless the random task has no spot for it.
 type Make = fn(&mut Random) -> Option<Case>;
@@ -59,23 +59,13 @@ pub fn numbered(kinds: &[Kind], seed: u64, number: u64) -> (&'static str, Case) 
     (kind.name, case)
 }
 
-fn check_sheet(random: &mut Random, words: Vec<u32>) -> Case {
-    let lent = Memory {
-        words: Lent::of(words),
-        out: Lent::of(random_out(random, Service::CheckSheet)),
-        ..Memory::default()
-    };
-    Case::new(Service::CheckSheet, lent)
+fn check_sheet(random: &mut Random, words: &[u32]) -> Case {
+    case_with(random, Service::CheckSheet, words, &[], [0; 2])
 }
 
-fn step(random: &mut Random, words: Vec<u32>, state: &[u32], action: u32) -> Case {
-    let lent = Memory {
-        words: Lent::of(words),
-        state: Lent::of(state),
-        out: Lent::of(random_out(random, Service::Step)),
-        ..Memory::default()
-    };
-    Case::with_numbers(Service::Step, [action, 0, 0, 0], lent)
+fn step(random: &mut Random, words: &[u32], state: &[u32], action: u32) -> Case {
+    let case = case_with(random, Service::Step, words, &[], [0; 2]);
+    case.with_state(state).with_numbers([action, 0, 0, 0])
 }
 
 /// A case of a service that takes a plan, with outputs as long as the plan, or longer.
@@ -86,39 +76,25 @@ fn plan_case(random: &mut Random, service: Service, task: &Task, plan: &[u32]) -
         1 => steps + 1,
         _ => steps,
     });
-    plan_case_with(random, service, task.words(), plan, outputs)
+    case_with(random, service, &task.words(), plan, outputs)
 }
 
-/// The same with outputs of these lengths; those that the service doesn't have are left out.
-fn plan_case_with(
+/// The same with outputs of these lengths, where the service has them; what else it writes to has
+/// the length that it needs, less or more.
+fn case_with(
     random: &mut Random,
     service: Service,
-    words: Vec<u32>,
+    words: &[u32],
     plan: &[u32],
     outputs: [usize; 2],
 ) -> Case {
-    let state_length = match service {
-        Service::CheckPlan => random_length(random, MAX_VARIABLES),
-        _ => 0,
-    };
-    let mask_length = match service.mask_words() {
-        0 => 0,
-        needed => random_length(random, needed),
-    };
-    let out = random_out(random, service);
-    let mut outputs = outputs.into_iter().take(service.outputs());
-    let mut next_output = |random: &mut Random| fillers(random, outputs.next().unwrap_or(0));
-    let lent = Memory {
-        words: Lent::of(words),
-        plan: Lent::of(plan),
-        state: Lent::of(fillers(random, state_length)),
-        first: Lent::of(next_output(random)),
-        second: Lent::of(next_output(random)),
-        mask: Lent::of(wide_fillers(random, mask_length)),
-        out: Lent::of(out),
-        ..Memory::default()
-    };
-    Case::new(service, lent)
+    let mut lengths = service.lengths(outputs);
+    for length in [&mut lengths.state, &mut lengths.mask, &mut lengths.out] {
+        if *length > 0 {
+            *length = random_length(random, *length);
+        }
+    }
+    Case::filled(service, words, plan, lengths, || random.filler())
 }
 
 /// The steps of a plan that greedy elimination doesn't take long over.
@@ -142,15 +118,6 @@ fn kept(task: &Task, plan: &[u32], steps: &[usize]) -> Kept {
 
 fn fillers(random: &mut Random, length: usize) -> Vec<u32> {
     (0..length).map(|_| random.filler() as u32).collect()
-}
-
-fn wide_fillers(random: &mut Random, length: usize) -> Vec<u64> {
-    (0..length).map(|_| random.filler()).collect()
-}
-
-fn random_out(random: &mut Random, service: Service) -> Vec<u64> {
-    let length = random_length(random, service.out().len());
-    wide_fillers(random, length)
 }
 
 /// The length of a buffer: what the service needs, less or more.

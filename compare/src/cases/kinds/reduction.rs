@@ -1,7 +1,7 @@
 //! Marks, the three ways of striking and the cheaper of both eliminations, on plans that hold much
 //! to strike and on plans that hold little.
 
-use super::{kept, plan_case, plan_case_with, service_for_valid, Make, QUICK_STEPS};
+use super::{case_with, kept, plan_case, service_for_valid, Make, QUICK_STEPS};
 use crate::cases::{Answer, Case, Service, REDUCING};
 use crate::makers::answered::{self, Answered};
 use crate::makers::cycles::{self, Shape};
@@ -123,8 +123,9 @@ fn with_short_output(
     let refusal = spoil(&mut walk, random)?;
     let service = random.pick(&REDUCING);
     let mut outputs = [(); 2].map(|_| random.size(0..=2 * steps));
-    let short = random.index(service.outputs());
+    let taken = if service == Service::Cheaper { 2 } else { 1 };
+    let short = random.index(taken);
     outputs[short] = random.pick(&[steps - 1, outputs[short] % steps]);
-    let case = plan_case_with(random, service, walk.task.words(), &walk.plan, outputs);
+    let case = case_with(random, service, &walk.task.words(), &walk.plan, outputs);
     Some(case.refused(refusal))
 }

@@ -1,7 +1,7 @@
 //! Accepted and damaged sheets, handed to each service that takes a sheet.
 
 use super::step::random_state;
-use super::{check_sheet, plan_case_with, step, Make};
+use super::{case_with, check_sheet, step, Make};
 use crate::cases::{Answer, Case, TAKING_PLAN};
 use crate::makers::faults::{self, Put};
 use crate::makers::{Random, Sheet, Task};
@@ -21,7 +21,7 @@ pub const KINDS: &[(&str, Make)] = kinds! { random:
 };
 
 fn accepted(task: Task, random: &mut Random) -> Option<Case> {
-    Some(check_sheet(random, task.words()).due(Answer::accepted(&[])))
+    Some(check_sheet(random, &task.words()).due(Answer::accepted(&[])))
 }
 
 /// Full sheets too: at their ends a fault has the least room.
@@ -107,15 +107,15 @@ fn on_some_service(random: &mut Random, task: &Task, words: Vec<u32>) -> Case {
         0 => {
             let state = random_state(random, task);
             let action = action(random);
-            step(random, words, &state, action)
+            step(random, &words, &state, action)
         }
         1..=3 => {
             let steps = random.pick(&[0, 1, 2, 3, rules::MAX_STEPS + 1]);
             let plan: Vec<u32> = (0..steps).map(|_| action(random)).collect();
             let outputs = [(); 2].map(|_| random.size(0..=2 * steps));
             let service = random.pick(&TAKING_PLAN);
-            plan_case_with(random, service, words, &plan, outputs)
+            case_with(random, service, &words, &plan, outputs)
         }
-        _ => check_sheet(random, words),
+        _ => check_sheet(random, &words),
     }
 }

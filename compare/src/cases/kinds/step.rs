@@ -18,7 +18,7 @@ pub const KINDS: &[(&str, Make)] = kinds! { random:
         let task = Task::random(random);
         let state = random_state(random, &task);
         let action = unknown_action(random, &task);
-        let case = step(random, task.words(), &state, action);
+        let case = step(random, &task.words(), &state, action);
         Some(case.refused(Cause::UnknownAction.at(1)))
     },
     "step: random state" => {
@@ -64,7 +64,7 @@ impl Setting {
     }
 
     fn case(&self, random: &mut Random, lent: &[u32]) -> Case {
-        step(random, self.task.words(), lent, self.action as u32)
+        step(random, &self.task.words(), lent, self.action as u32)
     }
 
     fn done(mut self, random: &mut Random, lent: &[u32]) -> Case {

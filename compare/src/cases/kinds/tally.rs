@@ -1,7 +1,7 @@
 //! Tallies of any words, most of them near the limits, and the kept parts that they choose.
 
-use super::{fillers, random_out, Make};
-use crate::cases::{Case, Lent, Memory, Service};
+use super::{case_with, fillers, Make};
+use crate::cases::{Case, Service};
 use crate::makers::Random;
 use crate::rules;
 
@@ -16,8 +16,8 @@ pub const KINDS: &[(&str, Make)] = kinds! { random:
     "tally: sum near a limit" => near_a_limit(random),
     "tally: comparison" => {
         let numbers = near_each_other(random);
-        let service = Service::TallyCompare;
-        Some(Case::with_numbers(service, numbers, Memory::default()))
+        let case = Case::fitting(Service::TallyCompare, &[], &[], [0; 2]);
+        Some(case.with_numbers(numbers))
     },
 };
 
@@ -39,12 +39,8 @@ pub const PART_KINDS: &[(&str, Make)] = kinds! { random:
 };
 
 fn add(random: &mut Random, [cost, steps]: [u32; 2], more: u32) -> Option<Case> {
-    let lent = Memory {
-        out: Lent::of(random_out(random, Service::TallyAdd)),
-        ..Memory::default()
-    };
-    let numbers = [cost, steps, more, 0];
-    Some(Case::with_numbers(Service::TallyAdd, numbers, lent))
+    let case = case_with(random, Service::TallyAdd, &[], &[], [0; 2]);
+    Some(case.with_numbers([cost, steps, more, 0]))
 }
 
 /// The sum of the costs is the limit, 2^32, or a number beside them.
@@ -108,13 +104,7 @@ fn steps_for(random: &mut Random, output: &[u32]) -> u32 {
 }
 
 fn part_case(random: &mut Random, outputs: [Vec<u32>; 2], numbers: [u32; 4]) -> Option<Case> {
-    let [first, second] = outputs.map(Lent::of);
     let length = random.size(0..=LONGEST_OUTPUT + 1);
-    let lent = Memory {
-        first,
-        second,
-        part: Lent::of(fillers(random, length)),
-        ..Memory::default()
-    };
-    Some(Case::with_numbers(Service::KeptPart, numbers, lent))
+    let case = Case::of_parts(outputs, fillers(random, length));
+    Some(case.with_numbers(numbers))
 }

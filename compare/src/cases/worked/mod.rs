@@ -5,7 +5,7 @@ mod sheets;
 
 pub use sheets::{with_lamp_cost, SHEET_P};
 
-use super::{Answer, Case, Lent, Memory, Service, TAKING_PLAN};
+use super::{Answer, Case, Service, TAKING_PLAN};
 use crate::rules::{Cause, Kept, Mask, MAX_VARIABLES};
 use sheets::{DEAREST, GATE_ALONE, LAMP, TWO_WAYS, U_AND_V};
 
@@ -14,8 +14,6 @@ type Worked = (&'static str, Case);
 
 pub const LIST_1: [u32; 6] = [3, 0, 2, 0, 1, 2];
 const LIFT_DRAIN_DROP: [u32; 3] = [0, 1, 2];
-/// Stands in lent slices before the call.
-const OTHER_WORD: u32 = 77;
 
 pub fn cases() -> Vec<Worked> {
     let mut cases = valid_plans();
@@ -30,39 +28,14 @@ pub fn cases() -> Vec<Worked> {
     cases
 }
 
-/// The outputs that the service takes have these lengths. All that it writes to is full of other
-/// words, which no answer has.
-fn case(service: Service, words: &[u32], plan: &[u32], outputs: [usize; 2]) -> Case {
-    let taken = [service.outputs() > 0, service.outputs() > 1];
-    let [first, second] = [0, 1].map(|i| vec![OTHER_WORD; outputs[i] * usize::from(taken[i])]);
-    let values = match service {
-        Service::CheckPlan => MAX_VARIABLES,
-        _ => 0,
-    };
-    let lent = Memory {
-        words: Lent::of(words),
-        plan: Lent::of(plan),
-        state: Lent::of(vec![OTHER_WORD; values]),
-        first: Lent::of(first),
-        second: Lent::of(second),
-        mask: Lent::of(vec![u64::MAX; service.mask_words()]),
-        out: Lent::of(vec![u64::MAX; service.out().len()]),
-        ..Memory::default()
-    };
-    Case::new(service, lent)
-}
-
 fn check_sheet(words: &[u32]) -> Case {
-    case(Service::CheckSheet, words, &[], [0; 2])
-}
-
-fn check_plan(words: &[u32], plan: &[u32]) -> Case {
-    case(Service::CheckPlan, words, plan, [0; 2])
+    Case::fitting(Service::CheckSheet, words, &[], [0; 2])
 }
 
 fn valid(words: &[u32], plan: &[u32], cost: usize, end: &[u32]) -> Case {
     let answer = Answer::accepted(&[cost, plan.len()]);
-    check_plan(words, plan).due(answer.with_state(&state(end)))
+    let case = Case::fitting(Service::CheckPlan, words, plan, [0; 2]);
+    case.due(answer.with_state(&state(end)))
 }
 
 /// The first values of a state whose others are zero.
@@ -93,9 +66,9 @@ fn limits() -> Vec<Worked> {
     let dear = with_lamp_cost(1_000_000);
     let too_dear = with_lamp_cost(1_000_001);
     let refusal = Cause::Cost.at(3);
-    let dear_plan = case(Service::Exact, &dear, &LIFT_DRAIN_DROP, [3, 0]);
+    let dear_plan = Case::fitting(Service::Exact, &dear, &LIFT_DRAIN_DROP, [3, 0]);
     let all_three = kept(short(0b111), 12, &LIFT_DRAIN_DROP);
-    let too_dear_plan = |service| case(service, &too_dear, &[], [0; 2]).refused(refusal);
+    let too_dear_plan = |service| Case::fitting(service, &too_dear, &[], [0; 2]).refused(refusal);
     let longest = lamps_then_drain(255);
     vec![
         ("255 steps", valid(&SHEET_P, &longest, 264, &[0, 1, 1])),
@@ -111,10 +84,9 @@ fn limits() -> Vec<Worked> {
 /// The second state has values outside the domains.
 fn steps() -> Vec<Worked> {
     let step = |values, action| {
-        let Case { lent, .. } = case(Service::Step, &SHEET_P, &[], [0; 2]);
-        let state = Lent::of(state(values));
-        let lent = Memory { state, ..lent };
-        Case::with_numbers(Service::Step, [action, 0, 0, 0], lent)
+        let case = Case::fitting(Service::Step, &SHEET_P, &[], [0; 2]);
+        case.with_state(&state(values))
+            .with_numbers([action, 0, 0, 0])
     };
     let to = |values| Answer::accepted(&[]).with_state(&state(values));
     vec![
@@ -126,20 +98,14 @@ fn steps() -> Vec<Worked> {
 }
 
 fn tallies() -> Vec<Worked> {
-    let add = |[cost, steps]: [u32; 2], more, after: [u32; 2]| {
-        let Case { lent, .. } = case(Service::TallyAdd, &[], &[], [0; 2]);
-        let numbers = [cost, steps, more, 0];
-        Case::with_numbers(Service::TallyAdd, numbers, lent).due(Answer {
-            out: after.map(u64::from).to_vec(),
-            ..Answer::default()
-        })
+    let of = |service| Case::fitting(service, &[], &[], [0; 2]);
+    let add = |[cost, steps]: [u32; 2], more, after| {
+        let case = of(Service::TallyAdd).with_numbers([cost, steps, more, 0]);
+        case.due(Answer::telling(after))
     };
     let compare = |numbers, returned| {
-        let case = Case::with_numbers(Service::TallyCompare, numbers, Memory::default());
-        case.due(Answer {
-            returned,
-            ..Answer::default()
-        })
+        let case = of(Service::TallyCompare).with_numbers(numbers);
+        case.due(Answer::returning(returned))
     };
     let million = 1_000_000;
     let [below, full, past] = [254 * million, 255 * million, 255 * million + 1];
@@ -190,7 +156,12 @@ fn list(
     ];
     // The second output is longer than it has to be.
     let outputs = [plan.len(), plan.len() + 2];
-    let case = |(service, answer)| (name, case(service, words, plan, outputs).due(answer));
+    let case = |(service, answer)| {
+        (
+            name,
+            Case::fitting(service, words, plan, outputs).due(answer),
+        )
+    };
     answers.map(case).into()
 }
 
@@ -227,7 +198,7 @@ fn refusals() -> Vec<Worked> {
     let too_long = lamps_then_drain(256);
     let mut cases = Vec::new();
     for service in TAKING_PLAN {
-        let in_p = |plan: &[u32], outputs| case(service, &SHEET_P, plan, outputs);
+        let in_p = |plan: &[u32], outputs| Case::fitting(service, &SHEET_P, plan, outputs);
         let not_valid = |plan, place| in_p(plan, [2; 2]).refused(Cause::NotValid.at(place));
         let too_long = in_p(&too_long, [0; 2]).refused(Cause::PlanLength.at(255));
         cases.push(("list 4", not_valid(&[], 1)));
@@ -242,7 +213,7 @@ fn refusals() -> Vec<Worked> {
 fn short_outputs() -> Vec<Worked> {
     let short = |service, plan: &[u32], outputs| {
         let refusal = Cause::ShortOutput.at(plan.len());
-        case(service, &SHEET_P, plan, outputs).refused(refusal)
+        Case::fitting(service, &SHEET_P, plan, outputs).refused(refusal)
     };
     let unmarked_21 = short(Service::Exact, &lamps_then_drain(23), [22, 0]);
     let mut cases = vec![("short output, 21 unmarked", unmarked_21)];
@@ -265,7 +236,7 @@ fn short_outputs() -> Vec<Worked> {
 fn unmarked() -> Vec<Worked> {
     let behind_lamps = |steps| {
         let plan = lamps_then_drain(steps);
-        case(Service::Exact, &SHEET_P, &plan, [steps, 0])
+        Case::fitting(Service::Exact, &SHEET_P, &plan, [steps, 0])
     };
     let last_three = kept(short(0b111 << 19), 12, &LIFT_DRAIN_DROP);
     let refused = |steps| behind_lamps(steps).refused(Cause::Unmarked.at(steps - 2));
@@ -281,17 +252,9 @@ fn unmarked() -> Vec<Worked> {
 fn kept_parts() -> Vec<Worked> {
     let [first, second] = [vec![1, 5, 6], vec![0, 2]];
     let shown = |numbers, part: &[u32]| {
-        let lent = Memory {
-            first: Lent::of(first.clone()),
-            second: Lent::of(second.clone()),
-            part: Lent::of(vec![OTHER_WORD; first.len()]),
-            ..Memory::default()
-        };
-        Case::with_numbers(Service::KeptPart, numbers, lent).due(Answer {
-            part: part.to_vec(),
-            returned: part.len() as u64,
-            ..Answer::default()
-        })
+        let room = vec![u32::MAX; first.len()];
+        let case = Case::of_parts([first.clone(), second.clone()], room);
+        case.with_numbers(numbers).due(Answer::showing(part))
     };
     vec![
         ("part, list 7", shown([9, 1, 1, 1], &[0])),
