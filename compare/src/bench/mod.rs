@@ -39,7 +39,9 @@ impl Side {
 
 /// Runs one side one time, for a measure that is taken from outside. Answers whether it kept steps.
 pub fn once(side: Side, plan: HardPlan) -> bool {
-    let mut case = plan.case();
-    side.answer(case.call, &mut case.lent);
-    timed::is_accepted(&case.lent)
+    let case = plan.case();
+    // A copy, so that the allocator has put what the maker freed in order before the call.
+    let mut memory = case.lent.clone();
+    side.answer(case.call, &mut memory);
+    timed::is_accepted(&memory)
 }

@@ -36,32 +36,22 @@ impl Case {
         lengths: Lengths,
         mut filler: impl FnMut() -> u64,
     ) -> Self {
-        let mut wide = |length| (0..length).map(|_| filler()).collect::<Vec<u64>>();
-        let out = Lent::of(wide(lengths.out));
-        let mut narrow = |length| {
-            wide(length)
-                .iter()
-                .map(|&word| word as u32)
-                .collect::<Vec<u32>>()
-        };
-        let [state, first, second] = [lengths.state, lengths.outputs[0], lengths.outputs[1]]
-            .map(|length| Lent::of(narrow(length)));
+        let mut fill = |length| -> Vec<u64> { (0..length).map(|_| filler()).collect() };
+        let narrow = |words: Vec<u64>| words.iter().map(|&word| word as u32).collect::<Vec<u32>>();
         let lent = Memory {
+            out: Lent::of(fill(lengths.out)),
             words: Lent::of(words),
             plan: Lent::of(plan),
-            state,
-            first,
-            second,
-            mask: Lent::of(wide(lengths.mask)),
-            out,
+            state: Lent::of(narrow(fill(lengths.state))),
+            first: Lent::of(narrow(fill(lengths.outputs[0]))),
+            second: Lent::of(narrow(fill(lengths.outputs[1]))),
+            mask: Lent::of(fill(lengths.mask)),
             ..Memory::default()
         };
         let numbers = [0; 4];
-        Case {
-            call: Call { service, numbers },
-            lent,
-            due: None,
-        }
+        let call = Call { service, numbers };
+        let due = None;
+        Case { call, lent, due }
     }
 
     /// The lengths are those that the service needs, and the words are such as no answer has.

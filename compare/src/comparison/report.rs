@@ -12,13 +12,18 @@ pub fn print_difference(case: &Case, by_rules: &Memory, by_library: Option<&Memo
         print!("{}", text::of_input(&lent.words, &length_and_plan));
     }
     println!("# out has: {}", call.service.out().join(", "));
-    print_memory("lent", lent, lent);
+    let print_answer = |title, memory: &Memory| {
+        println!("# {title}, returned {}:", memory.returned);
+        print_memory(memory, lent);
+    };
+    println!("# lent:");
+    print_memory(lent, lent);
     if let Some(memory) = by_library {
-        print_memory("the library answers", memory, lent);
+        print_answer("the library answers", memory);
     }
-    print_memory("the rules answer", by_rules, lent);
+    print_answer("the rules answer", by_rules);
     if let Some(due) = due {
-        print_memory("due by the way it was made", &lent.after(due), lent);
+        print_answer("due by the way it was made", &lent.after(due));
     }
 }
 
@@ -29,8 +34,7 @@ fn described(call: Call) -> String {
 }
 
 /// A slice that the service doesn't take is empty, and not printed.
-fn print_memory(title: &str, memory: &Memory, lent: &Memory) {
-    println!("# {title}, returned {}:", memory.returned);
+fn print_memory(memory: &Memory, lent: &Memory) {
     for (name, (words, guards_stand)) in memory.written() {
         if !words.is_empty() {
             println!("#   {name} ({}): {}", words.len(), words.join(" "));

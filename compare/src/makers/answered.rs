@@ -18,6 +18,19 @@ pub struct Answered {
     pub greedy: Vec<usize>,
 }
 
+impl Answered {
+    /// Both eliminations keep the same steps.
+    fn alike(task: Task, plan: Vec<u32>, marked: Vec<usize>, kept: Vec<usize>) -> Self {
+        Answered {
+            task,
+            plan,
+            marked,
+            eliminated: kept.clone(),
+            greedy: kept,
+        }
+    }
+}
+
 /// Needed steps, each of which makes the next one possible and the last one the goal, with lamps
 /// that nothing needs between them.
 pub fn with_lamps(random: &mut Random, needed: usize, lamps: usize) -> Answered {
@@ -38,13 +51,8 @@ pub fn with_lamps(random: &mut Random, needed: usize, lamps: usize) -> Answered 
         }
     }
     let sizes = vec![needed as u32 + 1, 2];
-    Answered {
-        task: Task::from_zero(sizes, vec![fact(counter, needed)], actions),
-        plan,
-        marked: kept.clone(),
-        eliminated: kept.clone(),
-        greedy: kept,
-    }
+    let task = Task::from_zero(sizes, vec![fact(counter, needed)], actions);
+    Answered::alike(task, plan, kept.clone(), kept)
 }
 
 /// The fact that every way ends in; a way's own variable stands behind it.
@@ -115,11 +123,6 @@ pub fn with_gates(random: &mut Random) -> Answered {
     let actions = (0..gates).flat_map(|gate| gate_actions(gate, &mut cost));
     let actions = actions.collect();
     let goal = (0..gates).flat_map(gate_goal).collect();
-    Answered {
-        task: Task::from_zero(vec![2; 2 * gates], goal, actions),
-        plan,
-        marked,
-        eliminated: kept.clone(),
-        greedy: kept,
-    }
+    let task = Task::from_zero(vec![2; 2 * gates], goal, actions);
+    Answered::alike(task, plan, marked, kept)
 }

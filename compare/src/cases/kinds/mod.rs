@@ -21,15 +21,13 @@ use crate::rules::Kept;
 /// Makes a case, unless the random task has no spot for it.
 type Make = fn(&mut Random) -> Option<Case>;
 
-pub struct Kind {
-    name: &'static str,
-    make: Box<dyn Fn(&mut Random) -> Option<Case>>,
-}
+/// The name of a kind, and what makes a case of it.
+pub type Kind = (&'static str, Box<dyn Fn(&mut Random) -> Option<Case>>);
 
 pub fn all() -> Vec<Kind> {
-    let faults = faults::all().into_iter().map(|(name, put)| Kind {
-        name,
-        make: Box::new(move |random| sheet::with_fault(random, put)),
+    let faults = faults::all().into_iter().map(|(name, put)| -> Kind {
+        let make = move |random: &mut Random| sheet::with_fault(random, put);
+        (name, Box::new(make))
     });
     let others = [
         sheet::KINDS,
@@ -40,23 +38,21 @@ pub fn all() -> Vec<Kind> {
         exact::KINDS,
         tally::PART_KINDS,
     ];
-    let others = others.concat().into_iter().map(|(name, make)| Kind {
-        name,
-        make: Box::new(make),
-    });
+    let others = others.concat().into_iter();
+    let others = others.map(|(name, make)| -> Kind { (name, Box::new(make)) });
     faults.chain(others).collect()
 }
 
 /// The random case with this number and the name of its kind. Kinds take turns, so that a short run
 /// tries them all.
 pub fn numbered(kinds: &[Kind], seed: u64, number: u64) -> (&'static str, Case) {
-    let kind = &kinds[(number % kinds.len() as u64) as usize];
+    let (name, make) = &kinds[(number % kinds.len() as u64) as usize];
     let random = &mut Random::of_case(seed, number);
     // Random tasks are tried until one has a spot for the case.
     let most_attempts = 10_000;
-    let case = (0..most_attempts).find_map(|_| (kind.make)(random));
+    let case = (0..most_attempts).find_map(|_| make(random));
     let case = case.expect("some task has a spot for each kind of case");
-    (kind.name, case)
+    (name, case)
 }
 
 fn check_sheet(random: &mut Random, words: &[u32]) -> Case {
