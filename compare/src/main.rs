@@ -1,6 +1,12 @@
 //! Compares the library of services with an independent version of document 01's rules, on seeded
 //! random cases and on the document's own worked lists. A case compares the answer and every word
 //! of memory that is lent. What the built programs print is compared byte for byte.
+//!
+//! - `rules`: the services by document 01, and the search that the library is timed against;
+//! - `makers`: tasks, sheets, faults of sheets and plans, from a seeded generator;
+//! - `cases`: what is called with what, in kinds of random cases and in the worked lists;
+//! - `comparison`: the library, the programs and the rules against each other, and its own test;
+//! - `bench`: times, instructions and stack.
 
 mod bench;
 mod cases;

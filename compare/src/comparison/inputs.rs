@@ -44,19 +44,21 @@ fn bytes_of_case(case: &Case) -> Option<Vec<u8>> {
     takes_plan.then(|| input_bytes(&case.lent.words, &case.lent.plan))
 }
 
-pub fn closed(name: &str, bytes: Vec<u8>) -> Input {
+fn input(name: &str, bytes: Vec<u8>, stays_open: bool) -> Input {
+    let name = name.to_string();
     Input {
-        name: name.to_string(),
+        name,
         bytes,
-        stays_open: false,
+        stays_open,
     }
 }
 
+pub fn closed(name: &str, bytes: Vec<u8>) -> Input {
+    input(name, bytes, false)
+}
+
 fn open(name: &str, bytes: Vec<u8>) -> Input {
-    Input {
-        stays_open: true,
-        ..closed(name, bytes)
-    }
+    input(name, bytes, true)
 }
 
 /// Sheet P with list 1, whole and at every length below.

@@ -16,6 +16,7 @@ use std::time::Duration;
 /// it: 0 and its refusal numbers.
 pub struct Program {
     pub name: &'static str,
+    kind: &'static str,
     pub due: fn(&[u8]) -> String,
     pub answers: &'static [u64],
 }
@@ -23,11 +24,13 @@ pub struct Program {
 static PROGRAMS: [Program; 2] = [
     Program {
         name: "validate",
+        kind: "program: validate",
         due: printed_by_validate,
         answers: &[0, 1, 2, 3, 4, 5, 6, 7, 8, 9, 11],
     },
     Program {
         name: "shorten",
+        kind: "program: shorten",
         due: printed_by_shorten,
         answers: &[0, 1, 2, 3, 4, 5, 6, 7, 8, 9, 11, 12],
     },
@@ -68,10 +71,10 @@ pub fn compare(record: &mut Record, built: &[Built], inputs: &[Input]) {
 }
 
 fn try_input(record: &mut Record, built: &Built, input: &Input) {
-    let Program { name, due, .. } = built.program;
-    let due = due(&input.bytes);
+    let Program { name, kind, .. } = built.program;
+    let due = (built.program.due)(&input.bytes);
     let printed = printed(&built.path, input);
-    record.count(&format!("program: {name}"), name, answer_in(&due));
+    record.count(kind, name, answer_in(&due));
     if printed.as_deref() != Ok(due.as_str()) {
         record.differ(&format!("program {name}: {}", input.name));
         let replay = format!("{REPLAY}{}", record.differences);

@@ -13,7 +13,7 @@ pub struct Record {
     /// When the run ends, unless what there is to try ends it.
     pub end: Option<Instant>,
     /// The cases tried of each kind, by its name.
-    counts: BTreeMap<String, usize>,
+    counts: BTreeMap<&'static str, usize>,
     /// The answers seen of each service and of each program, by its name.
     answers: BTreeMap<&'static str, BTreeMap<u64, usize>>,
     /// The answers that the run must show.
@@ -33,13 +33,8 @@ impl Record {
     }
 
     /// Counts a case of the kind, and its answer as one of the service or program.
-    pub fn count(&mut self, kind: &str, name: &'static str, answer: u64) {
-        match self.counts.get_mut(kind) {
-            Some(count) => *count += 1,
-            None => {
-                self.counts.insert(kind.to_string(), 1);
-            }
-        }
+    pub fn count(&mut self, kind: &'static str, name: &'static str, answer: u64) {
+        *self.counts.entry(kind).or_default() += 1;
         let seen = self.answers.entry(name).or_default();
         *seen.entry(answer).or_default() += 1;
     }

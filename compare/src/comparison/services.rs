@@ -33,7 +33,7 @@ pub fn try_random(record: &mut Record, seed: u64, numbers: RangeInclusive<u64>) 
 
 fn try_case(
     record: &mut Record,
-    kind: &str,
+    kind: &'static str,
     case: &Case,
     with_library: bool,
     title: impl Fn() -> String,

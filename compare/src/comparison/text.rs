@@ -10,10 +10,10 @@ use std::fmt::Display;
 pub fn of_input(sheet: &[u32], length_and_plan: &[u32]) -> String {
     let mut lines = sheet_lines(sheet);
     if let Some((length, plan)) = length_and_plan.split_first() {
-        lines.push(line(&[*length], "steps"));
-        lines.push(line(plan, "plan"));
+        lines += &line(&[*length], "steps");
+        lines += &line(plan, "plan");
     }
-    lines.concat()
+    lines
 }
 
 /// The words that stand behind the sheet in a program's input.
@@ -46,39 +46,29 @@ fn line(words: &[u32], comment: &str) -> String {
     }
 }
 
-/// One line for the header, one for the pairs, and one for each part.
-fn sheet_lines(words: &[u32]) -> Vec<String> {
+/// One line for the header, one for the pairs, and one for each part. A part goes as far as the next
+/// one's offset says, whatever its length, and the last one to the end: so each word stands in one
+/// line, even where the pairs are wrong.
+fn sheet_lines(words: &[u32]) -> String {
     let actions = words.get(rules::ACTIONS_WORD).copied().unwrap_or(0);
     let pairs = FIRST_ACTION_PAIR + actions as usize;
     let (header, rest) = words.split_at(HEADER.min(words.len()));
-    let pair_words = (pair_word(pairs) - HEADER).min(rest.len());
-    let mut lines = vec![
-        line(header, "header: edition, variables, actions, words"),
-        line(&rest[..pair_words], "pairs: offset and length of each part"),
-    ];
-    if pair_words < rest.len() {
-        let parts = parts(words, pairs).into_iter().enumerate();
-        lines.extend(parts.map(|(pair, part)| line(part, &comment(pair, part))));
+    let mut start = pair_word(pairs).min(words.len());
+    let pair_words = &rest[..start - header.len()];
+    let mut lines = line(header, "header: edition, variables, actions, words");
+    lines += &line(pair_words, "pairs: offset and length of each part");
+    if start == words.len() {
+        return lines;
     }
-    lines
-}
-
-/// A part goes as far as the next one's offset says, whatever its length, and the last one to the
-/// end: so each word stands in one line, even where the pairs are wrong.
-fn parts(words: &[u32], pairs: usize) -> Vec<&[u32]> {
-    let mut start = pair_word(pairs);
-    let part = |pair| {
-        let next = match pair + 1 < pairs {
-            true => words[pair_word(pair + 1)] as usize,
-            false => words.len(),
-        };
+    let offsets = (1..pairs).map(|pair| words[pair_word(pair)] as usize);
+    for (pair, next) in offsets.chain([words.len()]).enumerate() {
         let is_in_order = (start..=words.len()).contains(&next);
         let end = if is_in_order { next } else { start };
         let part = &words[start..end];
+        lines += &line(part, &comment(pair, part));
         start = end;
-        part
-    };
-    (0..pairs).map(part).collect()
+    }
+    lines
 }
 
 /// What the part of a pair is.

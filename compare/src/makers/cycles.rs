@@ -13,27 +13,20 @@ pub struct Shape {
     moves: bool,
 }
 
-pub const USUAL: Shape = Shape {
-    actions: 8,
-    costs: &[0, 1, 2, 3, 5],
-    moves: true,
-};
-pub const FEW_ACTIONS: Shape = Shape {
-    actions: 2,
-    ..USUAL
-};
-pub const FREE_ACTIONS: Shape = Shape {
-    costs: &[0, 0, 0, 1],
-    ..USUAL
-};
-pub const TIED_COSTS: Shape = Shape {
-    costs: &[2, 2, 2, 4],
-    ..USUAL
-};
-pub const MANY_WRITERS: Shape = Shape {
-    moves: false,
-    ..USUAL
-};
+const fn shape(actions: usize, costs: &'static [u32], moves: bool) -> Shape {
+    Shape {
+        actions,
+        costs,
+        moves,
+    }
+}
+
+const COSTS: &[u32] = &[0, 1, 2, 3, 5];
+pub const USUAL: Shape = shape(8, COSTS, true);
+pub const FEW_ACTIONS: Shape = shape(2, COSTS, true);
+pub const FREE_ACTIONS: Shape = shape(8, &[0, 0, 0, 1], true);
+pub const TIED_COSTS: Shape = shape(8, &[2, 2, 2, 4], true);
+pub const MANY_WRITERS: Shape = shape(8, COSTS, false);
 
 /// A walk of `length` steps, part of it detours, whose goal is some of its end state.
 pub fn walk(random: &mut Random, shape: Shape, length: usize) -> Walk {

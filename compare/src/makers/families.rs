@@ -7,6 +7,7 @@ use super::parts::{laid_into_each_other, GATE_ACTIONS};
 use super::{action, fact, Action, Fact, Random, Task};
 use std::cmp::Reverse;
 use std::ops::RangeInclusive;
+use Family::{Covers, Gates, Lamps, Writers};
 
 #[derive(Clone, Copy, Debug)]
 pub enum Family {
@@ -20,12 +21,7 @@ pub enum Family {
     Gates,
 }
 
-pub const FAMILIES: [Family; 4] = [
-    Family::Lamps,
-    Family::Writers,
-    Family::Covers,
-    Family::Gates,
-];
+pub const FAMILIES: [Family; 4] = [Lamps, Writers, Covers, Gates];
 
 /// Where the steps of the family stand to the chain.
 #[derive(Clone, Copy, Debug)]
@@ -80,9 +76,9 @@ struct Part {
 impl Shape {
     pub fn make(&self, random: &mut Random) -> Made {
         let mut part = match self.family {
-            Family::Writers if self.unmarked >= 2 => self.writers(random),
-            Family::Covers if self.unmarked >= 2 => self.covers(random),
-            Family::Gates => self.gates(random),
+            Writers if self.unmarked >= 2 => self.writers(random),
+            Covers if self.unmarked >= 2 => self.covers(random),
+            Gates => self.gates(random),
             _ => self.lamps(random),
         };
         let own = part.steps.len();

@@ -47,11 +47,9 @@ const SELDOM: usize = 16;
 /// One case in so many has 20 of them whatever its family.
 const VERY_SELDOM: usize = 128;
 
-impl Shape {
-    /// A gate has a marked step with each four that are not.
-    fn room(&self) -> usize {
-        self.steps * 4 / 5
-    }
+/// The unmarked steps that a plan has room for: a gate has a marked step with each four that are not.
+fn room(steps: usize) -> usize {
+    steps * 4 / 5
 }
 
 fn random_shape(random: &mut Random, family: Family) -> Shape {
@@ -63,17 +61,13 @@ fn random_shape(random: &mut Random, family: Family) -> Shape {
         true => MAX_UNMARKED,
         false => FEW_UNMARKED,
     };
-    let placement = random.pick(&PLACEMENTS);
-    let mut shape = Shape {
+    Shape {
         family,
-        placement,
+        placement: random.pick(&PLACEMENTS),
         steps,
-        unmarked: 0,
-        costs: 0..=0,
-    };
-    shape.unmarked = random.size(0..=most.min(shape.room()));
-    shape.costs = random_costs(random, MAX_ACTION_COST);
-    shape
+        unmarked: random.size(0..=most.min(room(steps))),
+        costs: random_costs(random, MAX_ACTION_COST),
+    }
 }
 
 /// Costs that are alike, often alike, or seldom; the dearest among them.
@@ -122,7 +116,7 @@ fn with_unmarked(random: &mut Random, families: &[Family], unmarked: usize) -> O
     let family = random.pick(families);
     let shape = random_shape(random, family);
     let shape = Shape { unmarked, ..shape };
-    (shape.room() >= unmarked).then(|| shape.make(random))
+    (room(shape.steps) >= unmarked).then(|| shape.make(random))
 }
 
 /// Of the other families 20 steps reach so many states that the rules take long.
