@@ -1,6 +1,6 @@
-//! Elimination, greedy elimination and the cheaper of their results. Both eliminations go through
-//! the current list from the state before each step, so that a trial walks only what stands behind
-//! it.
+//! Elimination, which the field calls action elimination, greedy elimination and the cheaper of their
+//! results. Both go through the current list from the state before each step, so that a trial walks
+//! only what stands behind it.
 
 use super::{all_hold, do_step, Kept, Lodged, Refusal, State, Tally};
 

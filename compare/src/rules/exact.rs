@@ -1,6 +1,7 @@
-//! The exact reduction: of all valid reductions the lowest cost, then the fewest steps; among those
-//! still equal, at the first step where two differ, the one that strikes it. Neither way of finding
-//! it knows anything of marks, so that a fault in the marks can't hide in it; they are only counted.
+//! The exact reduction, which the field calls the minimal one: of all valid reductions the lowest
+//! cost, then the fewest steps; among those still equal, at the first step where two differ, the one
+//! that strikes it. Neither way of finding it knows anything of marks, so that a fault in the marks
+//! can't hide in it; they are only counted.
 
 use super::{all_hold, do_step, refuse, Cause, Kept, Lodged, Refusal, MAX_UNMARKED};
 
