@@ -1,84 +1,45 @@
 //! Compares the library of services with an independent version of document 01's rules, on seeded
 //! random cases and on the document's own worked lists. A case compares the answer and every word
 //! of memory that is lent. What the built programs print is compared byte for byte.
+//!
+//! - `rules`: the services by document 01, and the search that the library is timed against;
+//! - `makers`: tasks, sheets, faults of sheets and plans, from a seeded generator;
+//! - `cases`: what is called with what, in kinds of random cases and in the worked lists;
+//! - `comparison`: the library, the programs and the rules against each other, and its own test;
+//! - `bench`: times, instructions and stack.
 
-mod answered;
 mod bench;
 mod cases;
 mod comparison;
-mod cycles;
-mod families;
-mod faults;
-mod kinds;
-mod layout;
-mod library;
-mod long;
-mod memory;
+mod makers;
 mod options;
-mod plans;
-mod programs;
-mod random;
-mod report;
 mod rules;
-mod search;
-mod self_test;
-mod sheets;
-mod text;
-mod worked;
 
-use comparison::Comparison;
+use comparison::self_test;
 use options::{Mode, Options};
-use programs::inputs;
 use std::process::ExitCode;
 
 fn main() -> ExitCode {
-    let options = match Options::parse(std::env::args().skip(1)) {
-        Ok(options) => options,
+    match Options::parse(std::env::args().skip(1)) {
+        Ok(options) if run(&options) => ExitCode::SUCCESS,
+        Ok(_) => ExitCode::FAILURE,
         Err(message) => {
             eprintln!("{message}");
-            return ExitCode::from(2);
+            ExitCode::from(2)
         }
-    };
-    if run(&options) {
-        ExitCode::SUCCESS
-    } else {
-        ExitCode::FAILURE
     }
 }
 
 /// Answers whether nothing failed.
-fn run(options: &Options) -> bool {
-    let seed = options.seed;
-    match options.mode {
-        Mode::Bench => bench::run(&options.programs),
+fn run(Options { mode, seed, built }: &Options) -> bool {
+    match *mode {
+        Mode::All(cases) => self_test::run(*seed) && comparison::all(built, *seed, cases),
+        Mode::Long(seconds) => comparison::long(built, *seed, seconds),
+        Mode::One(case) => comparison::one(*seed, case),
+        Mode::SelfTest => self_test::run(*seed) && comparison::worked(),
+        Mode::Bench => bench::run(built),
         Mode::Instructions => bench::count_instructions(),
-        Mode::Stack => bench::measure_stack(&options.programs),
-        Mode::Once { side, plan } => bench::once(side, plan),
-        Mode::SelfTest => self_test::run(seed) && try_worked(),
-        Mode::One { case } => try_one(seed, case),
-        Mode::All { cases } => self_test::run(seed) && try_all(options, cases),
-        Mode::Long { seconds } => long::run(&options.programs, seed, seconds),
+        Mode::Stack => bench::measure_stack(built),
+        Mode::Once(side, plan) => bench::once(side, plan),
     }
-}
-
-fn try_worked() -> bool {
-    let mut comparison = Comparison::default();
-    comparison.try_worked(false);
-    comparison.finish()
-}
-
-fn try_one(seed: u64, case: u64) -> bool {
-    let mut comparison = Comparison::default();
-    comparison.try_random(seed, case..=case);
-    comparison.finish()
-}
-
-fn try_all(options: &Options, cases: u64) -> bool {
-    let Options { seed, programs, .. } = options;
-    let mut comparison = Comparison::default();
-    programs::compare(&mut comparison, programs, &inputs::fixed());
-    programs::compare(&mut comparison, programs, &inputs::of_random_cases(*seed));
-    comparison.try_worked(true);
-    comparison.try_random(*seed, 1..=cases);
-    comparison.finish_all()
 }

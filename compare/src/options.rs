@@ -1,10 +1,11 @@
 //! The arguments of the program.
 
-use crate::bench::{HardPlan, Side, LENGTHS, SIDES};
-use crate::families::{FAMILIES, PLACEMENTS};
-use crate::long;
-use crate::programs::Built;
+use crate::bench::{name, HardPlan, Side, LENGTHS, SIDES};
+use crate::comparison::programs::Built;
+use crate::comparison::{fresh_seed, LONG_SECONDS};
+use crate::makers::families::{FAMILIES, PLACEMENTS};
 use std::collections::VecDeque;
+use std::fmt::Debug;
 
 const USAGE: &str = "usage: compare [--cases N] [--seed S] [--program PATH]...
                                       try N random cases, the worked lists and built programs
@@ -28,42 +29,40 @@ const DEFAULT_CASES: u64 = 500_000;
 pub struct Options {
     pub mode: Mode,
     pub seed: u64,
-    pub programs: Vec<Built>,
+    pub built: Vec<Built>,
 }
 
 pub enum Mode {
-    All { cases: u64 },
-    Long { seconds: u64 },
-    One { case: u64 },
+    /// So many random cases.
+    All(u64),
+    /// For so many seconds.
+    Long(u64),
+    /// The random case with this number.
+    One(u64),
     SelfTest,
     Bench,
     Instructions,
     Stack,
-    Once { side: Side, plan: HardPlan },
+    Once(Side, HardPlan),
 }
 
 impl Options {
     pub fn parse(arguments: impl Iterator<Item = String>) -> Result<Self, String> {
         let mut arguments = Arguments(arguments.collect());
-        let cases = DEFAULT_CASES;
-        let (mut mode, mut seed, mut programs) = (Mode::All { cases }, None, Vec::new());
+        let (mut mode, mut seed, mut built) = (Mode::All(DEFAULT_CASES), None, Vec::new());
         while let Some(argument) = arguments.0.pop_front() {
             match argument.as_str() {
                 "--seed" => seed = Some(arguments.number()?),
-                "--program" => programs.push(Built::at(arguments.text()?.into())?),
+                "--program" => built.push(Built::at(arguments.text()?.into())?),
                 _ => mode = arguments.mode(&argument)?,
             }
         }
         let seed = match (seed, &mode) {
             (Some(seed), _) => seed,
-            (None, Mode::Long { .. }) => long::fresh_seed().map_err(|error| error.to_string())?,
+            (None, Mode::Long(_)) => fresh_seed().map_err(|error| error.to_string())?,
             (None, _) => DEFAULT_SEED,
         };
-        Ok(Options {
-            mode,
-            seed,
-            programs,
-        })
+        Ok(Options { mode, seed, built })
     }
 }
 
@@ -71,34 +70,25 @@ impl Options {
 struct Arguments(VecDeque<String>);
 
 impl Arguments {
-    fn mode(&mut self, name: &str) -> Result<Mode, String> {
-        Ok(match name {
-            "--cases" => Mode::All {
-                cases: self.number()?,
-            },
-            "--long" => Mode::Long {
-                seconds: self.number_if_any().unwrap_or(long::DEFAULT_SECONDS),
-            },
-            "--case" => Mode::One {
-                case: self.number()?,
-            },
+    fn mode(&mut self, argument: &str) -> Result<Mode, String> {
+        Ok(match argument {
+            "--cases" => Mode::All(self.number()?),
+            "--long" => Mode::Long(self.number_if_any().unwrap_or(LONG_SECONDS)),
+            "--case" => Mode::One(self.number()?),
             "--self-test" => Mode::SelfTest,
             "--bench" => Mode::Bench,
             "--instructions" => Mode::Instructions,
             "--stack" => Mode::Stack,
-            "--once" => Mode::Once {
-                side: self.one_of(&SIDES, |side| side.name().to_string())?,
-                plan: self.plan()?,
-            },
+            "--once" => Mode::Once(self.one_of(&SIDES)?, self.plan()?),
             _ => return Err(USAGE.to_string()),
         })
     }
 
     fn plan(&mut self) -> Result<HardPlan, String> {
         Ok(HardPlan {
-            family: self.one_of(&FAMILIES, |family| family.name().to_string())?,
-            placement: self.one_of(&PLACEMENTS, |placement| placement.name().to_string())?,
-            steps: self.one_of(&LENGTHS, |steps| steps.to_string())?,
+            family: self.one_of(&FAMILIES)?,
+            placement: self.one_of(&PLACEMENTS)?,
+            steps: self.one_of(&LENGTHS)?,
         })
     }
 
@@ -116,9 +106,9 @@ impl Arguments {
         Some(number)
     }
 
-    fn one_of<T: Copy>(&mut self, all: &[T], name: impl Fn(T) -> String) -> Result<T, String> {
+    fn one_of<T: Copy + Debug>(&mut self, all: &[T]) -> Result<T, String> {
         let text = self.text()?;
-        let found = all.iter().copied().find(|&it| name(it) == text);
+        let found = all.iter().copied().find(|it| name(it) == text);
         found.ok_or_else(|| USAGE.to_string())
     }
 }

@@ -1,5 +1,7 @@
 //! Tables in Markdown, and how figures are written in them: bold where they miss a goal.
 
+use std::borrow::Borrow;
+
 /// The goal for the library, in the time or the instructions of the Rust version.
 const MOST_RATIO: f64 = 1.5;
 /// The goal for a whole program, in microseconds.
@@ -12,7 +14,7 @@ pub fn print_head(columns: &[&str]) {
     println!("|{}", "---|".repeat(columns.len()));
 }
 
-pub fn print_row(cells: &[&str]) {
+pub fn print_row<S: Borrow<str>>(cells: &[S]) {
     println!("| {} |", cells.join(" | "));
 }
 

@@ -1,8 +1,8 @@
 //! The times of both sides on one case.
 
-use super::{Side, SIDES};
-use crate::cases::Case;
-use crate::memory::Memory;
+use super::{table, Side, SIDES};
+use crate::cases::{Case, Memory};
+use crate::comparison::by_rules;
 use std::hint::black_box;
 use std::time::{Duration, Instant};
 
@@ -18,19 +18,28 @@ pub struct Timed {
     best: [f64; 2],
 }
 
+/// Times all the cases, which take turns.
+pub fn times_of(cases: impl Iterator<Item = Case>) -> Vec<Timed> {
+    let mut all: Vec<Timed> = cases.map(Timed::of).collect();
+    for _ in 0..RUNS {
+        all.iter_mut().for_each(Timed::run);
+    }
+    all
+}
+
 impl Timed {
-    pub fn of(case: Case) -> Self {
+    fn of(case: Case) -> Self {
         Timed {
-            sides: SIDES.map(|side| (side, Memory::of(&case))),
+            sides: SIDES.map(|side| (side, case.lent.clone())),
             case,
             best: [f64::INFINITY; 2],
         }
     }
 
-    pub fn run(&mut self) {
+    fn run(&mut self) {
         let call = self.case.call;
         for ((side, memory), best) in self.sides.iter_mut().zip(&mut self.best) {
-            *best = best.min(time_of_call(|| side.answer(black_box(memory), call)));
+            *best = best.min(time_of_call(|| side.answer(call, black_box(memory))));
         }
     }
 
@@ -38,18 +47,17 @@ impl Timed {
         self.best[0]
     }
 
-    pub fn rust(&self) -> f64 {
-        self.best[1]
-    }
-
-    pub fn ratio(&self) -> f64 {
-        self.library() / self.rust()
+    /// The cells of a table under "Library", "Rust" and "Ratio".
+    pub fn cells(&self) -> [String; 3] {
+        let [library, rust] = self.best;
+        let ratio = table::ratio(library / rust);
+        [table::time(library), table::time(rust), ratio]
     }
 
     /// What the rules answer, unless a side answers otherwise or the case is refused.
     pub fn answer(&self) -> Option<Memory> {
-        let mut by_rules = Memory::of(&self.case);
-        by_rules.answer_by_rules(self.case.call);
+        let lent = &self.case.lent;
+        let by_rules = lent.after(&by_rules::answer(self.case.call, lent));
         let alike = self.sides.iter().all(|(_, memory)| *memory == by_rules);
         (alike && is_accepted(&by_rules)).then_some(by_rules)
     }
@@ -57,7 +65,7 @@ impl Timed {
 
 /// A refusal has its number in the first word of `out`.
 pub fn is_accepted(memory: &Memory) -> bool {
-    memory.out.words().first() == Some(&0)
+    memory.out.first() == Some(&0)
 }
 
 /// The microseconds that one of as many calls takes as make up a run.

@@ -1,41 +1,31 @@
-//! Elimination and greedy elimination. Both go through the current list from the state before each
-//! step, so that a trial walks only what stands behind it.
+//! Elimination, which the field calls action elimination, greedy elimination and the cheaper of their
+//! results. Both go through the current list from the state before each step, so that a trial walks
+//! only what stands behind it.
 
-use super::{all_hold, do_step, has, mask_of, Lodged, Mask, Refusal, State, MAX_STEPS};
-
-/// What a reduction keeps.
-pub struct Kept {
-    pub cost: usize,
-    /// The kept action numbers, in the order of the plan.
-    pub actions: Vec<u32>,
-    pub mask: Mask,
-}
-
-impl Kept {
-    fn of(lodged: &Lodged, plan: &[u32], steps: &[usize]) -> Self {
-        Kept {
-            cost: steps.iter().map(|&step| lodged.actions[step].cost).sum(),
-            actions: steps.iter().map(|&step| plan[step]).collect(),
-            mask: mask_of(steps.iter().copied()),
-        }
-    }
-
-    /// The indices of the kept steps.
-    pub fn steps(&self) -> impl Iterator<Item = usize> + '_ {
-        (0..MAX_STEPS).filter(|&step| has(self.mask, step))
-    }
-}
+use super::{all_hold, do_step, Kept, Lodged, Refusal, State, Tally};
 
 /// Refusals 1 to 11.
 pub fn eliminate(words: &[u32], plan: &[u32], output: usize) -> Result<Kept, Refusal> {
-    let lodged = Lodged::check(words, plan, &[output])?;
-    Ok(lodged.kept(plan, Lodged::eliminated))
+    Ok(Lodged::check(words, plan, &[output])?.kept(Lodged::eliminated))
 }
 
 /// Refusals 1 to 11.
 pub fn greedy(words: &[u32], plan: &[u32], output: usize) -> Result<Kept, Refusal> {
-    let lodged = Lodged::check(words, plan, &[output])?;
-    Ok(lodged.kept(plan, Lodged::greedily_eliminated))
+    Ok(Lodged::check(words, plan, &[output])?.kept(Lodged::greedily_eliminated))
+}
+
+/// What elimination keeps, then what greedy elimination keeps. Refusals 1 to 11; 10 if either
+/// output is short.
+pub fn cheaper(words: &[u32], plan: &[u32], outputs: [usize; 2]) -> Result<[Kept; 2], Refusal> {
+    let lodged = Lodged::check(words, plan, &outputs)?;
+    Ok([Lodged::eliminated, Lodged::greedily_eliminated].map(|way| lodged.kept(way)))
+}
+
+/// Which output is the cheaper one, as an index, and its kept part; ties are the first one's.
+pub fn kept_part(outputs: [&[u32]; 2], tallies: [Tally; 2]) -> (usize, &[u32]) {
+    let chosen = usize::from(tallies[1] < tallies[0]);
+    let (output, steps) = (outputs[chosen], tallies[chosen].steps as usize);
+    (chosen, &output[..steps.min(output.len())])
 }
 
 /// A trial that succeeds: what it strikes, ordered as greedy elimination chooses, and the steps
@@ -48,10 +38,6 @@ struct Success {
 
 impl Lodged<'_> {
     /// Steps are told by their index in the plan.
-    pub fn kept(&self, plan: &[u32], reduced: fn(&Self) -> Vec<usize>) -> Kept {
-        Kept::of(self, plan, &reduced(self))
-    }
-
     pub fn eliminated(&self) -> Vec<usize> {
         let mut steps: Vec<usize> = (0..self.actions.len()).collect();
         let mut state = self.task.start();

@@ -1,8 +1,7 @@
-//! The exact reduction: of all valid reductions the lowest cost, then the fewest steps; among those
-//! still equal, at the first step where two differ, the one that strikes it. Neither way of finding
-//! it knows anything of marks, so that a fault in the marks can't hide in it; they are only counted.
-
-mod states;
+//! The exact reduction, which the field calls the minimal one: of all valid reductions the lowest
+//! cost, then the fewest steps; among those still equal, at the first step where two differ, the one
+//! that strikes it. Neither way of finding it knows anything of marks, so that a fault in the marks
+//! can't hide in it; they are only counted.
 
 use super::{all_hold, do_step, refuse, Cause, Kept, Lodged, Refusal, MAX_UNMARKED};
 
@@ -16,12 +15,16 @@ pub fn exact(words: &[u32], plan: &[u32], output: usize) -> Result<Kept, Refusal
         true => Lodged::least_of_all,
         false => Lodged::least_by_states,
     };
-    Ok(lodged.kept(plan, way))
+    Ok(lodged.kept(way))
 }
 
 impl<'a> Lodged<'a> {
     /// Refusals 1 to 12.
-    pub fn check_unmarked(words: &'a [u32], plan: &[u32], output: usize) -> Result<Self, Refusal> {
+    pub fn check_unmarked(
+        words: &'a [u32],
+        plan: &'a [u32],
+        output: usize,
+    ) -> Result<Self, Refusal> {
         let lodged = Lodged::check(words, plan, &[output])?;
         let unmarked = lodged.unmarked();
         let too_many = unmarked > MAX_UNMARKED;
@@ -39,7 +42,7 @@ impl<'a> Lodged<'a> {
     /// difference is the lesser.
     pub fn least_of_all(&self) -> Vec<usize> {
         let valid = self.reductions().filter(|kept| self.is_valid(kept));
-        let least = valid.min_by_key(|kept| (self.cost(kept), count(kept), kept.clone()));
+        let least = valid.min_by_key(|kept| (self.counts(kept), kept.clone()));
         steps_of(&least.expect("the plan itself is a valid reduction"))
     }
 
@@ -56,13 +59,12 @@ impl<'a> Lodged<'a> {
         done && all_hold(self.task.goal(), &state)
     }
 
-    pub fn cost(&self, kept: &[bool]) -> usize {
-        steps_of(kept).iter().map(|&i| self.actions[i].cost).sum()
+    /// The cost and the number of the steps that are kept.
+    pub fn counts(&self, kept: &[bool]) -> (usize, usize) {
+        let steps = steps_of(kept);
+        let cost = steps.iter().map(|&i| self.actions[i].cost).sum();
+        (cost, steps.len())
     }
-}
-
-pub fn count(kept: &[bool]) -> usize {
-    kept.iter().filter(|&&is_kept| is_kept).count()
 }
 
 pub fn steps_of(kept: &[bool]) -> Vec<usize> {

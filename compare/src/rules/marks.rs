@@ -1,5 +1,5 @@
-//! The marks. A mark rests on the goal or on a later mark, so one pass from the last step to the
-//! first finds them all.
+//! The marks, which the field calls landmarks. A mark rests on the goal or on a later mark, so one
+//! pass from the last step to the first finds them all.
 
 use super::{mask_of, split, Lodged, Mask, Refusal, State, FACT_BASE, MAX_VARIABLES};
 

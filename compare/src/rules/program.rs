@@ -1,7 +1,7 @@
 //! What the programs print for the bytes of their input (document 01, "Worked lists", on the
 //! program).
 
-use super::{check_plan, exact, Cause, Lodged, Refusal, COUNT_WORD, HEADER, MAX_STEPS, MAX_WORDS};
+use super::{exact, Cause, Lodged, Refusal, COUNT_WORD, HEADER, MAX_STEPS, MAX_WORDS};
 
 const WORD_BYTES: usize = 4;
 
@@ -26,12 +26,8 @@ fn read(bytes: &[u8]) -> Option<(Vec<u32>, Vec<u32>)> {
 
 /// The lines of an answer to a sheet and a plan, or of the refusal.
 fn printed(bytes: &[u8], answer: impl Fn(&[u32], &[u32]) -> Result<String, Refusal>) -> String {
-    let broken = Refusal {
-        cause: Cause::Length,
-        place: 0,
-    };
-    let result = read(bytes).ok_or(broken);
-    result
+    read(bytes)
+        .ok_or(Cause::Length.at(0))
         .and_then(|(words, plan)| answer(&words, &plan))
         .unwrap_or_else(|refusal| format!("refused {} {}\n", refusal.cause as u8, refusal.place))
 }
@@ -39,8 +35,8 @@ fn printed(bytes: &[u8], answer: impl Fn(&[u32], &[u32]) -> Result<String, Refus
 /// The program that checks a plan.
 pub fn printed_by_validate(bytes: &[u8]) -> String {
     printed(bytes, |words, plan| {
-        let run = check_plan(words, plan)?;
-        Ok(format!("lodged {} {}\n", run.steps, run.cost))
+        let lodged = Lodged::check(words, plan, &[])?;
+        Ok(format!("lodged {} {}\n", plan.len(), lodged.cost()))
     })
 }
 
@@ -49,16 +45,15 @@ pub fn printed_by_shorten(bytes: &[u8]) -> String {
     printed(bytes, |words, plan| {
         let kept = exact(words, plan, plan.len())?;
         let lodged = Lodged::check(words, plan, &[])?;
-        let costs: Vec<usize> = lodged.actions.iter().map(|action| action.cost).collect();
         let marked = plan.len() - lodged.unmarked();
-        let lodged_cost: usize = costs.iter().sum();
         let mut lines = vec![
-            format!("lodged {} {lodged_cost}\n", plan.len()),
+            format!("lodged {} {}\n", plan.len(), lodged.cost()),
             format!("marked {marked}\n"),
             format!("kept {} {}\n", kept.actions.len(), kept.cost),
         ];
         for step in kept.steps() {
-            lines.push(format!("{} {} {}\n", step + 1, plan[step], costs[step]));
+            let cost = lodged.actions[step].cost;
+            lines.push(format!("{} {} {cost}\n", step + 1, plan[step]));
         }
         Ok(lines.concat())
     })

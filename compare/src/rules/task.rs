@@ -1,11 +1,7 @@
 //! The task that a sheet holds, and the checks of the sheet. Words are read as `usize` of 64 bits,
 //! so that no sum of them can wrap.
 
-use super::{
-    refuse, split, Cause, Refusal, State, ACTIONS_WORD, ACTION_HEAD, COUNT_WORD, EDITION,
-    EDITION_WORD, FIRST_ACTION_PAIR, GOAL_PAIR, HEADER, MAX_ACTIONS, MAX_ACTION_COST, MAX_DOMAIN,
-    MAX_VARIABLES, MAX_WORDS, SIZES_PAIR, START_PAIR, VARIABLES_WORD,
-};
+use super::*;
 use std::iter::once;
 use std::ops::Range;
 
@@ -24,16 +20,21 @@ pub struct Action<'a> {
 }
 
 /// The word index of a pair's offset; its length stands next to it.
-fn pair_word(pair: usize) -> usize {
+pub const fn pair_word(pair: usize) -> usize {
     HEADER + 2 * pair
 }
 
-/// Refusals 1 to 7.
+/// Refusals 1 to 7. Each check reads only what the checks before it have found in order.
 pub fn check_sheet(words: &[u32]) -> Result<Task<'_>, Refusal> {
     let task = Task { words };
-    refuse(Cause::Length, task.wrong_length())?;
-    refuse(Cause::Edition, task.wrong_edition())?;
-    refuse(Cause::Range, task.wrong_range())?;
+    let length = words.len();
+    let wrong_length = !(HEADER..=MAX_WORDS).contains(&length) || task.word(COUNT_WORD) != length;
+    refuse(Cause::Length, wrong_length.then_some(0))?;
+    let wrong_edition = task.word(EDITION_WORD) != EDITION;
+    refuse(Cause::Edition, wrong_edition.then_some(0))?;
+    let variables_wrong = !(1..=MAX_VARIABLES).contains(&task.variables());
+    let wrong_range = variables_wrong || task.actions() > MAX_ACTIONS;
+    refuse(Cause::Range, wrong_range.then_some(0))?;
     refuse(Cause::Pair, task.first_wrong_pair())?;
     refuse(Cause::Value, task.first_wrong_variable())?;
     refuse(Cause::Fact, task.first_wrong_fact())?;
@@ -41,26 +42,10 @@ pub fn check_sheet(words: &[u32]) -> Result<Task<'_>, Refusal> {
     Ok(task)
 }
 
-/// The checks. Each one reads only what the checks before it have found in order.
+/// The checks of the parts.
 impl<'a> Task<'a> {
-    fn wrong_length(self) -> Option<usize> {
-        let length = self.words.len();
-        let wrong = !(HEADER..=MAX_WORDS).contains(&length) || self.word(COUNT_WORD) != length;
-        wrong.then_some(0)
-    }
-
-    fn wrong_edition(self) -> Option<usize> {
-        (self.word(EDITION_WORD) != EDITION).then_some(0)
-    }
-
-    fn wrong_range(self) -> Option<usize> {
-        let variables_wrong = !(1..=MAX_VARIABLES).contains(&self.variables());
-        let actions_wrong = self.actions() > MAX_ACTIONS;
-        (variables_wrong || actions_wrong).then_some(0)
-    }
-
     fn first_wrong_pair(self) -> Option<usize> {
-        if self.first_offset() > self.words.len() {
+        if pair_word(self.pairs()) > self.words.len() {
             return Some(0);
         }
         (0..self.pairs()).find(|&pair| self.pair_is_wrong(pair))
@@ -78,20 +63,13 @@ impl<'a> Task<'a> {
             || end > count
             || (is_last && end < count)
             || (has_values && length != self.variables())
-            || (pair >= FIRST_ACTION_PAIR && self.action_part_is_wrong(offset, length))
-    }
-
-    fn action_part_is_wrong(self, offset: usize, length: usize) -> bool {
-        length < ACTION_HEAD || self.word(offset + 1) > length - ACTION_HEAD
-    }
-
-    fn first_offset(self) -> usize {
-        pair_word(self.pairs())
+            || (pair >= FIRST_ACTION_PAIR
+                && (length < ACTION_HEAD || self.word(offset + 1) > length - ACTION_HEAD))
     }
 
     fn due_offset(self, pair: usize) -> usize {
         match pair {
-            0 => self.first_offset(),
+            0 => pair_word(self.pairs()),
             _ => self.offset(pair - 1) + self.length(pair - 1),
         }
     }

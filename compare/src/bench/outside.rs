@@ -1,0 +1,125 @@
+//! Measures that are taken of whole processes from outside, on each family's longest plan with its
+//! unmarked steps in front: instructions, and the least stack.
+
+use super::plans::{name, HardPlan};
+use super::{table, Side, SIDES};
+use crate::comparison::inputs::input_bytes;
+use crate::comparison::programs::Built;
+use crate::makers::families::{Made, FAMILIES};
+use crate::rules::{MAX_STEPS, MAX_UNMARKED};
+use std::env;
+use std::ffi::OsString;
+use std::io::Write;
+use std::process::{Command, Stdio};
+
+/// The cells of a row behind the family's name, or what went wrong.
+type Cells = Result<Vec<String>, String>;
+
+/// Prints a table with a row for each family, and answers whether everything could be measured.
+fn print_table(measure: &str, columns: &[&str], cells: impl Fn(HardPlan) -> Cells) -> bool {
+    println!("{measure} at {MAX_STEPS} steps, {MAX_UNMARKED} of them unmarked and in front:\n");
+    table::print_head(&[&["Family", "Library", "Rust"], columns].concat());
+    FAMILIES.into_iter().all(|family| {
+        let cells = cells(HardPlan::longest_in_front(family));
+        match &cells {
+            Ok(cells) => table::print_row(&[&[name(family)], &cells[..]].concat()),
+            Err(error) => println!("{}: {error}", name(family)),
+        }
+        cells.is_ok()
+    })
+}
+
+/// The command that runs one side one time.
+fn once(side: Side, plan: HardPlan) -> Result<Vec<OsString>, String> {
+    let program = env::current_exe().map_err(|error| error.to_string())?;
+    let mut command = vec![program.into_os_string(), "--once".into(), name(side).into()];
+    command.extend(plan.arguments().map(OsString::from));
+    Ok(command)
+}
+
+/// Prints the instructions of the exact reduction, counted by valgrind: a figure that others on the
+/// machine don't change.
+pub fn count_instructions() -> bool {
+    print_table("Instructions", &["Ratio"], |plan| {
+        let [library, rust] = SIDES.map(|side| instructions(side, plan));
+        let (library, rust) = (library?, rust?);
+        let ratio = table::ratio(library as f64 / rust as f64);
+        Ok(vec![library.to_string(), rust.to_string(), ratio])
+    })
+}
+
+/// The instructions between the call of the service and its return.
+fn instructions(side: Side, plan: HardPlan) -> Result<u64, String> {
+    let function = match side {
+        Side::Library => "hollchiku_exact",
+        Side::Rust => "*search::exact*",
+    };
+    let output = Command::new("valgrind")
+        .args(["--tool=callgrind", "--callgrind-out-file=/dev/null"])
+        .arg(format!("--toggle-collect={function}"))
+        .args(once(side, plan)?)
+        .output()
+        .map_err(|error| format!("valgrind: {error}"))?;
+    let report = String::from_utf8_lossy(&output.stderr);
+    let mut lines = report.lines();
+    let collected = lines.find_map(|line| line.split_once("Collected : "));
+    let count = collected.and_then(|(_, count)| count.trim().parse().ok());
+    let failed = || format!("valgrind counted nothing:\n{report}");
+    count.filter(|_| output.status.success()).ok_or_else(failed)
+}
+
+/// Limits of the stack are whole pages.
+const PAGE_KIB: usize = 4;
+/// What a process gets by default.
+const MOST_PAGES: usize = 2_048;
+/// Sets the limit that stands in front, and runs what stands behind it.
+const UNDER_LIMIT: &str = "ulimit -c 0 && ulimit -s \"$0\" && exec \"$@\"";
+
+/// Prints the least stack that the exact reduction and the built programs run in: each is started
+/// anew under a limit, which is sought by halves between one that is too low and one that is enough.
+pub fn measure_stack(built: &[Built]) -> bool {
+    let names: Vec<&str> = built.iter().map(|built| built.program.name).collect();
+    print_table("Least stack in KiB", &names, |plan| {
+        let mut cells = Vec::new();
+        for side in SIDES {
+            cells.push(least_stack(&once(side, plan)?, &[])?);
+        }
+        let Made { task, plan, .. } = plan.make();
+        let bytes = input_bytes(&task.words(), &plan);
+        for built in built {
+            let command = [built.path.clone().into_os_string()];
+            cells.push(least_stack(&command, &bytes)?);
+        }
+        Ok(cells)
+    })
+}
+
+/// The least limit, in KiB, under which the command answers.
+fn least_stack(command: &[OsString], input: &[u8]) -> Result<String, String> {
+    let answers = |pages| answers(command, input, pages).map_err(|error| error.to_string());
+    let (mut too_low, mut enough) = (0, MOST_PAGES);
+    if !answers(enough)? {
+        return Err("no answer under any limit".to_string());
+    }
+    while too_low + 1 < enough {
+        let middle = (too_low + enough) / 2;
+        match answers(middle)? {
+            true => enough = middle,
+            false => too_low = middle,
+        }
+    }
+    Ok(table::stack(enough * PAGE_KIB))
+}
+
+fn answers(command: &[OsString], input: &[u8], pages: usize) -> std::io::Result<bool> {
+    let mut child = Command::new("sh")
+        .args(["-c", UNDER_LIMIT, &(pages * PAGE_KIB).to_string()])
+        .args(command)
+        .stdin(Stdio::piped())
+        .stdout(Stdio::null())
+        .stderr(Stdio::null())
+        .spawn()?;
+    // A process that ends without its input makes the write fail.
+    let _ = child.stdin.take().map(|mut pipe| pipe.write_all(input));
+    Ok(child.wait()?.success())
+}

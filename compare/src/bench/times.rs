@@ -1,0 +1,179 @@
+//! The tables of times: of the services, of the exact reduction on the hard families, and of the
+//! built programs.
+
+use super::plans::{case_of, gates_walk, with_large_actions, HardPlan, LENGTHS};
+use super::table;
+use super::timed::{times_of, Timed, RUNS};
+use crate::cases::{Memory, Service};
+use crate::comparison::inputs::{closed, input_bytes, Input};
+use crate::comparison::programs::{printed, Built};
+use crate::makers::families::{Family, Made, Placement, FAMILIES, PLACEMENTS};
+use crate::makers::Task;
+use crate::rules::{MAX_STEPS, MAX_UNMARKED};
+use std::fs;
+use std::thread;
+use std::time::Instant;
+
+/// Prints the tables, and answers whether all answers were right.
+pub fn run(built: &[Built]) -> bool {
+    print_machine();
+    let services_are_right = services();
+    let (families_are_right, slowest) = families();
+    let programs_are_right = programs(built, slowest);
+    services_are_right && families_are_right && programs_are_right
+}
+
+/// How busy the machine was tells how far times can be trusted.
+fn print_machine() {
+    let cores = thread::available_parallelism().map_or(0, usize::from);
+    let load = fs::read_to_string("/proc/loadavg").unwrap_or_default();
+    let load = load.split(' ').next().unwrap_or_default();
+    println!("{cores} cores, load average {load} before the run\n");
+}
+
+/// Those that take any plan, as the table names them, and the exact reduction.
+const SERVICES: [(Service, &str); 4] = [
+    (Service::CheckPlan, "check of a list"),
+    (Service::Marks, "marks"),
+    (Service::Eliminate, "elimination"),
+    (Service::Greedy, "greedy elimination"),
+];
+const EXACT: (Service, &str) = (Service::Exact, "exact reduction");
+
+/// A plan for the exact reduction, which takes few unmarked steps. A sheet of large actions has no
+/// room for the steps of the longest one.
+fn plan_for_exact(steps: usize) -> Made {
+    let plan = HardPlan {
+        family: Family::Gates,
+        placement: Placement::Spread,
+        steps,
+    };
+    plan.make()
+}
+
+/// Each service on a plan of small actions and on one of large actions. Answers whether all answers
+/// were right.
+fn services() -> bool {
+    let walk = gates_walk();
+    let large = with_large_actions(&walk.task);
+    let (longest, shorter) = (plan_for_exact(MAX_STEPS), plan_for_exact(128));
+    let shorter_large = with_large_actions(&shorter.task);
+    let mut rows = Vec::new();
+    for service in SERVICES {
+        rows.extend([&walk.task, &large].map(|task| (service, task, &walk.plan)));
+    }
+    rows.push((EXACT, &longest.task, &longest.plan));
+    rows.push((EXACT, &shorter_large, &shorter.plan));
+    let cases = rows
+        .iter()
+        .map(|((service, _), task, plan)| case_of(*service, task, plan));
+    let times = times_of(cases);
+    println!("Services, best of {RUNS} runs:\n");
+    let columns = ["Service", "Facts of an action", "Steps", "Marked or kept"];
+    table::print_head(&[&columns[..], &["Library", "Rust", "Ratio"]].concat());
+    for (((_, name), task, plan), timed) in rows.iter().zip(&times) {
+        let told = timed.answer().map(|memory| told_steps(timed, &memory));
+        let told = told.unwrap_or_else(|| "**the answers differ**".to_string());
+        let cells = [
+            name.to_string(),
+            facts_of(task),
+            plan.len().to_string(),
+            told,
+        ];
+        table::print_row(&[&cells[..], &timed.cells()].concat());
+    }
+    times.iter().all(|timed| timed.answer().is_some())
+}
+
+/// How many facts an action has, from the fewest to the most.
+fn facts_of(task: &Task) -> String {
+    let sizes = task.actions.iter();
+    let sizes = sizes.map(|action| action.preconditions.len() + action.effects.len());
+    match (sizes.clone().min(), sizes.max()) {
+        (Some(fewest), Some(most)) if fewest < most => format!("{fewest} to {most}"),
+        (fewest, _) => fewest.unwrap_or(0).to_string(),
+    }
+}
+
+/// How many steps the answer marks or keeps.
+fn told_steps(timed: &Timed, answer: &Memory) -> String {
+    let marked = answer.mask.iter().map(|word| word.count_ones());
+    match timed.case.call.service {
+        Service::CheckPlan => "–".to_string(),
+        _ => marked.sum::<u32>().to_string(),
+    }
+}
+
+/// The exact reduction on the hard families, each at three lengths, against the search that has the
+/// same cuts. Answers whether all answers were right, with the plan that took the library longest.
+fn families() -> (bool, HardPlan) {
+    let plans = hard_plans();
+    let times = times_of(plans.iter().map(|plan| plan.case()));
+    println!("\nExact reduction, {MAX_UNMARKED} steps unmarked, best of {RUNS} runs:\n");
+    let columns = ["Family", "Unmarked", "Steps"];
+    table::print_head(&[&columns[..], &["Library", "Rust", "Ratio", "Growth"]].concat());
+    for (index, (plan, timed)) in plans.iter().zip(&times).enumerate() {
+        let shortest = &times[index - index % LENGTHS.len()];
+        let growth = format!("{:.2}", timed.library() / shortest.library());
+        table::print_row(&[&plan.arguments()[..], &timed.cells(), &[growth]].concat());
+    }
+    let wrong = |(_, timed): &(_, &Timed)| timed.answer().is_none();
+    let mut all_right = true;
+    for (plan, _) in plans.iter().zip(&times).filter(wrong) {
+        println!("the answers differ: {}", plan.arguments().join(" "));
+        all_right = false;
+    }
+    let by_time = |a: &usize, b: &usize| times[*a].library().total_cmp(&times[*b].library());
+    let slowest = (0..plans.len()).max_by(by_time).expect("there are plans");
+    (all_right, plans[slowest])
+}
+
+fn hard_plans() -> Vec<HardPlan> {
+    let mut plans = Vec::new();
+    for family in FAMILIES {
+        for placement in PLACEMENTS {
+            plans.extend(LENGTHS.map(|steps| HardPlan {
+                family,
+                placement,
+                steps,
+            }));
+        }
+    }
+    plans
+}
+
+/// The built programs, from the start of the process to the end of what it prints: on each family's
+/// plan with its unmarked steps in front, and on the plan that took the library longest. Answers
+/// whether each printed what was due.
+fn programs(built: &[Built], slowest: HardPlan) -> bool {
+    println!("\nWhole programs, {RUNS} runs:\n");
+    table::print_head(&["Program", "Plan", "Best", "Median"]);
+    let plans = FAMILIES.map(HardPlan::longest_in_front).into_iter();
+    let inputs: Vec<Input> = plans.chain([slowest]).map(input_of).collect();
+    let right = |built: &&Built| inputs.iter().all(|input| print_times(built, input));
+    built.iter().filter(right).count() == built.len()
+}
+
+fn input_of(plan: HardPlan) -> Input {
+    let name = plan.arguments().join(", ");
+    let Made { task, plan, .. } = plan.make();
+    closed(&name, input_bytes(&task.words(), &plan))
+}
+
+fn print_times(built: &Built, input: &Input) -> bool {
+    let due = (built.program.due)(&input.bytes);
+    let mut times = Vec::new();
+    for _ in 0..RUNS {
+        let begin = Instant::now();
+        let printed = printed(&built.path, input);
+        times.push(begin.elapsed().as_secs_f64() * 1e6);
+        if printed.as_deref() != Ok(due.as_str()) {
+            println!("{} printed otherwise than is due", built.program.name);
+            return false;
+        }
+    }
+    times.sort_by(f64::total_cmp);
+    let [best, median] = [0, RUNS / 2].map(|index| table::program_time(times[index]));
+    table::print_row(&[built.program.name, &input.name, &best, &median]);
+    true
+}

@@ -1,0 +1,175 @@
+//! The exact reduction: on hard plans at many lengths, at the border of 20 unmarked steps, and on
+//! plans of which all or nothing is struck.
+
+use super::{case_with, kept, plan_case, Make};
+use crate::cases::{Answer, Case, Service};
+use crate::makers::families::{Family, Made, Shape, FAMILIES, PLACEMENTS};
+use crate::makers::{action, cycles, fact, Action, Random, Task, Walk};
+use crate::rules::{Cause, MAX_ACTION_COST, MAX_STEPS, MAX_UNMARKED};
+use std::ops::RangeInclusive;
+
+pub const KINDS: &[(&str, Make)] = kinds! { random:
+    "exact: lamps" => of_family(random, Family::Lamps),
+    "exact: several writers of each goal" => of_family(random, Family::Writers),
+    "exact: overlapping covers" => of_family(random, Family::Covers),
+    "exact: gates opened and shut" => of_family(random, Family::Gates),
+    "exact: one step for several" => with_one_for_all(random),
+    "exact: 20 unmarked" => with_most_unmarked(random),
+    "exact: 21 unmarked" => too_many_unmarked(random, MAX_UNMARKED + 1),
+    "exact: over 20 unmarked" => {
+        let unmarked = random.size(TOO_MANY);
+        too_many_unmarked(random, unmarked)
+    },
+    "exact: over 20 unmarked, not valid" => not_valid(random),
+    "exact: over 20 unmarked, output short" => output_short(random),
+    "exact: everything struck" => everything_struck(random),
+    "exact: nothing struck" => {
+        let shape = random_shape(random, Family::Lamps);
+        Some(Shape { unmarked: 0, ..shape }.make(random).case(random))
+    },
+    "exact: few actions, alike or free" => of_cycles(random, &ALIKE_OR_FREE),
+    "exact: cycles, up to 20 steps" => of_cycles(random, &[cycles::USUAL, cycles::MANY_WRITERS]),
+};
+
+const ALIKE_OR_FREE: [cycles::Shape; 3] = [
+    cycles::FEW_ACTIONS,
+    cycles::FREE_ACTIONS,
+    cycles::TIED_COSTS,
+];
+/// Numbers of steps at which a word of a mask ends, beside them, and the ends.
+const LENGTHS: [usize; 9] = [0, 1, 63, 64, 65, 127, 128, 129, MAX_STEPS];
+const SHORT: usize = 10;
+const TOO_MANY: RangeInclusive<usize> = MAX_UNMARKED + 1..=MAX_STEPS;
+/// Numbers of unmarked steps that don't take long.
+const FEW_UNMARKED: usize = 8;
+/// One case in so many has any number of unmarked steps.
+const SELDOM: usize = 16;
+/// One case in so many has 20 of them whatever its family.
+const VERY_SELDOM: usize = 128;
+
+/// The unmarked steps that a plan has room for: a gate has a marked step with each four that are not.
+fn room(steps: usize) -> usize {
+    steps * 4 / 5
+}
+
+fn random_shape(random: &mut Random, family: Family) -> Shape {
+    let few = random.size(0..=SHORT);
+    let more = random.size(0..=2 * MAX_UNMARKED);
+    let edge = random.pick(&LENGTHS);
+    let steps = random.pick(&[few, more, edge]);
+    let most = match random.once_in(SELDOM) {
+        true => MAX_UNMARKED,
+        false => FEW_UNMARKED,
+    };
+    Shape {
+        family,
+        placement: random.pick(&PLACEMENTS),
+        steps,
+        unmarked: random.size(0..=most.min(room(steps))),
+        costs: random_costs(random, MAX_ACTION_COST),
+    }
+}
+
+/// Costs that are alike, often alike, or seldom; the dearest among them.
+fn random_costs(random: &mut Random, most: usize) -> RangeInclusive<u32> {
+    let most = most as u32;
+    let lowest = random.pick(&[0, 0, 1, most - 1]);
+    let width = random.pick(&[0, 1, 3, 100, most]);
+    lowest..=(lowest + width).min(most)
+}
+
+impl Made {
+    fn case(&self, random: &mut Random) -> Case {
+        let case = plan_case(random, Service::Exact, &self.task, &self.plan);
+        match &self.kept {
+            Some(steps) => case.due(Answer::keeping(kept(&self.task, &self.plan, steps))),
+            None => case,
+        }
+    }
+}
+
+fn of_family(random: &mut Random, family: Family) -> Option<Case> {
+    Some(random_shape(random, family).make(random).case(random))
+}
+
+/// Steps that each give one goal fact, and one step that costs as much as they all and gives all: it
+/// is kept, since it is fewer.
+fn with_one_for_all(random: &mut Random) -> Option<Case> {
+    let goals = random.size(2..=6);
+    let costs = random_costs(random, MAX_ACTION_COST / goals);
+    let single = |goal| action(random.within(costs.clone()), vec![], vec![fact(goal, 1)]);
+    let mut actions: Vec<Action> = (0..goals).map(single).collect();
+    let cost_of_all = actions.iter().map(|action| action.cost).sum();
+    let goal: Vec<_> = (0..goals).map(|goal| fact(goal, 1)).collect();
+    let one = random.index(goals + 1);
+    actions.insert(one, action(cost_of_all, vec![], goal.clone()));
+    let made = Made {
+        plan: (0..actions.len() as u32).collect(),
+        kept: Some(vec![one]),
+        task: Task::from_zero(vec![2; goals], goal, actions),
+    };
+    Some(made.case(random))
+}
+
+/// A plan with so many unmarked steps, if there is room for them.
+fn with_unmarked(random: &mut Random, families: &[Family], unmarked: usize) -> Option<Made> {
+    let family = random.pick(families);
+    let shape = random_shape(random, family);
+    let shape = Shape { unmarked, ..shape };
+    (room(shape.steps) >= unmarked).then(|| shape.make(random))
+}
+
+/// Of the other families 20 steps reach so many states that the rules take long.
+fn with_most_unmarked(random: &mut Random) -> Option<Case> {
+    let families = match random.once_in(VERY_SELDOM) {
+        true => &FAMILIES[..],
+        false => &[Family::Lamps],
+    };
+    Some(with_unmarked(random, families, MAX_UNMARKED)?.case(random))
+}
+
+fn with_too_many(random: &mut Random) -> Option<Made> {
+    let unmarked = random.size(TOO_MANY);
+    with_unmarked(random, &FAMILIES, unmarked)
+}
+
+fn too_many_unmarked(random: &mut Random, unmarked: usize) -> Option<Case> {
+    let case = with_unmarked(random, &FAMILIES, unmarked)?.case(random);
+    Some(case.refused(Cause::Unmarked.at(unmarked)))
+}
+
+/// Whether a plan is valid is told before its marks are counted.
+fn not_valid(random: &mut Random) -> Option<Case> {
+    let made = with_too_many(random)?;
+    let mut walk = Walk::of(made.task, &made.plan);
+    let refusal = walk.spoil(random)?;
+    let case = plan_case(random, Service::Exact, &walk.task, &walk.plan);
+    Some(case.refused(refusal))
+}
+
+fn output_short(random: &mut Random) -> Option<Case> {
+    let made = with_too_many(random)?;
+    let steps = made.plan.len();
+    let shorter = random.size(0..=steps - 1);
+    let outputs = [random.pick(&[steps - 1, shorter]), 0];
+    let words = made.task.words();
+    let case = case_with(random, Service::Exact, &words, &made.plan, outputs);
+    Some(case.refused(Cause::ShortOutput.at(steps)))
+}
+
+/// The goal holds at the start, and at the end again.
+fn everything_struck(random: &mut Random) -> Option<Case> {
+    let length = random.size(1..=MAX_UNMARKED);
+    let Walk { mut task, plan, .. } = cycles::walk(random, cycles::USUAL, length);
+    let start = task.start();
+    task.goal.retain(|fact| fact.holds(&start));
+    let kept = Some(Vec::new());
+    Some(Made { task, plan, kept }.case(random))
+}
+
+fn of_cycles(random: &mut Random, shapes: &[cycles::Shape]) -> Option<Case> {
+    let shape = random.pick(shapes);
+    let length = random.size(0..=MAX_UNMARKED);
+    let walk = cycles::walk(random, shape, length);
+    Some(plan_case(random, Service::Exact, &walk.task, &walk.plan))
+}

@@ -1,0 +1,131 @@
+//! Marks, the three ways of striking and the cheaper of both eliminations, on plans that hold much
+//! to strike and on plans that hold little.
+
+use super::{case_with, kept, plan_case, service_for_valid, Make, QUICK_STEPS};
+use crate::cases::{Answer, Case, Service, REDUCING};
+use crate::makers::answered::{self, Answered};
+use crate::makers::cycles::{self, Shape};
+use crate::makers::{Random, Walk};
+use crate::rules::{mask_of, Cause, Refusal, MAX_STEPS, MAX_UNMARKED};
+
+pub const KINDS: &[(&str, Make)] = kinds! { random:
+    "reduction: cycles" => of_shape(random, cycles::USUAL, SHORT),
+    "reduction: cycles, many steps" => of_shape(random, cycles::USUAL, QUICK_STEPS),
+    "reduction: repeated actions" => of_shape(random, cycles::FEW_ACTIONS, SHORT),
+    "reduction: free actions" => of_shape(random, cycles::FREE_ACTIONS, SHORT),
+    "reduction: tied costs" => of_shape(random, cycles::TIED_COSTS, SHORT),
+    "reduction: goal held at the start" => of_goal_at_start(random),
+    "reduction: several writers of a fact" => of_shape(random, cycles::MANY_WRITERS, SHORT),
+    "reduction: 0 or 1 steps" => of_shape(random, cycles::USUAL, 1),
+    "reduction: steps beside mask words" => of_edge_length(random),
+    "reduction: task of any shape" => {
+        let walk = Walk::of_any_length(random)?;
+        Some(case_of(random, &walk))
+    },
+    "reduction: needed steps and lamps" => {
+        let [needed, lamps] = [(); 2].map(|_| random.size(0..=SHORT));
+        answered::with_lamps(random, needed, lamps).case(random)
+    },
+    "reduction: needed steps, few lamps" => {
+        let lamps = random.size(0..=3);
+        let steps = random.pick(&EDGE_LENGTHS).min(MAX_STEPS);
+        answered::with_lamps(random, steps - lamps, lamps).case(random)
+    },
+    "reduction: ways to one goal" => answered::with_ways(random).case(random),
+    "reduction: lifts, drains and drops" => answered::with_gates(random).case(random),
+    "reduction: output short" => with_short_output(random, |walk, _| short_output(walk)),
+    "reduction: output short, plan not valid" => with_short_output(random, |walk, random| {
+        walk.spoil(random)?;
+        short_output(walk)
+    }),
+    "reduction: output short, unknown action" => with_short_output(random, |walk, random| {
+        let step = walk.random_step(random)?;
+        walk.put_unknown_action(random, step)
+    }),
+};
+
+/// Numbers of steps at which a word of a mask ends, and beside them; the last one is too many.
+const EDGE_LENGTHS: [usize; 9] = [63, 64, 65, 127, 128, 129, 254, MAX_STEPS, MAX_STEPS + 1];
+const SHORT: usize = 14;
+
+fn case_of(random: &mut Random, walk: &Walk) -> Case {
+    let service = service_for_valid(random, walk.plan.len());
+    plan_case(random, service, &walk.task, &walk.plan)
+}
+
+fn of_shape(random: &mut Random, shape: Shape, most_steps: usize) -> Option<Case> {
+    let length = random.size(0..=most_steps);
+    let walk = cycles::walk(random, shape, length);
+    Some(case_of(random, &walk))
+}
+
+/// Some of the goal, or all of it, holds at the start.
+fn of_goal_at_start(random: &mut Random) -> Option<Case> {
+    let length = random.size(1..=SHORT);
+    let mut walk = cycles::walk(random, cycles::USUAL, length);
+    let start = walk.task.start();
+    if random.once_in(2) {
+        walk.task.goal.retain(|fact| fact.holds(&start));
+    }
+    let is_held = walk.task.goal.iter().any(|fact| fact.holds(&start));
+    is_held.then(|| case_of(random, &walk))
+}
+
+fn of_edge_length(random: &mut Random) -> Option<Case> {
+    let length = random.pick(&EDGE_LENGTHS);
+    let walk = cycles::walk(random, cycles::USUAL, length);
+    let case = case_of(random, &walk);
+    Some(match length > MAX_STEPS {
+        true => case.refused(Cause::PlanLength.at(MAX_STEPS)),
+        false => case,
+    })
+}
+
+impl Answered {
+    fn case(&self, random: &mut Random) -> Option<Case> {
+        let service = service_for_valid(random, self.plan.len());
+        let case = plan_case(random, service, &self.task, &self.plan);
+        let unmarked = self.plan.len() - self.marked.len();
+        Some(match service {
+            Service::Exact if unmarked > MAX_UNMARKED => case.refused(Cause::Unmarked.at(unmarked)),
+            _ => case.due(self.answer(service)),
+        })
+    }
+
+    fn answer(&self, service: Service) -> Answer {
+        let [eliminated, greedy] =
+            [&self.eliminated, &self.greedy].map(|steps| kept(&self.task, &self.plan, steps));
+        match service {
+            Service::Marks => Answer::marking(mask_of(self.marked.iter().copied())),
+            Service::Eliminate => Answer::keeping(eliminated),
+            Service::Cheaper => Answer::keeping_both([eliminated, greedy]),
+            Service::Greedy | Service::Exact => Answer::keeping(greedy),
+            _ => {
+                let walk = Walk::of(self.task.clone(), &self.plan);
+                let answer = Answer::accepted(&[walk.cost(), walk.plan.len()]);
+                answer.with_state(walk.end())
+            }
+        }
+    }
+}
+
+fn short_output(walk: &Walk) -> Option<Refusal> {
+    Some(Cause::ShortOutput.at(walk.plan.len()))
+}
+
+/// One output is shorter than the plan or both are; what is kept may well fit.
+fn with_short_output(
+    random: &mut Random,
+    spoil: impl Fn(&mut Walk, &mut Random) -> Option<Refusal>,
+) -> Option<Case> {
+    let steps = random.size(1..=2 * SHORT);
+    let mut walk = cycles::walk(random, cycles::USUAL, steps);
+    let refusal = spoil(&mut walk, random)?;
+    let service = random.pick(&REDUCING);
+    let mut outputs = [(); 2].map(|_| random.size(0..=2 * steps));
+    let taken = if service == Service::Cheaper { 2 } else { 1 };
+    let short = random.index(taken);
+    outputs[short] = random.pick(&[steps - 1, outputs[short] % steps]);
+    let case = case_with(random, service, &walk.task.words(), &walk.plan, outputs);
+    Some(case.refused(refusal))
+}

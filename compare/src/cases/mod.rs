@@ -1,0 +1,93 @@
+//! Cases: calls of services with all that is lent to them and, where the way that a case was made
+//! tells it, the answer that is due.
+
+mod answer;
+pub mod kinds;
+mod memory;
+mod service;
+pub mod worked;
+
+pub use answer::Answer;
+pub use memory::{Lent, Memory};
+pub use service::{Lengths, Service, LEFT, REDUCING, SERVICES, TAKEN, TAKING_PLAN};
+
+use crate::rules::Refusal;
+
+/// A service and the numbers that it takes beside slices; those that it doesn't take are zero.
+#[derive(Clone, Copy)]
+pub struct Call {
+    pub service: Service,
+    pub numbers: [u32; 4],
+}
+
+pub struct Case {
+    pub call: Call,
+    /// As it stands before the call; a slice that the service doesn't take is empty.
+    pub lent: Memory,
+    pub due: Option<Answer>,
+}
+
+impl Case {
+    /// A case with these lengths of what the service writes to, full of words by the filler.
+    pub fn filled(
+        service: Service,
+        words: &[u32],
+        plan: &[u32],
+        lengths: Lengths,
+        mut filler: impl FnMut() -> u64,
+    ) -> Self {
+        let mut fill = |length| -> Vec<u64> { (0..length).map(|_| filler()).collect() };
+        let narrow = |words: Vec<u64>| words.iter().map(|&word| word as u32).collect::<Vec<u32>>();
+        let lent = Memory {
+            out: Lent::of(fill(lengths.out)),
+            words: Lent::of(words),
+            plan: Lent::of(plan),
+            state: Lent::of(narrow(fill(lengths.state))),
+            first: Lent::of(narrow(fill(lengths.outputs[0]))),
+            second: Lent::of(narrow(fill(lengths.outputs[1]))),
+            mask: Lent::of(fill(lengths.mask)),
+            ..Memory::default()
+        };
+        let numbers = [0; 4];
+        let call = Call { service, numbers };
+        let due = None;
+        Case { call, lent, due }
+    }
+
+    /// The lengths are those that the service needs, and the words are such as no answer has.
+    pub fn fitting(service: Service, words: &[u32], plan: &[u32], outputs: [usize; 2]) -> Self {
+        let lengths = service.lengths(outputs);
+        Case::filled(service, words, plan, lengths, || u64::MAX)
+    }
+
+    /// A case of the kept part of these outputs.
+    pub fn of_parts(outputs: [Vec<u32>; 2], part: Vec<u32>) -> Self {
+        let mut case = Case::fitting(Service::KeptPart, &[], &[], [0; 2]);
+        let [first, second] = outputs;
+        case.lent.first = Lent::of(first);
+        case.lent.second = Lent::of(second);
+        case.lent.part = Lent::of(part);
+        case
+    }
+
+    pub fn with_numbers(mut self, numbers: [u32; 4]) -> Self {
+        self.call.numbers = numbers;
+        self
+    }
+
+    pub fn with_state(mut self, state: &[u32]) -> Self {
+        self.lent.state = Lent::of(state);
+        self
+    }
+
+    pub fn due(self, answer: Answer) -> Self {
+        let due = Some(answer);
+        Case { due, ..self }
+    }
+
+    /// The case was made to be refused.
+    pub fn refused(self, refusal: Refusal) -> Self {
+        let answer = Answer::refused(self.call.service, refusal);
+        self.due(answer)
+    }
+}

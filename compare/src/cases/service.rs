@@ -1,0 +1,122 @@
+//! The services under test: what each one takes and writes, and the answers that a run must show.
+
+use crate::rules::{MASK_WORDS, MAX_VARIABLES};
+use Service::*;
+
+/// Declares the services, each with its name.
+macro_rules! services {
+    ($($service:ident = $name:literal,)*) => {
+        #[derive(Clone, Copy, PartialEq, Eq)]
+        pub enum Service {
+            $($service),*
+        }
+
+        pub const SERVICES: &[Service] = &[$($service),*];
+
+        impl Service {
+            pub fn name(self) -> &'static str {
+                match self {
+                    $($service => $name),*
+                }
+            }
+        }
+    };
+}
+
+services! {
+    CheckSheet = "check_sheet",
+    Step = "step",
+    CheckPlan = "check_plan",
+    TallyAdd = "tally_add",
+    TallyCompare = "tally_compare",
+    Marks = "marks",
+    Eliminate = "eliminate",
+    Greedy = "greedy",
+    Exact = "exact",
+    Cheaper = "cheaper",
+    KeptPart = "kept_part",
+}
+
+/// Those that strike steps of a plan.
+pub const REDUCING: [Service; 4] = [Eliminate, Greedy, Exact, Cheaper];
+pub const TAKING_PLAN: [Service; 6] = [CheckPlan, Marks, Eliminate, Greedy, Exact, Cheaper];
+
+/// The lengths of the slices that a service writes to; that of one step's state is left out.
+pub struct Lengths {
+    pub state: usize,
+    pub outputs: [usize; 2],
+    pub mask: usize,
+    pub out: usize,
+}
+
+/// A tally that took the step, and one that came back unchanged.
+pub const TAKEN: u64 = 0;
+pub const LEFT: u64 = 1;
+
+impl Service {
+    /// The numbers that it takes beside slices.
+    pub fn numbers(self) -> &'static [&'static str] {
+        match self {
+            Step => &["action"],
+            TallyAdd => &["cost", "steps", "cost of one more"],
+            TallyCompare | KeptPart => &["cost", "steps", "second cost", "second steps"],
+            _ => &[],
+        }
+    }
+
+    /// What the words of `out` are.
+    pub fn out(self) -> &'static [&'static str] {
+        match self {
+            CheckSheet | Step | Marks => &["refusal number", "place"],
+            CheckPlan | Eliminate | Greedy | Exact => &["refusal number", "place", "cost", "steps"],
+            Cheaper => &["refusal number", "place", "cost", "steps", "cost", "steps"],
+            TallyAdd => &["cost", "steps"],
+            TallyCompare | KeptPart => &[],
+        }
+    }
+
+    pub fn takes_sheet(self) -> bool {
+        !matches!(self, TallyAdd | TallyCompare | KeptPart)
+    }
+
+    pub fn takes_plan(self) -> bool {
+        TAKING_PLAN.contains(&self)
+    }
+
+    /// What the service needs, with outputs of these lengths where it takes them.
+    pub fn lengths(self, outputs: [usize; 2]) -> Lengths {
+        let [first, second] = outputs;
+        Lengths {
+            state: match self {
+                CheckPlan => MAX_VARIABLES,
+                _ => 0,
+            },
+            outputs: match self {
+                Eliminate | Greedy | Exact => [first, 0],
+                Cheaper => [first, second],
+                _ => [0, 0],
+            },
+            mask: match self {
+                Marks | Eliminate | Greedy | Exact => MASK_WORDS,
+                _ => 0,
+            },
+            out: self.out().len(),
+        }
+    }
+
+    /// 0 for acceptance and its refusal numbers, or what an answer without them is counted as.
+    pub fn answers(self) -> &'static [u64] {
+        match self {
+            CheckSheet => &[0, 1, 2, 3, 4, 5, 6, 7],
+            Step => &[0, 1, 2, 3, 4, 5, 6, 7, 9, 11],
+            CheckPlan | Marks => &[0, 1, 2, 3, 4, 5, 6, 7, 8, 9, 11],
+            Eliminate | Greedy | Cheaper => &[0, 1, 2, 3, 4, 5, 6, 7, 8, 9, 10, 11],
+            Exact => &[0, 1, 2, 3, 4, 5, 6, 7, 8, 9, 10, 11, 12],
+            TallyAdd => &[TAKEN, LEFT],
+            // Below, equal, above.
+            TallyCompare => &[0, 1, 2],
+            // The index of the output whose part is shown.
+            KeptPart => &[0, 1],
+        }
+    }
+}

@@ -1,0 +1,267 @@
+//! The worked lists of document 01 and the numbers at its limits, with the answers written out by
+//! hand from its text: they hold the independent version to the document.
+
+mod sheets;
+
+pub use sheets::{with_lamp_cost, SHEET_P};
+
+use super::{Answer, Case, Service, TAKING_PLAN};
+use crate::rules::{Cause, Kept, Mask, MAX_VARIABLES};
+use sheets::{DEAREST, GATE_ALONE, LAMP, TWO_WAYS, U_AND_V};
+
+/// A case with its name in a report of differences.
+type Worked = (&'static str, Case);
+
+pub const LIST_1: [u32; 6] = [3, 0, 2, 0, 1, 2];
+const LIFT_DRAIN_DROP: [u32; 3] = [0, 1, 2];
+
+pub fn cases() -> Vec<Worked> {
+    let mut cases = valid_plans();
+    cases.extend(limits());
+    cases.extend(steps());
+    cases.extend(tallies());
+    cases.extend(reductions());
+    cases.extend(refusals());
+    cases.extend(short_outputs());
+    cases.extend(unmarked());
+    cases.extend(kept_parts());
+    cases
+}
+
+fn check_sheet(words: &[u32]) -> Case {
+    Case::fitting(Service::CheckSheet, words, &[], [0; 2])
+}
+
+fn valid(words: &[u32], plan: &[u32], cost: usize, end: &[u32]) -> Case {
+    let answer = Answer::accepted(&[cost, plan.len()]);
+    let case = Case::fitting(Service::CheckPlan, words, plan, [0; 2]);
+    case.due(answer.with_state(&state(end)))
+}
+
+/// The first values of a state whose others are zero.
+fn state(values: &[u32]) -> Vec<u32> {
+    let mut state = values.to_vec();
+    state.resize(MAX_VARIABLES, 0);
+    state
+}
+
+/// As many lamps as it takes before list 3 for a plan of this length.
+fn lamps_then_drain(length: usize) -> Vec<u32> {
+    let mut plan = vec![LAMP; length - LIFT_DRAIN_DROP.len()];
+    plan.extend(LIFT_DRAIN_DROP);
+    plan
+}
+
+fn valid_plans() -> Vec<Worked> {
+    let accepted = Answer::accepted(&[]);
+    vec![
+        ("sheet P", check_sheet(&SHEET_P).due(accepted)),
+        ("list 1", valid(&SHEET_P, &LIST_1, 23, &[0, 1, 1])),
+        ("list 3", valid(&SHEET_P, &LIFT_DRAIN_DROP, 12, &[0, 1])),
+    ]
+}
+
+/// List 11, and the cost of the dearest plan.
+fn limits() -> Vec<Worked> {
+    let dear = with_lamp_cost(1_000_000);
+    let too_dear = with_lamp_cost(1_000_001);
+    let refusal = Cause::Cost.at(3);
+    let dear_plan = Case::fitting(Service::Exact, &dear, &LIFT_DRAIN_DROP, [3, 0]);
+    let all_three = kept(short(0b111), 12, &LIFT_DRAIN_DROP);
+    let too_dear_plan = |service| Case::fitting(service, &too_dear, &[], [0; 2]).refused(refusal);
+    let longest = lamps_then_drain(255);
+    vec![
+        ("255 steps", valid(&SHEET_P, &longest, 264, &[0, 1, 1])),
+        ("price limit", check_sheet(&dear).due(Answer::accepted(&[]))),
+        ("price limit", dear_plan.due(Answer::keeping(all_three))),
+        ("price", check_sheet(&too_dear).refused(refusal)),
+        ("price, plan", too_dear_plan(Service::CheckPlan)),
+        ("price, plan", too_dear_plan(Service::Exact)),
+        ("dearest", valid(&DEAREST, &[0; 255], 255_000_000, &[])),
+    ]
+}
+
+/// The second state has values outside the domains.
+fn steps() -> Vec<Worked> {
+    let step = |values, action| {
+        let case = Case::fitting(Service::Step, &SHEET_P, &[], [0; 2]);
+        case.with_state(&state(values))
+            .with_numbers([action, 0, 0, 0])
+    };
+    let to = |values| Answer::accepted(&[]).with_state(&state(values));
+    vec![
+        ("lift", step(&[], 0).due(to(&[1]))),
+        ("lamp", step(&[9, 9], LAMP).due(to(&[9, 9, 1]))),
+        ("drop", step(&[], 2).refused(Cause::NotValid.at(1))),
+        ("unknown", step(&[], 4).refused(Cause::UnknownAction.at(1))),
+    ]
+}
+
+fn tallies() -> Vec<Worked> {
+    let of = |service| Case::fitting(service, &[], &[], [0; 2]);
+    let add = |[cost, steps]: [u32; 2], more, after| {
+        let case = of(Service::TallyAdd).with_numbers([cost, steps, more, 0]);
+        case.due(Answer::telling(after))
+    };
+    let compare = |numbers, returned| {
+        let case = of(Service::TallyCompare).with_numbers(numbers);
+        case.due(Answer::returning(returned))
+    };
+    let million = 1_000_000;
+    let [below, full, past] = [254 * million, 255 * million, 255 * million + 1];
+    let most = u32::MAX;
+    vec![
+        ("first step", add([0, 0], 5, [5, 1])),
+        ("255th step", add([10, 254], 0, [10, 255])),
+        ("256th step", add([10, 255], 1, [10, 255])),
+        ("to the limit", add([below, 7], million, [full, 8])),
+        ("past it", add([below, 7], million + 1, [below, 7])),
+        ("free, past it", add([past, 7], 0, [past, 7])),
+        ("past 2^32", add([most, 0], 1, [most, 0])),
+        ("cheaper", compare([12, 6, 23, 3], 0)),
+        ("alike", compare([12, 3, 12, 3], 1)),
+        ("more steps", compare([12, 4, 12, 3], 2)),
+    ]
+}
+
+/// A mask of a list of at most 64 steps.
+fn short(word: u64) -> Mask {
+    [word, 0, 0, 0]
+}
+
+fn kept(mask: Mask, cost: usize, actions: &[u32]) -> Kept {
+    Kept {
+        cost,
+        actions: actions.to_vec(),
+        mask,
+    }
+}
+
+/// A list with its marks and what elimination, greedy elimination and the exact reduction keep.
+fn list(
+    name: &'static str,
+    words: &[u32],
+    plan: &[u32],
+    marks: Mask,
+    kept: [Kept; 3],
+) -> Vec<Worked> {
+    let [eliminated, greedy, exact] = kept;
+    let both = [eliminated.clone(), greedy.clone()];
+    let answers = [
+        (Service::Marks, Answer::marking(marks)),
+        (Service::Eliminate, Answer::keeping(eliminated)),
+        (Service::Greedy, Answer::keeping(greedy)),
+        (Service::Cheaper, Answer::keeping_both(both)),
+        (Service::Exact, Answer::keeping(exact)),
+    ];
+    // The second output is longer than it has to be.
+    let outputs = [plan.len(), plan.len() + 2];
+    let case = |(service, answer)| {
+        (
+            name,
+            Case::fitting(service, words, plan, outputs).due(answer),
+        )
+    };
+    answers.map(case).into()
+}
+
+/// Elimination on list 8, of which the document is silent, keeps step 2. The last step of the
+/// longest list is bit 62 of the mask's last word; the exact reduction refuses that list.
+fn reductions() -> Vec<Worked> {
+    let alike = |kept: Kept| [kept.clone(), kept.clone(), kept];
+    let in_p = |name, plan: &[u32], marks, mask| {
+        let kept = alike(kept(mask, 12, &LIFT_DRAIN_DROP));
+        list(name, &SHEET_P, plan, marks, kept)
+    };
+    let [first, second] = [kept(short(0b01), 1, &[0]), kept(short(0b10), 9, &[1])];
+    let ways = [second, first.clone(), first];
+    let both = kept(short(0b010), 6, &[1]);
+    let covers = [both.clone(), kept(short(0b101), 8, &[0, 2]), both];
+    let nothing = alike(kept(short(0), 0, &[]));
+    let last_word = |bits: u64| [0, 0, 0, bits << 60];
+    let longest = lamps_then_drain(255);
+    let mut longest = in_p("255 steps", &longest, last_word(0b011), last_word(0b111));
+    longest.pop();
+    let lists = [
+        in_p("lists 1 and 2", &LIST_1, short(0b010000), short(0b111000)),
+        in_p("list 3", &LIFT_DRAIN_DROP, short(0b011), short(0b111)),
+        list("list 7", &TWO_WAYS, &[0, 1], short(0), ways),
+        list("list 8", &U_AND_V, &[0, 1, 2], short(0), covers),
+        list("list 9", &GATE_ALONE, &[0, 2], short(0), nothing),
+        longest,
+    ];
+    lists.into_iter().flatten().collect()
+}
+
+/// Lists 4 to 6 and 11. That a list is too long is told before that the outputs are too short.
+fn refusals() -> Vec<Worked> {
+    let too_long = lamps_then_drain(256);
+    let mut cases = Vec::new();
+    for service in TAKING_PLAN {
+        let in_p = |plan: &[u32], outputs| Case::fitting(service, &SHEET_P, plan, outputs);
+        let not_valid = |plan, place| in_p(plan, [2; 2]).refused(Cause::NotValid.at(place));
+        let too_long = in_p(&too_long, [0; 2]).refused(Cause::PlanLength.at(255));
+        cases.push(("list 4", not_valid(&[], 1)));
+        cases.push(("list 5", not_valid(&[0, 0], 2)));
+        cases.push(("list 6", not_valid(&[0, 1], 3)));
+        cases.push(("256 steps", too_long));
+    }
+    cases
+}
+
+/// Outputs are looked at before the steps are done and before marks are counted.
+fn short_outputs() -> Vec<Worked> {
+    let short = |service, plan: &[u32], outputs| {
+        let refusal = Cause::ShortOutput.at(plan.len());
+        Case::fitting(service, &SHEET_P, plan, outputs).refused(refusal)
+    };
+    let unmarked_21 = short(Service::Exact, &lamps_then_drain(23), [22, 0]);
+    let mut cases = vec![("short output, 21 unmarked", unmarked_21)];
+    for (service, outputs) in [
+        (Service::Eliminate, [2, 0]),
+        (Service::Greedy, [2, 0]),
+        (Service::Exact, [2, 0]),
+        (Service::Cheaper, [2, 3]),
+        (Service::Cheaper, [3, 2]),
+    ] {
+        let valid = short(service, &LIFT_DRAIN_DROP, outputs);
+        let not_valid = short(service, &[0, 0, 1], outputs);
+        cases.push(("short output", valid));
+        cases.push(("short output, not valid", not_valid));
+    }
+    cases
+}
+
+/// List 10. In list 3 behind lamps the lift and the drain are marked.
+fn unmarked() -> Vec<Worked> {
+    let behind_lamps = |steps| {
+        let plan = lamps_then_drain(steps);
+        Case::fitting(Service::Exact, &SHEET_P, &plan, [steps, 0])
+    };
+    let last_three = kept(short(0b111 << 19), 12, &LIFT_DRAIN_DROP);
+    let refused = |steps| behind_lamps(steps).refused(Cause::Unmarked.at(steps - 2));
+    vec![
+        ("list 10", behind_lamps(22).due(Answer::keeping(last_three))),
+        ("list 10, refused", refused(23)),
+        ("255 steps, refused", refused(255)),
+    ]
+}
+
+/// The parts shown for lists 7 and 8, for two alike, for fewer steps, after a refusal, and of an
+/// output that is shorter than its tally has steps.
+fn kept_parts() -> Vec<Worked> {
+    let [first, second] = [vec![1, 5, 6], vec![0, 2]];
+    let shown = |numbers, part: &[u32]| {
+        let room = vec![u32::MAX; first.len()];
+        let case = Case::of_parts([first.clone(), second.clone()], room);
+        case.with_numbers(numbers).due(Answer::showing(part))
+    };
+    vec![
+        ("part, list 7", shown([9, 1, 1, 1], &[0])),
+        ("part, list 8", shown([6, 1, 8, 2], &[1])),
+        ("part, alike", shown([4, 2, 4, 2], &[1, 5])),
+        ("part, fewer steps", shown([4, 2, 4, 1], &[0])),
+        ("part, refused", shown([0, 0, 0, 0], &[])),
+        ("part, whole", shown([4, u32::MAX, 3, 3], &[0, 2])),
+    ]
+}

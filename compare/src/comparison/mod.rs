@@ -1,0 +1,86 @@
+//! The comparison: the services of the library and the built programs, held to the rules.
+
+pub mod by_rules;
+mod faulty;
+pub mod inputs;
+pub mod library;
+pub mod programs;
+mod record;
+mod report;
+pub mod self_test;
+mod services;
+mod text;
+
+use crate::cases::SERVICES;
+use programs::Built;
+use record::Record;
+use std::fs::File;
+use std::io::{self, Read};
+use std::time::{Duration, Instant};
+
+/// How long a long run takes unless it is said.
+pub const LONG_SECONDS: u64 = 600;
+const CASES_OF_ROUND: u64 = 100_000;
+
+/// Tries the worked lists on the rules alone. Answers whether nothing failed, as the others do.
+pub fn worked() -> bool {
+    let mut record = Record::default();
+    services::try_worked(&mut record, false);
+    record.finish()
+}
+
+/// Tries the one random case with this number.
+pub fn one(seed: u64, case: u64) -> bool {
+    let mut record = Record::default();
+    services::try_random(&mut record, seed, case..=case);
+    record.finish()
+}
+
+/// Tries the programs, the worked lists and so many random cases.
+pub fn all(built: &[Built], seed: u64, cases: u64) -> bool {
+    let mut record = expecting_all(built);
+    programs::compare(&mut record, built, &inputs::fixed());
+    programs::compare(&mut record, built, &inputs::of_random_cases(seed));
+    services::try_worked(&mut record, true);
+    services::try_random(&mut record, seed, 1..=cases);
+    record.finish()
+}
+
+/// A run as long as wished: rounds of random cases and of input for the programs, each round with a
+/// seed of its own. Every round but the last, which the end of the time cuts off, is the same in
+/// each run from the same first seed.
+pub fn long(built: &[Built], first_seed: u64, seconds: u64) -> bool {
+    println!("first seed {first_seed}; again: compare/run --long {seconds} --seed {first_seed}");
+    let mut record = expecting_all(built);
+    record.end = Some(Instant::now() + Duration::from_secs(seconds));
+    services::try_worked(&mut record, true);
+    programs::compare(&mut record, built, &inputs::fixed());
+    let mut rounds = 0;
+    while !record.is_over() {
+        let seed = first_seed.wrapping_add(rounds);
+        programs::compare(&mut record, built, &inputs::of_random_cases(seed));
+        services::try_random(&mut record, seed, 1..=CASES_OF_ROUND);
+        rounds += 1;
+    }
+    println!("first seed {first_seed}; rounds of {CASES_OF_ROUND} cases begun: {rounds}");
+    record.finish()
+}
+
+/// The record of a run that must show every answer of the services and of these programs.
+fn expecting_all(built: &[Built]) -> Record {
+    let mut record = Record::default();
+    for service in SERVICES {
+        record.expect(service.name(), service.answers());
+    }
+    for Built { program, .. } in built {
+        record.expect(program.name, program.answers);
+    }
+    record
+}
+
+/// A first seed that no run before has had: half a word, so that the seeds of all rounds fit in one.
+pub fn fresh_seed() -> io::Result<u64> {
+    let mut bytes = [0; 4];
+    File::open("/dev/urandom")?.read_exact(&mut bytes)?;
+    Ok(u64::from(u32::from_le_bytes(bytes)))
+}

@@ -1,0 +1,80 @@
+//! The record of a run: what it has tried, what was answered, and how many answers differed.
+
+use super::text;
+use std::collections::BTreeMap;
+use std::time::Instant;
+
+/// After so many differences the run ends.
+const MOST_DIFFERENCES: usize = 5;
+
+#[derive(Default)]
+pub struct Record {
+    pub differences: usize,
+    /// When the run ends, unless what there is to try ends it.
+    pub end: Option<Instant>,
+    /// The cases tried of each kind, by its name.
+    counts: BTreeMap<&'static str, usize>,
+    /// The answers seen of each service and of each program, by its name.
+    answers: BTreeMap<&'static str, BTreeMap<u64, usize>>,
+    /// The answers that the run must show.
+    expected: Vec<(&'static str, &'static [u64])>,
+}
+
+impl Record {
+    /// Has the run show each of these answers of a service or a program: a run that never saw one
+    /// shows too little.
+    pub fn expect(&mut self, name: &'static str, answers: &'static [u64]) {
+        self.expected.push((name, answers));
+    }
+
+    pub fn is_over(&self) -> bool {
+        let is_late = self.end.is_some_and(|end| Instant::now() >= end);
+        is_late || self.differences >= MOST_DIFFERENCES
+    }
+
+    /// Counts a case of the kind, and its answer as one of the service or program.
+    pub fn count(&mut self, kind: &'static str, name: &'static str, answer: u64) {
+        *self.counts.entry(kind).or_default() += 1;
+        let seen = self.answers.entry(name).or_default();
+        *seen.entry(answer).or_default() += 1;
+    }
+
+    /// Counts a difference and prints its title; the case is to be printed behind it.
+    pub fn differ(&mut self, title: &str) {
+        self.differences += 1;
+        println!("\n# difference {}: {title}", self.differences);
+    }
+
+    /// Prints what was tried, and answers whether nothing differed and everything expected was seen.
+    pub fn finish(&self) -> bool {
+        for (kind, &count) in &self.counts {
+            print_count(kind, count);
+        }
+        let mut all_seen = true;
+        for (name, answers) in &self.expected {
+            all_seen &= self.print_answers(name, answers);
+        }
+        let tried: usize = self.counts.values().sum();
+        println!("compared {tried} cases, {} differences", self.differences);
+        self.differences == 0 && all_seen
+    }
+
+    /// Answers whether each was seen. A run that differences have ended has failed anyway.
+    fn print_answers(&self, name: &str, answers: &[u64]) -> bool {
+        let seen = self.answers.get(name);
+        let times = |answer: &u64| *seen.and_then(|seen| seen.get(answer)).unwrap_or(&0);
+        let listed = answers.iter().map(|it| format!("{it}: {}", times(it)));
+        let listed: Vec<String> = listed.collect();
+        println!("answers of {name}: {}", listed.join(", "));
+        let unseen = answers.iter().copied().filter(|it| times(it) == 0);
+        let unseen: Vec<u64> = unseen.collect();
+        if !unseen.is_empty() && self.differences == 0 {
+            println!("never answered by {name}: {}", text::listed(&unseen));
+        }
+        unseen.is_empty()
+    }
+}
+
+pub fn print_count(kind: &str, count: usize) {
+    println!("{kind:<42} {count:>9}");
+}

@@ -1,0 +1,52 @@
+//! Prints a case whose answers differ. All but the words of the sheet and the plan is a comment, so
+//! that the text can be fed back as it is printed.
+
+use super::text;
+use crate::cases::{Call, Case, Memory};
+
+pub fn print_difference(case: &Case, by_rules: &Memory, by_library: Option<&Memory>) {
+    let Case { call, lent, due } = case;
+    println!("# call: {}", described(*call));
+    if call.service.takes_sheet() {
+        let length_and_plan = text::length_and_plan(&lent.plan);
+        print!("{}", text::of_input(&lent.words, &length_and_plan));
+    }
+    println!("# out has: {}", call.service.out().join(", "));
+    let print_answer = |title, memory: &Memory| {
+        println!("# {title}, returned {}:", memory.returned);
+        print_memory(memory, lent);
+    };
+    println!("# lent:");
+    print_memory(lent, lent);
+    if let Some(memory) = by_library {
+        print_answer("the library answers", memory);
+    }
+    print_answer("the rules answer", by_rules);
+    if let Some(due) = due {
+        print_answer("due by the way it was made", &lent.after(due));
+    }
+}
+
+fn described(call: Call) -> String {
+    let named = call.service.numbers().iter().zip(call.numbers);
+    let numbers = named.map(|(name, number)| format!(", {name} {number}"));
+    format!("{}{}", call.service.name(), numbers.collect::<String>())
+}
+
+/// A slice that the service doesn't take is empty, and not printed.
+fn print_memory(memory: &Memory, lent: &Memory) {
+    for (name, (words, guards_stand)) in memory.written() {
+        if !words.is_empty() {
+            println!("#   {name} ({}): {}", words.len(), words.join(" "));
+        }
+        print_if_changed(&format!("memory beside {name}"), guards_stand);
+    }
+    print_if_changed("words", memory.words == lent.words);
+    print_if_changed("plan", memory.plan == lent.plan);
+}
+
+fn print_if_changed(name: &str, is_as_before: bool) {
+    if !is_as_before {
+        println!("#   {name} changed");
+    }
+}

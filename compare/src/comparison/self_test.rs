@@ -1,0 +1,119 @@
+//! Tests the comparison itself, without the library: the ways of finding the exact reduction are
+//! held to each other, exact reductions with a fault must be found out, and the text of a case must
+//! read back as its words.
+
+use super::faulty::FAULTS;
+use super::inputs::input_bytes;
+use super::record::print_count;
+use super::{by_rules, text};
+use crate::cases::worked::{self, LIST_1, SHEET_P};
+use crate::cases::{kinds, Case, Memory, Service};
+use crate::rules::{printed_by_shorten, search, Lodged};
+
+/// All reductions of plans of at most so many steps are gone through.
+const FEW_STEPS: usize = 12;
+/// The random cases that are made; those of other services are passed over.
+const CASES_FOR_WAYS: u64 = 40_000;
+const CASES_FOR_FAULTS: u64 = 4_000;
+const CASES_FOR_TEXTS: u64 = 2_000;
+
+/// What document 01 has its program print for sheet P and list 1.
+const PRINTED: &str = "lodged 6 23\nmarked 1\nkept 3 12\n4 0 5\n5 1 2\n6 2 5\n";
+
+/// Answers whether nothing failed.
+pub fn run(seed: u64) -> bool {
+    lines_are_as_documented()
+        && texts_read_back(seed)
+        && ways_are_alike(seed)
+        && faults_are_found(seed)
+}
+
+fn lines_are_as_documented() -> bool {
+    let printed = printed_by_shorten(&input_bytes(&SHEET_P, &LIST_1));
+    let alike = printed == PRINTED;
+    if !alike {
+        println!("by the rules the program prints for list 1:\n{printed}");
+    }
+    alike
+}
+
+/// The random cases up to a number, with their numbers.
+fn numbered_cases(seed: u64, last: u64) -> impl Iterator<Item = (u64, Case)> {
+    let kinds = kinds::all();
+    (1..=last).map(move |number| (number, kinds::numbered(&kinds, seed, number).1))
+}
+
+fn is_exact(case: &Case) -> bool {
+    case.call.service == Service::Exact
+}
+
+/// Sheets of every fault among them.
+fn texts_read_back(seed: u64) -> bool {
+    let reads_back = |Memory { words, plan, .. }: &Memory| {
+        let length_and_plan = text::length_and_plan(plan);
+        let all = [&words[..], &length_and_plan].concat();
+        let text = text::of_input(words, &length_and_plan);
+        words_in(&text) == all && words_in(&text::of_program_input(&all)) == all
+    };
+    let failing = numbered_cases(seed, CASES_FOR_TEXTS).find(|(_, case)| !reads_back(&case.lent));
+    if let Some((number, _)) = &failing {
+        println!("the text has other words: --seed {seed} --case {number}");
+    }
+    print_count("texts that read back", CASES_FOR_TEXTS as usize);
+    failing.is_none()
+}
+
+fn words_in(text: &str) -> Vec<u32> {
+    text.lines()
+        .filter_map(|line| line.split('#').next())
+        .flat_map(str::split_whitespace)
+        .map(|word| word.parse().expect("the text has only numbers"))
+        .collect()
+}
+
+/// The rules' way by states and the search against each other, and against the way through all
+/// reductions where there are few enough.
+fn ways_are_alike(seed: u64) -> bool {
+    let (mut tried, mut tried_all) = (0, 0);
+    let cases = numbered_cases(seed, CASES_FOR_WAYS).filter(|(_, case)| is_exact(case));
+    for (number, case) in cases {
+        let (words, plan, output) = (&case.lent.words, &case.lent.plan, case.lent.first.len());
+        let Ok(lodged) = Lodged::check_unmarked(words, plan, output) else {
+            continue;
+        };
+        let has_few = plan.len() <= FEW_STEPS;
+        let by_states = lodged.least_by_states();
+        let by_search = search::exact(words, plan, output);
+        let as_searched = by_search.is_ok_and(|kept| kept.steps().eq(by_states.iter().copied()));
+        let is_least = !has_few || lodged.least_of_all() == by_states;
+        if !(as_searched && is_least) {
+            println!("ways of the exact reduction differ: --seed {seed} --case {number}");
+            return false;
+        }
+        tried += 1;
+        tried_all += usize::from(has_few);
+    }
+    print_count("exact reduction, by states and by search", tried);
+    print_count("exact reduction, among all as well", tried_all);
+    tried_all > 0
+}
+
+fn faults_are_found(seed: u64) -> bool {
+    let worked = worked::cases().into_iter().map(|(_, case)| case);
+    let random = numbered_cases(seed, CASES_FOR_FAULTS).map(|(_, case)| case);
+    let with_answer = |Case { call, lent, .. }| {
+        let right = lent.after(&by_rules::answer(call, &lent));
+        (lent, right)
+    };
+    let cases = worked.chain(random).filter(is_exact).map(with_answer);
+    let cases: Vec<(Memory, Memory)> = cases.collect();
+    let mut all_found = true;
+    for (name, faulty) in FAULTS {
+        let found = cases.iter().filter(|(lent, right)| faulty(lent) != *right);
+        let found = found.count();
+        print_count(&format!("fault found: {name}"), found);
+        all_found &= found > 0;
+    }
+    print_count("cases that the faults were tried on", cases.len());
+    all_found
+}

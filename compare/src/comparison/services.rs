@@ -1,0 +1,57 @@
+//! Compares the services: the library against the rules, and the rules against the answers that are
+//! due.
+
+use super::record::Record;
+use super::{by_rules, library, report};
+use crate::cases::{kinds, worked, Case};
+use std::ops::RangeInclusive;
+
+const WORKED: &str = "document 01: worked lists and limits";
+
+/// Tries the worked lists, on the rules alone or on the library too.
+pub fn try_worked(record: &mut Record, with_library: bool) {
+    for (name, case) in worked::cases() {
+        if record.is_over() {
+            break;
+        }
+        let title = || format!("{WORKED}: {name}");
+        try_case(record, WORKED, &case, with_library, title);
+    }
+}
+
+pub fn try_random(record: &mut Record, seed: u64, numbers: RangeInclusive<u64>) {
+    let kinds = kinds::all();
+    for number in numbers {
+        if record.is_over() {
+            break;
+        }
+        let (kind, case) = kinds::numbered(&kinds, seed, number);
+        let title = || format!("{kind}\n# replay: compare/run --seed {seed} --case {number}");
+        try_case(record, kind, &case, true, title);
+    }
+}
+
+fn try_case(
+    record: &mut Record,
+    kind: &'static str,
+    case: &Case,
+    with_library: bool,
+    title: impl Fn() -> String,
+) {
+    let Case { call, lent, due } = case;
+    let answer = by_rules::answer(*call, lent);
+    let by_rules = lent.after(&answer);
+    let by_library = with_library.then(|| {
+        let mut memory = lent.clone();
+        library::answer(*call, &mut memory);
+        memory
+    });
+    let number = by_rules::number(*call, lent, &answer);
+    record.count(kind, call.service.name(), number);
+    let as_due = due.as_ref().is_none_or(|due| lent.after(due) == by_rules);
+    let alike = by_library.as_ref().is_none_or(|memory| *memory == by_rules);
+    if !(as_due && alike) {
+        record.differ(&title());
+        report::print_difference(case, &by_rules, by_library.as_ref());
+    }
+}

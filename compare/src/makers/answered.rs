@@ -1,0 +1,128 @@
+//! Plans whose marks and reductions are known by the way that they are made.
+
+use super::parts::{
+    chain, drain_in_lane, gate_actions, gate_goal, gate_lane, laid_into_each_other,
+};
+use super::{action, fact, Action, Fact, Random, Task};
+use std::cmp::Reverse;
+
+const COSTS: [u32; 4] = [0, 1, 2, 3];
+
+/// A plan with the indices of the steps that are marked, and that each elimination keeps. What the
+/// greedy one keeps is also the exact reduction.
+pub struct Answered {
+    pub task: Task,
+    pub plan: Vec<u32>,
+    pub marked: Vec<usize>,
+    pub eliminated: Vec<usize>,
+    pub greedy: Vec<usize>,
+}
+
+impl Answered {
+    /// Both eliminations keep the same steps.
+    fn alike(task: Task, plan: Vec<u32>, marked: Vec<usize>, kept: Vec<usize>) -> Self {
+        Answered {
+            task,
+            plan,
+            marked,
+            eliminated: kept.clone(),
+            greedy: kept,
+        }
+    }
+}
+
+/// Needed steps, each of which makes the next one possible and the last one the goal, with lamps
+/// that nothing needs between them.
+pub fn with_lamps(random: &mut Random, needed: usize, lamps: usize) -> Answered {
+    let (counter, lamp) = (0, 1);
+    let mut actions = chain(counter, needed, || random.pick(&COSTS));
+    actions.push(action(random.pick(&COSTS), vec![], vec![fact(lamp, 1)]));
+    let (mut plan, mut kept) = (Vec::new(), Vec::new());
+    for (step, is_needed) in random
+        .choose(needed, needed + lamps)
+        .into_iter()
+        .enumerate()
+    {
+        if is_needed {
+            plan.push(kept.len() as u32);
+            kept.push(step);
+        } else {
+            plan.push(needed as u32);
+        }
+    }
+    let sizes = vec![needed as u32 + 1, 2];
+    let task = Task::from_zero(sizes, vec![fact(counter, needed)], actions);
+    Answered::alike(task, plan, kept.clone(), kept)
+}
+
+/// The fact that every way ends in; a way's own variable stands behind it.
+const WAYS_GOAL: Fact = Fact {
+    variable: 0,
+    value: 1,
+};
+
+/// Several ways to one goal. A trial succeeds while two of them are left, and the one at a way's
+/// first step strikes the most of it: so elimination is left with the way that begins last, and
+/// greedy elimination with the cheapest, of those the shortest, of those the one that begins last,
+/// which strikes where it first differs from another. Steps are marked where there is only one way.
+pub fn with_ways(random: &mut Random) -> Answered {
+    let variables = 1..=random.size(1..=4);
+    let ways: Vec<Vec<Action>> = variables.map(|v| random_way(random, v)).collect();
+    let mut numbers = 0..;
+    let lane = |way: &Vec<Action>| numbers.by_ref().take(way.len()).collect();
+    let lanes: Vec<Vec<u32>> = ways.iter().map(lane).collect();
+    let (plan, places) = laid_into_each_other(random, &lanes);
+    let cost = |way: &[Action]| way.iter().map(|action| action.cost).sum::<u32>();
+    let ranked = places.iter().zip(&ways);
+    let cheapest = ranked.min_by_key(|(p, way)| (cost(way), way.len(), Reverse(p[0])));
+    let beginning_last = places.iter().max_by_key(|p| p[0]);
+    let only = places.first().filter(|_| ways.len() == 1);
+    let sizes = ways.iter().map(|way| way.len() as u32 + 1);
+    let sizes = [WAYS_GOAL.value + 1].into_iter().chain(sizes).collect();
+    Answered {
+        plan,
+        marked: only.cloned().unwrap_or_default(),
+        eliminated: beginning_last.cloned().unwrap_or_default(),
+        greedy: cheapest.map_or(Vec::new(), |(p, _)| p.clone()),
+        task: Task::from_zero(sizes, vec![WAYS_GOAL], ways.concat()),
+    }
+}
+
+/// A chain whose last step gives the goal.
+fn random_way(random: &mut Random, variable: usize) -> Vec<Action> {
+    let last = random.size(0..=3);
+    let mut way = chain(variable, last + 1, || random.pick(&COSTS));
+    way[last].effects.insert(0, WAYS_GOAL);
+    way
+}
+
+/// Gates that are each lifted and dropped some times, and once drained in between; the goal is all
+/// drained and dropped. Every drain is marked, and the lift before it if it is the first. What is
+/// kept is the last lift before the drain, the drain, and the last drop of all: a drop goes with
+/// the lift behind it.
+pub fn with_gates(random: &mut Random) -> Answered {
+    let gates = random.size(1..=4);
+    let turns: Vec<[usize; 2]> = (0..gates)
+        .map(|_| [random.size(0..=2), random.size(0..=2)])
+        .collect();
+    let lanes: Vec<Vec<u32>> = (0..gates)
+        .map(|gate| gate_lane(gate, turns[gate]))
+        .collect();
+    let (plan, places) = laid_into_each_other(random, &lanes);
+    let (mut marked, mut kept) = (Vec::new(), Vec::new());
+    for (places, [before, _]) in places.iter().zip(turns) {
+        let drain = drain_in_lane(before);
+        let first_marked = if before == 0 { drain - 1 } else { drain };
+        marked.extend(&places[first_marked..=drain]);
+        kept.extend(&places[drain - 1..=drain]);
+        kept.extend(places.last());
+    }
+    marked.sort();
+    kept.sort();
+    let mut cost = || random.pick(&COSTS);
+    let actions = (0..gates).flat_map(|gate| gate_actions(gate, &mut cost));
+    let actions = actions.collect();
+    let goal = (0..gates).flat_map(gate_goal).collect();
+    let task = Task::from_zero(vec![2; 2 * gates], goal, actions);
+    Answered::alike(task, plan, marked, kept)
+}

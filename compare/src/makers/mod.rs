@@ -1,0 +1,17 @@
+//! Makers of what cases are about: tasks with their sheets, the faults of sheets, and plans, all
+//! from a seeded generator.
+
+pub mod answered;
+pub mod cycles;
+pub mod families;
+pub mod faults;
+mod parts;
+mod random;
+mod sheet;
+mod task;
+mod walk;
+
+pub use random::Random;
+pub use sheet::{length_word, Sheet};
+pub use task::{action, fact, fit, set, Action, Fact, Task};
+pub use walk::{random_step, unknown_action, Walk};

@@ -1,0 +1,249 @@
+//! Tasks of random shape, with every edge of their ranges, and the sheets that hold them.
+
+use super::Random;
+use crate::rules::{self, pair_word, State};
+use std::ops::{Range, RangeInclusive};
+
+#[derive(Clone, Copy)]
+pub struct Fact {
+    pub variable: usize,
+    pub value: u32,
+}
+
+pub fn fact(variable: usize, value: usize) -> Fact {
+    let value = value as u32;
+    Fact { variable, value }
+}
+
+impl Fact {
+    pub fn word(self) -> u32 {
+        (self.variable * rules::FACT_BASE) as u32 + self.value
+    }
+
+    pub fn holds(self, state: &State) -> bool {
+        state[self.variable] == self.value
+    }
+}
+
+/// Has the state hold these facts.
+pub fn set(state: &mut State, facts: &[Fact]) {
+    for fact in facts {
+        state[fact.variable] = fact.value;
+    }
+}
+
+/// Gives the facts' variables the values that they have in the state.
+pub fn fit(facts: &mut [Fact], state: &State) {
+    for fact in facts {
+        fact.value = state[fact.variable];
+    }
+}
+
+#[derive(Clone)]
+pub struct Action {
+    pub cost: u32,
+    pub preconditions: Vec<Fact>,
+    pub effects: Vec<Fact>,
+}
+
+pub fn action(cost: u32, preconditions: Vec<Fact>, effects: Vec<Fact>) -> Action {
+    Action {
+        cost,
+        preconditions,
+        effects,
+    }
+}
+
+impl Action {
+    pub fn is_applicable(&self, state: &State) -> bool {
+        self.preconditions.iter().all(|fact| fact.holds(state))
+    }
+
+    fn part(&self) -> Vec<u32> {
+        let head = [self.cost, self.preconditions.len() as u32];
+        let facts = self.preconditions.iter().chain(&self.effects);
+        head.into_iter().chain(facts.map(|f| f.word())).collect()
+    }
+}
+
+#[derive(Clone)]
+pub struct Task {
+    pub sizes: Vec<u32>,
+    pub start: Vec<u32>,
+    pub goal: Vec<Fact>,
+    pub actions: Vec<Action>,
+}
+
+impl Task {
+    /// A task whose variables all start at 0.
+    pub fn from_zero(sizes: Vec<u32>, goal: Vec<Fact>, actions: Vec<Action>) -> Self {
+        Task {
+            start: vec![0; sizes.len()],
+            sizes,
+            goal,
+            actions,
+        }
+    }
+
+    /// An accepted task of any shape.
+    pub fn random(random: &mut Random) -> Self {
+        let most = rules::MAX_VARIABLES;
+        let variables = edged(random, 4, &[1, 2, most - 1, most], 1..=8);
+        let most = rules::MAX_ACTIONS;
+        // Few actions in most tasks: sheets with many take long and show little more.
+        let actions = edged(random, 16, &[0, 1, most - 1, most], 0..=12);
+        let many_facts = random.once_in(4);
+        let group_size = |random: &mut Random| match random.index(8) {
+            0 => 0,
+            1 if many_facts => variables,
+            2 if many_facts => random.size(0..=variables),
+            _ => random.size(0..=variables.min(3)),
+        };
+        Task::of_shape(random, variables, actions, rules::MAX_WORDS, group_size)
+    }
+
+    /// A task whose sheet has as many words as a sheet may have, or one or two fewer.
+    pub fn filling(random: &mut Random) -> Self {
+        let variables = rules::MAX_VARIABLES - random.index(2);
+        let enough_actions = rules::MAX_WORDS / (2 * variables) + 1;
+        let actions = random.size(enough_actions..=rules::MAX_ACTIONS);
+        let limit = rules::MAX_WORDS - random.index(3);
+        Task::of_shape(random, variables, actions, limit, |_| variables)
+    }
+
+    /// Takes facts for one group after another until the sheet has as many words as the limit says.
+    fn of_shape(
+        random: &mut Random,
+        variables: usize,
+        actions: usize,
+        limit: usize,
+        group_size: impl Fn(&mut Random) -> usize,
+    ) -> Self {
+        let sizes: Vec<u32> = (0..variables).map(|_| random_domain(random)).collect();
+        let start = sizes.iter().map(|&n| random_value(random, n)).collect();
+        let pairs = rules::FIRST_ACTION_PAIR + actions;
+        let values = 2 * variables;
+        let mut room = limit - pair_word(pairs) - values - rules::ACTION_HEAD * actions;
+        let mut group = |random: &mut Random| {
+            let size = group_size(random).min(room);
+            room -= size;
+            random_group(random, &sizes, size)
+        };
+        let goal = group(random);
+        let actions =
+            (0..actions).map(|_| action(random_cost(random), group(random), group(random)));
+        Task {
+            actions: actions.collect(),
+            start,
+            goal,
+            sizes,
+        }
+    }
+
+    pub fn start(&self) -> State {
+        let mut state = [0; rules::MAX_VARIABLES];
+        state[..self.start.len()].copy_from_slice(&self.start);
+        state
+    }
+
+    /// The cost of a step of this action.
+    pub fn cost(&self, action: u32) -> usize {
+        self.actions[action as usize].cost as usize
+    }
+
+    /// Gives a fact another value of its variable's domain, if there is one.
+    pub fn other_value(&self, random: &mut Random, fact: Fact) -> Option<Fact> {
+        let size = self.sizes[fact.variable];
+        (size > 1).then(|| {
+            let value = (fact.value + random.within(1..=size - 1)) % size;
+            Fact { value, ..fact }
+        })
+    }
+
+    /// The parts of the sheet in the order of their pairs, each with its word indices: they stand
+    /// one behind the other from the end of the pairs.
+    fn parts(&self) -> Vec<(Range<usize>, Vec<u32>)> {
+        let goal = self.goal.iter().map(|fact| fact.word()).collect();
+        let values = [self.sizes.clone(), self.start.clone(), goal];
+        let mut end = pair_word(values.len() + self.actions.len());
+        let parts = values
+            .into_iter()
+            .chain(self.actions.iter().map(Action::part));
+        let with_place = |part: Vec<u32>| {
+            let start = end;
+            end += part.len();
+            (start..end, part)
+        };
+        parts.map(with_place).collect()
+    }
+
+    /// The word indices of the parts.
+    pub fn places(&self) -> Vec<Range<usize>> {
+        self.parts().into_iter().map(|(place, _)| place).collect()
+    }
+
+    pub fn words(&self) -> Vec<u32> {
+        let parts = self.parts();
+        let count = parts.last().map_or(0, |(last, _)| last.end);
+        let edition = rules::EDITION;
+        let header = [edition, self.sizes.len(), self.actions.len(), count];
+        let pairs = parts
+            .iter()
+            .flat_map(|(place, _)| [place.start, place.len()]);
+        let front = header.into_iter().chain(pairs);
+        let mut words: Vec<u32> = front.map(|word| word as u32).collect();
+        for (_, part) in &parts {
+            words.extend(part);
+        }
+        words
+    }
+}
+
+/// Once in `times` one of the edges, once any number between the first and the last of them, and
+/// otherwise a usual one.
+fn edged(
+    random: &mut Random,
+    times: usize,
+    edges: &[usize],
+    usual: RangeInclusive<usize>,
+) -> usize {
+    match random.index(times) {
+        0 => random.pick(edges),
+        1 => random.size(edges[0]..=edges[edges.len() - 1]),
+        _ => random.size(usual),
+    }
+}
+
+fn random_domain(random: &mut Random) -> u32 {
+    let most = rules::MAX_DOMAIN;
+    edged(random, 4, &[1, most - 1, most], 1..=4) as u32
+}
+
+fn random_cost(random: &mut Random) -> u32 {
+    let most = rules::MAX_ACTION_COST;
+    edged(random, 4, &[0, 1, most - 1, most], 0..=20) as u32
+}
+
+fn random_value(random: &mut Random, size: u32) -> u32 {
+    match random.index(4) {
+        0 => size - 1,
+        _ => random.within(0..=size - 1),
+    }
+}
+
+/// Facts of `size` different variables in rising order: each variable is taken with the chance that
+/// leaves every choice of variables as likely as the others.
+fn random_group(random: &mut Random, sizes: &[u32], size: usize) -> Vec<Fact> {
+    let mut group = Vec::with_capacity(size);
+    for (variable, &domain) in sizes.iter().enumerate() {
+        let wanted = size - group.len();
+        if wanted == 0 {
+            break;
+        }
+        if random.index(sizes.len() - variable) < wanted {
+            let value = random_value(random, domain);
+            group.push(Fact { variable, value });
+        }
+    }
+    group
+}

@@ -1,0 +1,127 @@
+//! States and steps, the check of a plan, and the steps of it that a reduction keeps.
+
+use super::task::Task;
+use super::{check_sheet, refuse, split, Action, Cause, Refusal, MAX_STEPS, MAX_VARIABLES};
+
+/// Any 64 values; those past a task's variables mean nothing to it.
+pub type State = [u32; MAX_VARIABLES];
+
+/// A fact holds by equality of the whole value, which may be outside the domain.
+pub fn all_hold(facts: &[u32], state: &State) -> bool {
+    facts.iter().all(|&fact| {
+        let (variable, value) = split(fact);
+        state[variable] == value
+    })
+}
+
+/// Does the step, unless a precondition fails: then the state stays and the answer is false.
+pub fn do_step(action: Action, state: &mut State) -> bool {
+    let can_be_done = all_hold(action.preconditions, state);
+    if can_be_done {
+        for &effect in action.effects {
+            let (variable, value) = split(effect);
+            state[variable] = value;
+        }
+    }
+    can_be_done
+}
+
+/// One step on a lent state. Refusals 1 to 7, 9 and 11; the goal isn't looked at.
+pub fn step(words: &[u32], state: &mut State, action: u32) -> Result<(), Refusal> {
+    let only_place = 1;
+    let task = check_sheet(words)?;
+    let action = action as usize;
+    let unknown = action >= task.actions();
+    refuse(Cause::UnknownAction, unknown.then_some(only_place))?;
+    let done = do_step(task.action(action), state);
+    refuse(Cause::NotValid, (!done).then_some(only_place))
+}
+
+/// A valid plan of a task, with the actions of its steps and its end state.
+pub struct Lodged<'a> {
+    pub task: Task<'a>,
+    pub plan: &'a [u32],
+    pub actions: Vec<Action<'a>>,
+    pub end: State,
+}
+
+impl<'a> Lodged<'a> {
+    /// Refusals 1 to 11; 10 is for services with outputs, whose lengths are passed. Positions in
+    /// the plan count from 1.
+    pub fn check(words: &'a [u32], plan: &'a [u32], outputs: &[usize]) -> Result<Self, Refusal> {
+        let task = check_sheet(words)?;
+        let steps = plan.len();
+        let too_long = steps > MAX_STEPS;
+        refuse(Cause::PlanLength, too_long.then_some(MAX_STEPS))?;
+        let unknown = plan.iter().position(|&a| a as usize >= task.actions());
+        refuse(Cause::UnknownAction, unknown.map(|index| index + 1))?;
+        let too_short = outputs.iter().any(|&length| length < steps);
+        refuse(Cause::ShortOutput, too_short.then_some(steps))?;
+        let actions: Vec<_> = plan.iter().map(|&a| task.action(a as usize)).collect();
+        let mut end = task.start();
+        let failing = actions.iter().position(|&a| !do_step(a, &mut end));
+        refuse(Cause::NotValid, failing.map(|index| index + 1))?;
+        let unmet = !all_hold(task.goal(), &end);
+        refuse(Cause::NotValid, unmet.then_some(steps + 1))?;
+        Ok(Lodged {
+            task,
+            plan,
+            actions,
+            end,
+        })
+    }
+
+    pub fn cost(&self) -> usize {
+        self.actions.iter().map(|action| action.cost).sum()
+    }
+
+    /// What a way of striking keeps; it answers with the indices of the steps.
+    pub fn kept(&self, way: impl Fn(&Self) -> Vec<usize>) -> Kept {
+        Kept::of(self.plan, &way(self), |step| self.actions[step].cost)
+    }
+}
+
+/// What a reduction keeps.
+#[derive(Clone)]
+pub struct Kept {
+    pub cost: usize,
+    /// The kept action numbers, in the order of the plan.
+    pub actions: Vec<u32>,
+    pub mask: Mask,
+}
+
+impl Kept {
+    /// The steps with these indices, each at its cost.
+    pub fn of(plan: &[u32], steps: &[usize], cost: impl Fn(usize) -> usize) -> Self {
+        Kept {
+            cost: steps.iter().map(|&step| cost(step)).sum(),
+            actions: steps.iter().map(|&step| plan[step]).collect(),
+            mask: mask_of(steps.iter().copied()),
+        }
+    }
+
+    /// The indices of the kept steps.
+    pub fn steps(&self) -> impl Iterator<Item = usize> + '_ {
+        (0..MAX_STEPS).filter(|&step| has(self.mask, step))
+    }
+}
+
+/// One bit for each step of a plan, from the lowest of the first word on.
+pub type Mask = [u64; MASK_WORDS];
+
+pub const MASK_WORDS: usize = 4;
+pub const WORD_BITS: usize = u64::BITS as usize;
+
+/// The mask of the steps with these indices.
+pub fn mask_of(indices: impl Iterator<Item = usize>) -> Mask {
+    let mut mask = [0; MASK_WORDS];
+    for index in indices {
+        mask[index / WORD_BITS] |= 1 << (index % WORD_BITS);
+    }
+    mask
+}
+
+/// Whether the step with this index is in the mask.
+pub fn has(mask: Mask, index: usize) -> bool {
+    mask[index / WORD_BITS] >> (index % WORD_BITS) & 1 == 1
+}
