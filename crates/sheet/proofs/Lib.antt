@@ -10,3 +10,11 @@ pub mod Parts
 pub mod TableLaws
 -- Accepted: an accepted task means a well-formed SAS+ task.
 pub mod Accepted
+-- LaidLaws: parts that stand end to end among words, as their pairs say; in the words that `sheet-of` writes they do.
+pub mod LaidLaws
+-- EncodeLaws: words among which the parts of a task are laid out mean that task.
+pub mod EncodeLaws
+-- PassLaws: words that are laid out in order and mean a task that can be written are accepted.
+pub mod PassLaws
+-- EncodeTheorem: the sheet that a task is written as is accepted and means the task.
+pub mod EncodeTheorem

@@ -1,0 +1,49 @@
+-- A SAS+ task as the words of a job sheet (document 01, "The job sheet"), and which tasks can be written so. Assumes nothing.
+use Prim.Native.Nat.{ℕ, _+_, _*_, _≤_, _<_}
+use mathlib.Core.List.{List, [], _∷_, _++_, map, flatten, List·Memᴰ}
+use lib.ListN.{length, getD}
+use Rattle.sas.specs.Task.{Fact, Assignment, Action, Task}
+use Rattle.sas.specs.WellFormed.{Well-formed}
+use Rattle.sheet.specs.Limits.{limits}
+
+-- a fact is one word, variable × 256 + value
+abbrev pub fact-word : Fact → ℕ
+fact-word f = f .variable * limits .values + f .value
+
+abbrev pub fact-words : Assignment → List ℕ
+fact-words q = map fact-word q
+
+-- the part of an action: its price, its number of precondition facts, those facts, then its effect facts
+unfoldable pub action-part : Action → List ℕ
+action-part a = a .cost ∷ length (a .precondition) ∷ (fact-words (a .precondition) ++ fact-words (a .effect))
+
+-- the parts in the order of their pairs: the domain sizes, the starting values, the goal facts, then the actions
+unfoldable pub parts : Task → List (List ℕ)
+parts T = T .domains ∷ T .initial ∷ fact-words (T .goal) ∷ map action-part (T .actions)
+
+-- the pairs of offset and length of parts of which the first begins at word `from`, and each later one where the one before it ends
+unfoldable pub pairs-of : ℕ → List (List ℕ) → List ℕ
+pairs-of from [] = []
+pairs-of from (p ∷ ps) = from ∷ length p ∷ pairs-of (from + length p) ps
+
+-- the first part begins past the four words in front and all pairs
+abbrev pub parts-start : List (List ℕ) → ℕ
+parts-start ps = 4 + 2 * length ps
+
+-- the sheet of these numbers of variables and actions and these parts: the edition, V, A and N, then the pairs, then the parts
+unfoldable pub sheet-of : ℕ → ℕ → List (List ℕ) → List ℕ
+sheet-of variables actions ps =
+    1 ∷ variables ∷ actions ∷ (parts-start ps + length (flatten ps)) ∷ (pairs-of (parts-start ps) ps ++ flatten ps)
+
+unfoldable pub encode : Task → List ℕ
+encode T = sheet-of (length (T .domains)) (length (T .actions)) (parts T)
+
+-- a task that can be written as a sheet: it is well-formed, so that each domain has the starting value at least, and within the limits
+pub record Encodable (T : Task) : Type 0 where
+  pub well-formed : Well-formed T
+  pub some-variable : 1 ≤ length (T .domains)
+  pub variables : length (T .domains) ≤ limits .variables
+  pub values : (v : ℕ) → v < length (T .domains) → getD (T .domains) v 0 ≤ limits .values
+  pub actions : length (T .actions) ≤ limits .actions
+  pub costs : (a : Action) → List·Memᴰ a (T .actions) → a .cost ≤ limits .cost
+  pub words : length (encode T) ≤ limits .words
