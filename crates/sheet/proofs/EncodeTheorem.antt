@@ -1,19 +1,25 @@
--- A task that can be written as a job sheet is what the sheet that `encode` writes means, and that sheet is accepted. Assumes nothing.
-use Prim.Native.Nat.{ℕ, suc, _+_, _≤_}
+-- Accepted sheets and tasks that can be written are one to one: a task is written as an accepted sheet that means it, and an accepted sheet means a task
+-- that can be written, as that sheet. Assumes nothing.
+use Prim.Native.Nat.{ℕ, _+_, _≤_}
 use native.Mathlib.Omega.{arith}
 use mathlib.Core.Path.{_≡_, refl, sym, subst}
-use mathlib.Core.List.{List, [], _∷_, _++_, map, flatten}
-use lib.ListN.{length, getD, length-append, length-map}
+use mathlib.Core.List.{List, [], _∷_, map}
+use lib.ListN.{length, length-append, length-map}
+use borrow.Author.Tests.{eqb-true, not-false}
 use Rattle.refusal.specs.declared.place.Place.the-variants.{Nowhere}
 use Rattle.sas.specs.Task.{Action, Task}
 use Rattle.sas.specs.WellFormed.{Well-formed}
-use Rattle.sheet.specs.Layout.{edition, variables, actions, stated-length}
-use Rattle.sheet.specs.Decode.{task}
-use Rattle.sheet.specs.Encode.{fact-word, fact-words, action-part, parts, parts-start, sheet-of, encode, Encodable}
-use Rattle.sheet.specs.Causes.{pair-place, Accepted}
-use Rattle.sheet.proofs.Parts.{Measured}
-use Rattle.sheet.proofs.LaidLaws.{sheet-of-length, sheet-of-laid}
+use Rattle.sheet.specs.Layout.{edition, actions, pairs-end}
+use Rattle.sheet.specs.Decode.{table, domains, action, task}
+use Rattle.sheet.specs.Encode.{fact-word, fact-words, action-part, parts, first-offset, sheet-of, encode, Encodable}
+use Rattle.sheet.specs.Causes.{bad-edition, pair-place, Accepted}
+use Rattle.sheet.proofs.TableLaws.{table-length}
+use Rattle.sheet.proofs.CauseLaws.{accepted-clear}
+use Rattle.sheet.proofs.Parts.{Measured, accepted-measured}
+use Rattle.sheet.proofs.Accepted.{domains-length, domain-limits, accepted-well-formed, cost-limit}
+use Rattle.sheet.proofs.LaidLaws.{Laid, sheet-of-length, sheet-of-laid, laid-sheet}
 use Rattle.sheet.proofs.EncodeLaws.{task-read}
+use Rattle.sheet.proofs.AcceptedLaid.{accepted-laid}
 use Rattle.sheet.proofs.PassLaws.{Right-size, Right-sizes, laid-clear, passes}
 use Rattle.sheet.proofs.PassLaws.Right-sizes.{none, next}
 
@@ -38,16 +44,15 @@ parts-sized T formed =
 module _ (T : Task) (writable : Encodable T) where
   pub encode-decodes : task (encode T) ≡ T
   unfolding encode sheet-of
-  encode-decodes = task-read (encode T) T (writable .well-formed) (writable .values) refl refl (sheet-of-laid _ _ (parts T))
+  encode-decodes = task-read (encode T) T writable refl refl (sheet-of-laid _ _ _ (parts T))
 
   measured : Measured (encode T)
   unfolding encode sheet-of
   measured =
-      let long : length (encode T) ≡ parts-start (parts T) + length (flatten (parts T)) = sheet-of-length (length (T .domains)) (length (T .actions)) (parts T) in
       record {
         header = omega arith;
         words = writable .words;
-        stated = sym long;
+        stated = sheet-of-length 1 (length (T .domains)) (length (T .actions)) (parts T);
         some-variable = writable .some-variable;
         variables = writable .variables;
         actions = writable .actions;
@@ -56,9 +61,36 @@ module _ (T : Task) (writable : Encodable T) where
   pairs-fit : pair-place (encode T) ≡ Nowhere
   unfolding encode sheet-of parts
   pairs-fit =
-      laid-clear (encode T) (measured .stated) (sheet-of-laid _ _ (parts T)) (parts-sized T (writable .well-formed))
+      laid-clear (encode T) (measured .stated) (sheet-of-laid _ _ _ (parts T)) (parts-sized T (writable .well-formed))
       (omega (arith, length-map (T .actions) action-part)) (omega (arith, length-map (T .actions) action-part))
 
   pub encode-accepted : Accepted (encode T)
   unfolding encode sheet-of
   encode-accepted = passes (encode T) (subst Encodable (sym encode-decodes) writable) refl measured pairs-fit
+
+module _ (w : List ℕ) (accepted : Accepted w) where
+  first-edition : edition w ≡ 1
+  unfolding bad-edition
+  first-edition = eqb-true _ _ (not-false _ (accepted-clear w accepted .edition))
+
+  pub decode-encodes : encode (task w) ≡ w
+  unfolding encode parts task
+  decode-encodes =
+      let number : length (table (action w) 0 (actions w)) ≡ actions w = table-length (action w) 0 (actions w) in
+      let begin : pairs-end w ≡ first-offset (parts (task w)) = omega (arith, length-map (table (action w) 0 (actions w)) action-part) in
+      let laid : Laid w 0 (first-offset (parts (task w))) (parts (task w)) = rw begin at (accepted-laid w accepted) in
+      rw (domains-length, number) (rw first-edition at (laid-sheet w (parts (task w)) (accepted-measured w accepted .stated) laid))
+
+  pub accepted-encodable : Encodable (task w)
+  unfolding task
+  accepted-encodable =
+      let measured : Measured w = accepted-measured w accepted in
+      record {
+        well-formed = accepted-well-formed w accepted;
+        some-variable = rw domains-length (measured .some-variable);
+        variables = rw domains-length (measured .variables);
+        values = λ v h. domain-limits w accepted v (rw domains-length at h) .1;
+        actions = rw (table-length (action w) 0 (actions w)) (measured .actions);
+        costs = λ a m. cost-limit w accepted m;
+        words = rw decode-encodes (measured .words);
+      }

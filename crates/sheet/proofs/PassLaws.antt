@@ -1,27 +1,27 @@
--- Words pass the checks where they are laid out in order and mean a well-formed task within the limits: what `Parts` and `Accepted` say of accepted words,
--- the other way round. Assumes nothing.
+-- Words of edition 1 are accepted where their parts are laid out as the pairs say and they mean a task that can be written: what `Parts` and `Accepted` say
+-- of accepted words, the other way round, check by check. Assumes nothing.
 use Prim.Native.Nat.{ℕ, zero, suc, _+_, _-_, _≤_, _<_}
 use native.Mathlib.Omega.{arith}
 use mathlib.Core.Path.{_≡_, refl, sym, _∙_, ap}
 use mathlib.Core.Bool.{Bool, true, false, not, _&&_, _||_}
-use mathlib.Core.List.{List, [], _∷_, List·Memᴰ}
+use mathlib.Core.List.{List, [], _∷_}
 use lib.ListN.{length, getD}
 use lib.Dec.{ltb, leb, eqb}
-use borrow.Author.Tests.{lt-ltb, le-ltb, le-leb, lt-leb, eq-eqb, ltb-true, leb-true, eqb-true}
+use borrow.Author.Tests.{le-ltb, lt-leb, eq-eqb, ltb-true, leb-true, eqb-true}
 use Rattle.refusal.specs.declared.place.Place.{Place}
 use Rattle.refusal.specs.declared.place.Place.the-variants.{Nowhere}
-use Rattle.refusal.specs.Place.{when, or-else, first-of-next, first-of, first}
-use Rattle.refusal.proofs.PlaceLaws.{first-of-over, first-of-more, first-over, first-more}
+use Rattle.refusal.specs.Place.{when, first-of-next, first-of, first}
+use Rattle.refusal.proofs.PlaceLaws.{first-over, first-more}
 use Rattle.refusal.proofs.CheckLaws.{answer-passes, answer-nothing}
-use Rattle.sas.specs.Task.{Fact, Assignment, Action}
-use Rattle.sas.specs.WellFormed.{Known, Rising, Action-formed, Well-formed}
+use Rattle.sas.specs.Task.{Fact, Assignment}
+use Rattle.sas.specs.WellFormed.{Known, Rising, Action-formed}
 use Rattle.sas.specs.WellFormed.Rising.{empty, fact}
 use Rattle.sheet.specs.Limits.{limits}
-use Rattle.sheet.specs.Layout.{word, edition, variables, actions, stated-length, pairs, pairs-end, offset, size, part-end, domain, start, goal-start, goal-end, cost-word, precondition-start, effect-start, effect-end}
-use Rattle.sheet.specs.Decode.{table, fact-of, facts, domains, initial, goal, action, task}
+use Rattle.sheet.specs.Layout.{word, edition, variables, actions, stated-length, pairs, pairs-end, offset, size, part-end, domain, start}
+use Rattle.sheet.specs.Decode.{fact-of, facts, domains, initial, goal, action, task}
 use Rattle.sheet.specs.Encode.{Encodable}
 use Rattle.sheet.specs.Causes.{bad-length, bad-edition, bad-counts, due, wrong-size, bad-pair, pair-place, bad-variable, variable-place, bad-fact, group-place, action-place, fact-place, cost-place, sheet-checks, Accepted}
-use Rattle.sheet.proofs.TableLaws.{table-length, table-at, facts-next}
+use Rattle.sheet.proofs.TableLaws.{table-at, facts-length, facts-next}
 use Rattle.sheet.proofs.PairLaws.{due-first, due-later, pairs-fit}
 use Rattle.sheet.proofs.CauseLaws.{Clear}
 use Rattle.sheet.proofs.Parts.{Measured}
@@ -49,7 +49,8 @@ not-both-hold : (a b : Bool) → (a ≡ true → b ≡ false) → (a && b) ≡ f
 not-both-hold true b h = h refl
 not-both-hold false b h = refl
 
-pub clear-accepted : (w : List ℕ) → Clear w → Accepted w
+-- where none of the sheet's checks fires, the sheet is accepted
+clear-accepted : (w : List ℕ) → Clear w → Accepted w
 unfolding sheet-checks
 clear-accepted w clear =
     answer-passes _ _ (ap (λ b. when b 0) (clear .length))
@@ -95,14 +96,17 @@ laid-over (over e) none-left = e
 laid-over (then told rest) none-left = absurd (omega arith)
 
 module _ {w : List ℕ} {k from : ℕ} {p : List ℕ} (told : Part w k from p) where
+  facts-fit : getD p 1 0 + 2 ≤ length p → (ltb (size w k) 2 || ltb (size w k - 2) (word w (offset w k + 1))) ≡ false
+  facts-fit h =
+      let count : word w (offset w k + 1) ≡ getD p 1 0 = told .stands .reads 1 _ (omega (arith, told .in-place)) (omega arith) in
+      rw (le-ltb (size w k) 2 (omega (arith, told .sized)), le-ltb (size w k - 2) (word w (offset w k + 1)) (omega (arith, told .sized)))
+
   size-clear : Right-size (variables w) k p → wrong-size w k ≡ false
   unfolding wrong-size
   size-clear right =
       rw (
         not-both-hold (ltb k 2) (not (eqb (size w k) (variables w))) (λ h. ap not (eq-eqb _ _ (told .sized ∙ right .of-variables (ltb-true _ _ h)))),
-        not-both-hold (leb 3 k) (ltb (size w k) 2 || ltb (size w k - 2) (word w (offset w k + 1))) (λ h.
-            let counts : word w (offset w k + 1) ≡ getD p 1 0 = told .stands .reads 1 _ (omega (arith, told .in-place)) (omega (arith, right .of-action (leb-true _ _ h))) in
-            rw (le-ltb (size w k) 2 (omega (arith, told .sized, right .of-action (leb-true _ _ h))), le-ltb (size w k - 2) (word w (offset w k + 1)) (omega (arith, told .sized, right .of-action (leb-true _ _ h))))),
+        not-both-hold (leb 3 k) (ltb (size w k) 2 || ltb (size w k - 2) (word w (offset w k + 1))) (λ h. facts-fit (right .of-action (leb-true _ _ h))),
       )
 
   pair-clear : {ps : List (List ℕ)} → due w k ≡ from → Right-size (variables w) k p → Laid w (k + 1) (from + length p) ps
@@ -133,10 +137,6 @@ module _ (w : List ℕ) (stated : stated-length w ≡ length w) where
   laid-clear {from} laid rights e n =
       pairs-fit w (omega (arith, laid-within laid)) ∙ pairs-clear laid rights (due-first w 0 refl ∙ sym e) (omega arith)
 
-facts-length : (w : List ℕ) (i end : ℕ) → length (facts w i end) ≡ end - i
-unfolding facts
-facts-length w i end = table-length _ i (end - i)
-
 -- a known fact whose variable is above that of the fact before it is not bad
 fact-clear : (w : List ℕ) (start i : ℕ) → Known (domains w) (fact-of (word w i))
     → (start < i → fact-of (word w (i - 1)) .variable < fact-of (word w i) .variable) → bad-fact w start i ≡ false
@@ -151,7 +151,7 @@ fact-clear w start i known rising =
       not-both-hold (ltb start i) (leb (f .variable) (fact-of (word w (i - 1)) .variable)) (λ h. lt-leb _ _ (rising (ltb-true _ _ h))),
     )
 
--- a group of facts that is an assignment over the domains has no bad fact
+-- a group of facts that is an assignment over the domains has no bad fact from word i on, if that at i is above the one before it
 group-clear : (w : List ℕ) (start i end : ℕ) {from : ℕ} {q : Assignment} → Rising (domains w) from q → q ≡ facts w i end
     → (start < i → fact-of (word w (i - 1)) .variable < from) → first (bad-fact w start) i end ≡ Nowhere
 group-clear w start i end empty e after = first-over (bad-fact w start) i end (omega (arith, facts-length w i end, ap length e))
@@ -164,37 +164,39 @@ group-clear w start i end (fact {f = f} {q = q} known above rest) e after =
     first-more (bad-fact w start) i end more (fact-clear w start i (rw here at known) (λ h. omega (arith, after h)))
     ∙ group-clear w start (i + 1) end rest later (λ h. rw back (omega arith))
 
-module _ (w : List ℕ) (formed : Well-formed (task w)) where
-  -- a group of facts that is an assignment over the domains, from its first fact on
-  whole-clear : (start end : ℕ) → Rising (domains w) 0 (facts w start end) → group-place w start end ≡ Nowhere
-  unfolding group-place
-  whole-clear start end rising = group-clear w start start end rising refl (λ h. absurd (omega arith))
+-- nor has one at its first fact
+whole-clear : (w : List ℕ) (start end : ℕ) → Rising (domains w) 0 (facts w start end) → group-place w start end ≡ Nowhere
+unfolding group-place
+whole-clear w start end rising = group-clear w start start end rising refl (λ h. absurd (omega arith))
+
+-- words of edition 1 that are measured, whose pairs fit, and that mean a task that can be written, are accepted
+module _ (w : List ℕ) (writable : Encodable (task w)) where
+  variable-clear : (v : ℕ) → v < variables w → bad-variable w v ≡ false
+  unfolding bad-variable task initial
+  variable-clear v h =
+      let there : v < length (domains w) = omega (arith, domains-length w) in
+      let starts : getD (initial w) v 0 ≡ start w v = table-at (start w) 0 (variables w) v v 0 h (omega arith) in
+      let below : start w v < domain w v = rw (domains-at w v h, starts) at (writable .well-formed .initial .below v there) in
+      let few : domain w v ≤ limits .values = rw (domains-at w v h) at (writable .values v there) in
+      rw (le-ltb (domain w v) 1 (omega arith), le-ltb (limits .values) (domain w v) few, lt-leb _ _ below)
+
+  variables-clear : variable-place w ≡ Nowhere
+  unfolding variable-place
+  variables-clear = first-none (bad-variable w) (variables w) variable-clear
 
   action-clear : (a : ℕ) → a < actions w → action-place w a ≡ Nowhere
   unfolding action-place task action
   action-clear a h =
-      let here : Action-formed (domains w) (action w a) = formed .actions (action w a) (action-known w a h) in
-      rw (whole-clear _ _ (here .precondition), whole-clear _ _ (here .effect))
+      let here : Action-formed (domains w) (action w a) = writable .well-formed .actions (action w a) (action-known w a h) in
+      rw (whole-clear w _ _ (here .precondition), whole-clear w _ _ (here .effect))
 
   facts-clear : fact-place w ≡ Nowhere
   unfolding fact-place task goal
-  facts-clear = rw (whole-clear _ _ (formed .goal), first-of-none (action-place w) (actions w) action-clear)
+  facts-clear = rw (whole-clear w _ _ (writable .well-formed .goal), first-of-none (action-place w) (actions w) action-clear)
 
--- words of edition 1 that are measured, whose pairs fit, and that mean a task that can be written, are accepted
-module _ (w : List ℕ) (writable : Encodable (task w)) where
   costs-clear : cost-place w ≡ Nowhere
   unfolding cost-place action
   costs-clear = first-none _ (actions w) (λ a h. le-ltb _ _ (writable .costs (action w a) (action-known w a h)))
-
-  variables-clear : variable-place w ≡ Nowhere
-  unfolding variable-place bad-variable task initial
-  variables-clear =
-      first-none _ (variables w) (λ v h.
-      let there : v < length (domains w) = omega (arith, domains-length w) in
-      let begins : start w v < domain w v =
-      rw (domains-at w v h, table-at (start w) 0 (variables w) v v 0 h (omega arith)) at (writable .well-formed .initial .below v there) in
-      let few : domain w v ≤ limits .values = rw (domains-at w v h) at (writable .values v there) in
-      rw (le-ltb (domain w v) 1 (omega arith), le-ltb (limits .values) (domain w v) few, lt-leb _ _ begins))
 
   pub passes : edition w ≡ 1 → Measured w → pair-place w ≡ Nowhere → Accepted w
   passes first measured pairs =
@@ -204,6 +206,6 @@ module _ (w : List ℕ) (writable : Encodable (task w)) where
         counts = counts-clear w measured;
         pairs = pairs;
         variables = variables-clear;
-        facts = facts-clear w (writable .well-formed);
+        facts = facts-clear;
         costs = costs-clear;
       })

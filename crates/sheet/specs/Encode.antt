@@ -1,4 +1,5 @@
--- A SAS+ task as the words of a job sheet (document 01, "The job sheet"), and which tasks can be written so. Assumes nothing.
+-- The words of the job sheet that a SAS+ task is written as (document 01, "The job sheet"), and which tasks can be.
+-- Assumes nothing.
 use Prim.Native.Nat.{ℕ, _+_, _*_, _≤_, _<_}
 use mathlib.Core.List.{List, [], _∷_, _++_, map, flatten, List·Memᴰ}
 use lib.ListN.{length, getD}
@@ -21,24 +22,28 @@ action-part a = a .cost ∷ length (a .precondition) ∷ (fact-words (a .precond
 unfoldable pub parts : Task → List (List ℕ)
 parts T = T .domains ∷ T .initial ∷ fact-words (T .goal) ∷ map action-part (T .actions)
 
--- the pairs of offset and length of parts of which the first begins at word `from`, and each later one where the one before it ends
+-- the pairs of offset and length of parts that begin at word `from`: a later offset is the one before plus that length
 unfoldable pub pairs-of : ℕ → List (List ℕ) → List ℕ
 pairs-of from [] = []
 pairs-of from (p ∷ ps) = from ∷ length p ∷ pairs-of (from + length p) ps
 
--- the first part begins past the four words in front and all pairs
-abbrev pub parts-start : List (List ℕ) → ℕ
-parts-start ps = 4 + 2 * length ps
+-- the first offset, past the first four words and a pair for each part
+abbrev pub first-offset : List (List ℕ) → ℕ
+first-offset ps = 4 + 2 * length ps
 
--- the sheet of these numbers of variables and actions and these parts: the edition, V, A and N, then the pairs, then the parts
-unfoldable pub sheet-of : ℕ → ℕ → List (List ℕ) → List ℕ
-sheet-of variables actions ps =
-    1 ∷ variables ∷ actions ∷ (parts-start ps + length (flatten ps)) ∷ (pairs-of (parts-start ps) ps ++ flatten ps)
+-- all words from word 4 on: the pairs, then the parts end to end
+unfoldable pub body : List (List ℕ) → List ℕ
+body ps = pairs-of (first-offset ps) ps ++ flatten ps
 
+-- the words of these parts: the edition, V, A, and N, the number of words, before the rest
+unfoldable pub sheet-of : ℕ → ℕ → ℕ → List (List ℕ) → List ℕ
+sheet-of edition variables actions ps = edition ∷ variables ∷ actions ∷ (4 + length (body ps)) ∷ body ps
+
+-- edition 1, a domain for each variable, and the task's actions
 unfoldable pub encode : Task → List ℕ
-encode T = sheet-of (length (T .domains)) (length (T .actions)) (parts T)
+encode T = sheet-of 1 (length (T .domains)) (length (T .actions)) (parts T)
 
--- a task that can be written as a sheet: it is well-formed, so that each domain has the starting value at least, and within the limits
+-- a task that can be written: well-formed, so that each domain has at least its starting value, and within the limits
 pub record Encodable (T : Task) : Type 0 where
   pub well-formed : Well-formed T
   pub some-variable : 1 ≤ length (T .domains)
