@@ -90,7 +90,7 @@ module _ (edition variables actions : ℕ) (ps : List (List ℕ)) where
       (stands-second pairs (flatten ps) rest _ (omega (arith, pairs-of-length (first-offset ps) ps)))
       (sym (body-length ps) ∙ sheet-of-length)
 
--- where parts are laid out, so are the words that `sheet-of` writes of them, and no others
+-- words among which parts are laid out are those that `sheet-of` writes of them
 laid-pairs : {w : List ℕ} {k from : ℕ} {ps : List (List ℕ)} → Laid w k from ps → Stands w (4 + 2 * k) (pairs-of from ps)
 unfolding pairs-of
 laid-pairs (over e) = record { reads = λ n j e h. absurd (omega arith) }
@@ -101,7 +101,7 @@ unfolding flatten
 laid-parts (over e) = record { reads = λ n j e h. absurd (omega arith) }
 laid-parts {from = from} (then {p = p} {ps = ps} told rest) = stands-both p (flatten ps) from refl (told .stands) (laid-parts rest)
 
-laid-length : {w : List ℕ} {k from : ℕ} {ps : List (List ℕ)} → Laid w k from ps → from + length (flatten ps) ≡ length w
+pub laid-length : {w : List ℕ} {k from : ℕ} {ps : List (List ℕ)} → Laid w k from ps → from + length (flatten ps) ≡ length w
 unfolding flatten
 laid-length (over e) = omega arith
 laid-length (then {p = p} {ps = ps} told rest) = omega (arith, laid-length rest, length-append p (flatten ps))

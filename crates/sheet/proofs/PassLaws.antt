@@ -26,7 +26,7 @@ use Rattle.sheet.proofs.PairLaws.{due-first, due-later, pairs-fit}
 use Rattle.sheet.proofs.CauseLaws.{Clear}
 use Rattle.sheet.proofs.Parts.{Measured}
 use Rattle.sheet.proofs.Accepted.{domains-length, domains-at, action-known}
-use Rattle.sheet.proofs.LaidLaws.{Part, Laid}
+use Rattle.sheet.proofs.LaidLaws.{Part, Laid, laid-length}
 use Rattle.sheet.proofs.LaidLaws.Laid.{over, then}
 
 -- where f finds no place at any of the n numbers from i on, the search finds none
@@ -85,11 +85,6 @@ pub data Right-sizes (variables : ℕ) : ℕ → List (List ℕ) → Type 0 wher
   none : {k : ℕ} → Right-sizes variables k []
   next : {k : ℕ} {p : List ℕ} {ps : List (List ℕ)} → Right-size variables k p → Right-sizes variables (k + 1) ps → Right-sizes variables k (p ∷ ps)
 
--- every part ends where the words end, or before
-laid-within : {w : List ℕ} {k from : ℕ} {ps : List (List ℕ)} → Laid w k from ps → from ≤ length w
-laid-within (over e) = omega arith
-laid-within (then told rest) = omega (arith, laid-within rest)
-
 -- where no part is left, the words end
 laid-over : {w : List ℕ} {k from : ℕ} {ps : List (List ℕ)} → Laid w k from ps → length ps ≡ 0 → from ≡ length w
 laid-over (over e) none-left = e
@@ -116,7 +111,7 @@ module _ {w : List ℕ} {k from : ℕ} {p : List ℕ} (told : Part w k from p) w
       let ends : part-end w k ≡ from + length p = omega (arith, told .in-place, told .sized) in
       rw (
         eq-eqb _ _ (told .in-place ∙ sym e),
-        le-ltb (stated-length w) (part-end w k) (omega (arith, laid-within rest)),
+        le-ltb (stated-length w) (part-end w k) (omega (arith, laid-length rest)),
         not-both-hold (eqb (k + 1) (pairs w)) (ltb (part-end w k) (stated-length w)) (λ h.
             let last : k + 1 ≡ pairs w = eqb-true _ _ h in
             le-ltb (part-end w k) (stated-length w) (omega (arith, laid-over rest (omega arith)))),
@@ -135,7 +130,7 @@ module _ (w : List ℕ) (stated : stated-length w ≡ length w) where
 
   pub laid-clear : {from : ℕ} {ps : List (List ℕ)} → Laid w 0 from ps → Right-sizes (variables w) 0 ps → from ≡ pairs-end w → length ps ≡ pairs w → pair-place w ≡ Nowhere
   laid-clear {from} laid rights e n =
-      pairs-fit w (omega (arith, laid-within laid)) ∙ pairs-clear laid rights (due-first w 0 refl ∙ sym e) (omega arith)
+      pairs-fit w (omega (arith, laid-length laid)) ∙ pairs-clear laid rights (due-first w 0 refl ∙ sym e) (omega arith)
 
 -- a known fact whose variable is above that of the fact before it is not bad
 fact-clear : (w : List ℕ) (start i : ℕ) → Known (domains w) (fact-of (word w i))

@@ -14,7 +14,7 @@ fact-word f = f .variable * limits .values + f .value
 abbrev pub fact-words : Assignment → List ℕ
 fact-words q = map fact-word q
 
--- the part of an action: its price, its number of precondition facts, those facts, then its effect facts
+-- the part of an action: its cost, its number of precondition facts, those facts, then its effect facts
 unfoldable pub action-part : Action → List ℕ
 action-part a = a .cost ∷ length (a .precondition) ∷ (fact-words (a .precondition) ++ fact-words (a .effect))
 
@@ -22,7 +22,8 @@ action-part a = a .cost ∷ length (a .precondition) ∷ (fact-words (a .precond
 unfoldable pub parts : Task → List (List ℕ)
 parts T = T .domains ∷ T .initial ∷ fact-words (T .goal) ∷ map action-part (T .actions)
 
--- the pairs of offset and length of parts that begin at word `from`: a later offset is the one before plus that length
+-- the pairs of offset and length of parts that begin at word `from`:
+-- each later offset is the offset before it plus that length
 unfoldable pub pairs-of : ℕ → List (List ℕ) → List ℕ
 pairs-of from [] = []
 pairs-of from (p ∷ ps) = from ∷ length p ∷ pairs-of (from + length p) ps
