@@ -10,3 +10,15 @@ pub mod Parts
 pub mod TableLaws
 -- Accepted: an accepted task means a well-formed SAS+ task.
 pub mod Accepted
+-- LaidLaws: parts that stand end to end among words, as their pairs say; they do in just the words that `sheet-of` writes.
+pub mod LaidLaws
+-- EncodeLaws: a fact and its word, and that words among which the parts of a task are laid out mean that task.
+pub mod EncodeLaws
+-- PassLaws: words that are laid out in order and mean a task that can be written are accepted.
+pub mod PassLaws
+-- AcceptedLaid: among the words of an accepted sheet the parts of its task are laid out.
+pub mod AcceptedLaid
+-- EncodeTheorem: a task is written as an accepted sheet that means it, and an accepted sheet is how the task that it means is written.
+pub mod EncodeTheorem
+-- EncodeExamples: document 01's sheet P and its task, computed.
+pub mod EncodeExamples

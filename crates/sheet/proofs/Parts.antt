@@ -90,13 +90,17 @@ module _ (w : List ℕ) (accepted : Accepted w) where
       clear : first (bad-pair w) 0 (pairs w) ≡ Nowhere
       clear = or-else-nowhere (when (ltb (stated-length w) (pairs-end w)) 0) (first (bad-pair w) 0 (pairs w)) (accepted-clear w accepted .pairs) .1
 
+  -- the first part begins where the pairs end
+  pub first-part : offset w 0 ≡ pairs-end w
+  first-part = pair 0 (omega arith) .in-place ∙ due-first w
+
   -- a part ends where the next begins
   pub next-part : (k : ℕ) → k + 1 < pairs w → part-end w k ≡ offset w (k + 1)
   next-part k h = sym (pair (k + 1) h .in-place ∙ due-later w k)
 
   -- each begins where the pairs end, or later
   pub part-after-pairs : (k : ℕ) → k < pairs w → pairs-end w ≤ offset w k
-  part-after-pairs zero h = omega (arith, pair 0 h .in-place, due-first w)
+  part-after-pairs zero h = omega (arith, first-part)
   part-after-pairs (suc k) h =
       let here : pairs-end w ≤ offset w (k + 1) = omega (arith, next-part k (omega arith), part-after-pairs k (omega arith)) in
       rw (add-one k) at here

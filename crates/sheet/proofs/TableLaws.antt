@@ -75,6 +75,10 @@ module _ {A : Type 0} (f : ℕ → A) where
       (λ later. let (k, low, high, e) = table-member-at (i + 1) n later in (k, omega arith, omega arith, e))
       (List·Memᴰ·cases-cons m)
 
+pub facts-length : (w : List ℕ) (i end : ℕ) → length (facts w i end) ≡ end - i
+unfolding facts
+facts-length w i end = table-length _ i (end - i)
+
 -- from the end on there is no fact
 pub facts-over : (w : List ℕ) (i end : ℕ) → end ≤ i → facts w i end ≡ []
 unfolding facts table

@@ -1,0 +1,206 @@
+-- Words of edition 1 are accepted where their parts are laid out as the pairs say and they mean a task that can be written: what `Parts` and `Accepted` say
+-- of accepted words, the other way round, check by check. Assumes nothing.
+use Prim.Native.Nat.{ℕ, zero, suc, _+_, _-_, _≤_, _<_}
+use native.Mathlib.Omega.{arith}
+use mathlib.Core.Path.{_≡_, refl, sym, _∙_, ap}
+use mathlib.Core.Bool.{Bool, true, false, not, _&&_, _||_}
+use mathlib.Core.List.{List, [], _∷_}
+use lib.ListN.{length, getD}
+use lib.Dec.{ltb, leb, eqb}
+use borrow.Author.Tests.{le-ltb, lt-leb, eq-eqb, ltb-true, leb-true, eqb-true}
+use Rattle.refusal.specs.declared.place.Place.{Place}
+use Rattle.refusal.specs.declared.place.Place.the-variants.{Nowhere}
+use Rattle.refusal.specs.Place.{when, first-of-next, first-of, first}
+use Rattle.refusal.proofs.PlaceLaws.{first-over, first-more}
+use Rattle.refusal.proofs.CheckLaws.{answer-passes, answer-nothing}
+use Rattle.sas.specs.Task.{Fact, Assignment}
+use Rattle.sas.specs.WellFormed.{Known, Rising, Action-formed}
+use Rattle.sas.specs.WellFormed.Rising.{empty, fact}
+use Rattle.sheet.specs.Limits.{limits}
+use Rattle.sheet.specs.Layout.{word, edition, variables, actions, stated-length, pairs, pairs-end, offset, size, part-end, domain, start}
+use Rattle.sheet.specs.Decode.{fact-of, facts, domains, initial, goal, action, task}
+use Rattle.sheet.specs.Encode.{Encodable}
+use Rattle.sheet.specs.Causes.{bad-length, bad-edition, bad-counts, due, wrong-size, bad-pair, pair-place, bad-variable, variable-place, bad-fact, group-place, action-place, fact-place, cost-place, sheet-checks, Accepted}
+use Rattle.sheet.proofs.TableLaws.{table-at, facts-length, facts-next}
+use Rattle.sheet.proofs.PairLaws.{due-first, due-later, pairs-fit}
+use Rattle.sheet.proofs.CauseLaws.{Clear}
+use Rattle.sheet.proofs.Parts.{Measured}
+use Rattle.sheet.proofs.Accepted.{domains-length, domains-at, action-known}
+use Rattle.sheet.proofs.LaidLaws.{Part, Laid, laid-length}
+use Rattle.sheet.proofs.LaidLaws.Laid.{over, then}
+
+-- where f finds no place at any of the n numbers from i on, the search finds none
+none-among : (f : ℕ → Place) (i n : ℕ) → ((k : ℕ) → i ≤ k → k < i + n → f k ≡ Nowhere) → first-of-next f i n ≡ Nowhere
+unfolding first-of-next
+none-among f i zero none = refl
+none-among f i (suc n) none = rw (none i (omega arith) (omega arith), first-of-next) (none-among f (i + 1) n (λ k low high. none k (omega arith) (omega arith)))
+
+first-of-none : (f : ℕ → Place) (end : ℕ) → ((k : ℕ) → k < end → f k ≡ Nowhere) → first-of f 0 end ≡ Nowhere
+unfolding first-of
+first-of-none f end none = none-among f 0 (end - 0) (λ k low high. none k (omega arith))
+
+-- nor is there one where a test is false at every number
+first-none : (t : ℕ → Bool) (end : ℕ) → ((k : ℕ) → k < end → t k ≡ false) → first t 0 end ≡ Nowhere
+unfolding first
+first-none t end none = first-of-none _ end (λ k h. ap (λ b. when b k) (none k h))
+
+-- of two tests, the second of which fails where the first holds, not both hold
+not-both-hold : (a b : Bool) → (a ≡ true → b ≡ false) → (a && b) ≡ false
+not-both-hold true b h = h refl
+not-both-hold false b h = refl
+
+-- where none of the sheet's checks fires, the sheet is accepted
+clear-accepted : (w : List ℕ) → Clear w → Accepted w
+unfolding sheet-checks
+clear-accepted w clear =
+    answer-passes _ _ (ap (λ b. when b 0) (clear .length))
+    ∙ answer-passes _ _ (ap (λ b. when b 0) (clear .edition))
+    ∙ answer-passes _ _ (ap (λ b. when b 0) (clear .counts))
+    ∙ answer-passes _ _ (clear .pairs)
+    ∙ answer-passes _ _ (clear .variables)
+    ∙ answer-passes _ _ (clear .facts)
+    ∙ answer-passes _ _ (clear .costs)
+    ∙ answer-nothing
+
+module _ (w : List ℕ) where
+  length-clear : Measured w → bad-length w ≡ false
+  unfolding bad-length
+  length-clear measured = rw (le-ltb _ _ (measured .header), le-ltb _ _ (measured .words), eq-eqb _ _ (measured .stated))
+
+  edition-clear : edition w ≡ 1 → bad-edition w ≡ false
+  unfolding bad-edition
+  edition-clear e = rw (eq-eqb _ _ e)
+
+  counts-clear : Measured w → bad-counts w ≡ false
+  unfolding bad-counts
+  counts-clear measured = rw (le-ltb _ _ (measured .some-variable), le-ltb _ _ (measured .variables), le-ltb _ _ (measured .actions))
+
+-- a part of pair k is as long as its kind wants: a word for each variable, or for an action a cost, a number of facts, and that many facts at least
+pub record Right-size (variables k : ℕ) (p : List ℕ) : Type 0 where
+  pub of-variables : k < 2 → length p ≡ variables
+  pub of-action : 3 ≤ k → getD p 1 0 + 2 ≤ length p
+
+-- and so is each part from pair k on
+pub data Right-sizes (variables : ℕ) : ℕ → List (List ℕ) → Type 0 where
+  none : {k : ℕ} → Right-sizes variables k []
+  next : {k : ℕ} {p : List ℕ} {ps : List (List ℕ)} → Right-size variables k p → Right-sizes variables (k + 1) ps → Right-sizes variables k (p ∷ ps)
+
+-- where no part is left, the words end
+laid-over : {w : List ℕ} {k from : ℕ} {ps : List (List ℕ)} → Laid w k from ps → length ps ≡ 0 → from ≡ length w
+laid-over (over e) none-left = e
+laid-over (then told rest) none-left = absurd (omega arith)
+
+module _ {w : List ℕ} {k from : ℕ} {p : List ℕ} (told : Part w k from p) where
+  facts-fit : getD p 1 0 + 2 ≤ length p → (ltb (size w k) 2 || ltb (size w k - 2) (word w (offset w k + 1))) ≡ false
+  facts-fit h =
+      let count : word w (offset w k + 1) ≡ getD p 1 0 = told .stands .reads 1 _ (omega (arith, told .in-place)) (omega arith) in
+      rw (le-ltb (size w k) 2 (omega (arith, told .sized)), le-ltb (size w k - 2) (word w (offset w k + 1)) (omega (arith, told .sized)))
+
+  size-clear : Right-size (variables w) k p → wrong-size w k ≡ false
+  unfolding wrong-size
+  size-clear right =
+      rw (
+        not-both-hold (ltb k 2) (not (eqb (size w k) (variables w))) (λ h. ap not (eq-eqb _ _ (told .sized ∙ right .of-variables (ltb-true _ _ h)))),
+        not-both-hold (leb 3 k) (ltb (size w k) 2 || ltb (size w k - 2) (word w (offset w k + 1))) (λ h. facts-fit (right .of-action (leb-true _ _ h))),
+      )
+
+  pair-clear : {ps : List (List ℕ)} → due w k ≡ from → Right-size (variables w) k p → Laid w (k + 1) (from + length p) ps
+      → stated-length w ≡ length w → k + 1 + length ps ≡ pairs w → bad-pair w k ≡ false
+  unfolding bad-pair
+  pair-clear {ps} e right rest stated number =
+      let ends : part-end w k ≡ from + length p = omega (arith, told .in-place, told .sized) in
+      rw (
+        eq-eqb _ _ (told .in-place ∙ sym e),
+        le-ltb (stated-length w) (part-end w k) (omega (arith, laid-length rest)),
+        not-both-hold (eqb (k + 1) (pairs w)) (ltb (part-end w k) (stated-length w)) (λ h.
+            let last : k + 1 ≡ pairs w = eqb-true _ _ h in
+            le-ltb (part-end w k) (stated-length w) (omega (arith, laid-over rest (omega arith)))),
+        size-clear right,
+      )
+
+module _ (w : List ℕ) (stated : stated-length w ≡ length w) where
+  pairs-clear : {k from : ℕ} {ps : List (List ℕ)} → Laid w k from ps → Right-sizes (variables w) k ps → due w k ≡ from → k + length ps ≡ pairs w
+      → first (bad-pair w) k (pairs w) ≡ Nowhere
+  pairs-clear {k} {from} (over e) none d n = first-over (bad-pair w) k (pairs w) (omega arith)
+  pairs-clear {k} {from} (then {p = p} told rest) (next right rights) d n =
+      let before : k + 1 - 1 ≡ k = omega arith in
+      let following : due w (k + 1) ≡ part-end w k = due-later w (k + 1) (λ e. omega arith) ∙ ap (part-end w) before in
+      first-more (bad-pair w) k (pairs w) (omega arith) (pair-clear told d right rest stated (omega arith))
+      ∙ pairs-clear rest rights (following ∙ omega (arith, told .in-place, told .sized)) (omega arith)
+
+  pub laid-clear : {from : ℕ} {ps : List (List ℕ)} → Laid w 0 from ps → Right-sizes (variables w) 0 ps → from ≡ pairs-end w → length ps ≡ pairs w → pair-place w ≡ Nowhere
+  laid-clear {from} laid rights e n =
+      pairs-fit w (omega (arith, laid-length laid)) ∙ pairs-clear laid rights (due-first w 0 refl ∙ sym e) (omega arith)
+
+-- a known fact whose variable is above that of the fact before it is not bad
+fact-clear : (w : List ℕ) (start i : ℕ) → Known (domains w) (fact-of (word w i))
+    → (start < i → fact-of (word w (i - 1)) .variable < fact-of (word w i) .variable) → bad-fact w start i ≡ false
+unfolding bad-fact
+fact-clear w start i known rising =
+    let f : Fact = fact-of (word w i) in
+    let below : f .variable < variables w = omega (arith, known .variable, domains-length w) in
+    let value : f .value < domain w (f .variable) = rw (domains-at w (f .variable) below) at (known .value) in
+    rw (
+      lt-leb _ _ below,
+      lt-leb _ _ value,
+      not-both-hold (ltb start i) (leb (f .variable) (fact-of (word w (i - 1)) .variable)) (λ h. lt-leb _ _ (rising (ltb-true _ _ h))),
+    )
+
+-- a group of facts that is an assignment over the domains has no bad fact from word i on, if that at i is above the one before it
+group-clear : (w : List ℕ) (start i end : ℕ) {from : ℕ} {q : Assignment} → Rising (domains w) from q → q ≡ facts w i end
+    → (start < i → fact-of (word w (i - 1)) .variable < from) → first (bad-fact w start) i end ≡ Nowhere
+group-clear w start i end empty e after = first-over (bad-fact w start) i end (omega (arith, facts-length w i end, ap length e))
+group-clear w start i end (fact {f = f} {q = q} known above rest) e after =
+    let more : i < end = omega (arith, facts-length w i end, ap length e) in
+    let here : f ≡ fact-of (word w i) = cc (facts-next w i end more) in
+    let later : q ≡ facts w (i + 1) end = cc (facts-next w i end more) in
+    let variable : f .variable ≡ fact-of (word w i) .variable = ap (λ g. g .variable) here in
+    let back : i + 1 - 1 ≡ i = omega arith in
+    first-more (bad-fact w start) i end more (fact-clear w start i (rw here at known) (λ h. omega (arith, after h)))
+    ∙ group-clear w start (i + 1) end rest later (λ h. rw back (omega arith))
+
+-- nor has one at its first fact
+whole-clear : (w : List ℕ) (start end : ℕ) → Rising (domains w) 0 (facts w start end) → group-place w start end ≡ Nowhere
+unfolding group-place
+whole-clear w start end rising = group-clear w start start end rising refl (λ h. absurd (omega arith))
+
+-- words of edition 1 that are measured, whose pairs fit, and that mean a task that can be written, are accepted
+module _ (w : List ℕ) (writable : Encodable (task w)) where
+  variable-clear : (v : ℕ) → v < variables w → bad-variable w v ≡ false
+  unfolding bad-variable task initial
+  variable-clear v h =
+      let there : v < length (domains w) = omega (arith, domains-length w) in
+      let starts : getD (initial w) v 0 ≡ start w v = table-at (start w) 0 (variables w) v v 0 h (omega arith) in
+      let below : start w v < domain w v = rw (domains-at w v h, starts) at (writable .well-formed .initial .below v there) in
+      let few : domain w v ≤ limits .values = rw (domains-at w v h) at (writable .values v there) in
+      rw (le-ltb (domain w v) 1 (omega arith), le-ltb (limits .values) (domain w v) few, lt-leb _ _ below)
+
+  variables-clear : variable-place w ≡ Nowhere
+  unfolding variable-place
+  variables-clear = first-none (bad-variable w) (variables w) variable-clear
+
+  action-clear : (a : ℕ) → a < actions w → action-place w a ≡ Nowhere
+  unfolding action-place task action
+  action-clear a h =
+      let here : Action-formed (domains w) (action w a) = writable .well-formed .actions (action w a) (action-known w a h) in
+      rw (whole-clear w _ _ (here .precondition), whole-clear w _ _ (here .effect))
+
+  facts-clear : fact-place w ≡ Nowhere
+  unfolding fact-place task goal
+  facts-clear = rw (whole-clear w _ _ (writable .well-formed .goal), first-of-none (action-place w) (actions w) action-clear)
+
+  costs-clear : cost-place w ≡ Nowhere
+  unfolding cost-place action
+  costs-clear = first-none _ (actions w) (λ a h. le-ltb _ _ (writable .costs (action w a) (action-known w a h)))
+
+  pub passes : edition w ≡ 1 → Measured w → pair-place w ≡ Nowhere → Accepted w
+  passes first measured pairs =
+      clear-accepted w (record {
+        length = length-clear w measured;
+        edition = edition-clear w first;
+        counts = counts-clear w measured;
+        pairs = pairs;
+        variables = variables-clear;
+        facts = facts-clear;
+        costs = costs-clear;
+      })

@@ -1,0 +1,55 @@
+-- The words of the job sheet that a SAS+ task is written as (document 01, "The job sheet"), and which tasks can be.
+-- Assumes nothing.
+use Prim.Native.Nat.{ℕ, _+_, _*_, _≤_, _<_}
+use mathlib.Core.List.{List, [], _∷_, _++_, map, flatten, List·Memᴰ}
+use lib.ListN.{length, getD}
+use Rattle.sas.specs.Task.{Fact, Assignment, Action, Task}
+use Rattle.sas.specs.WellFormed.{Well-formed}
+use Rattle.sheet.specs.Limits.{limits}
+
+-- a fact is one word, variable × 256 + value
+abbrev pub fact-word : Fact → ℕ
+fact-word f = f .variable * limits .values + f .value
+
+abbrev pub fact-words : Assignment → List ℕ
+fact-words q = map fact-word q
+
+-- the part of an action: its cost, its number of precondition facts, those facts, then its effect facts
+unfoldable pub action-part : Action → List ℕ
+action-part a = a .cost ∷ length (a .precondition) ∷ (fact-words (a .precondition) ++ fact-words (a .effect))
+
+-- the parts in the order of their pairs: the domain sizes, the starting values, the goal facts, then the actions
+unfoldable pub parts : Task → List (List ℕ)
+parts T = T .domains ∷ T .initial ∷ fact-words (T .goal) ∷ map action-part (T .actions)
+
+-- the pairs of offset and length of parts that begin at word `from`:
+-- each later offset is the offset before it plus that length
+unfoldable pub pairs-of : ℕ → List (List ℕ) → List ℕ
+pairs-of from [] = []
+pairs-of from (p ∷ ps) = from ∷ length p ∷ pairs-of (from + length p) ps
+
+-- the first offset, past the first four words and a pair for each part
+abbrev pub first-offset : List (List ℕ) → ℕ
+first-offset ps = 4 + 2 * length ps
+
+-- all words from word 4 on: the pairs, then the parts end to end
+unfoldable pub body : List (List ℕ) → List ℕ
+body ps = pairs-of (first-offset ps) ps ++ flatten ps
+
+-- the words of these parts: the edition, V, A, and N, the number of words, before the rest
+unfoldable pub sheet-of : ℕ → ℕ → ℕ → List (List ℕ) → List ℕ
+sheet-of edition variables actions ps = edition ∷ variables ∷ actions ∷ (4 + length (body ps)) ∷ body ps
+
+-- edition 1, a domain for each variable, and the task's actions
+unfoldable pub encode : Task → List ℕ
+encode T = sheet-of 1 (length (T .domains)) (length (T .actions)) (parts T)
+
+-- a task that can be written: well-formed, so that each domain has at least its starting value, and within the limits
+pub record Encodable (T : Task) : Type 0 where
+  pub well-formed : Well-formed T
+  pub some-variable : 1 ≤ length (T .domains)
+  pub variables : length (T .domains) ≤ limits .variables
+  pub values : (v : ℕ) → v < length (T .domains) → getD (T .domains) v 0 ≤ limits .values
+  pub actions : length (T .actions) ≤ limits .actions
+  pub costs : (a : Action) → List·Memᴰ a (T .actions) → a .cost ≤ limits .cost
+  pub words : length (encode T) ≤ limits .words
