@@ -1,72 +1,71 @@
--- The bits of a group of facts, from its last fact to its first, by the cases of the loop that packs them: each turn puts one digit below those behind it, and
--- a word has room for them all. Assumes nothing.
-use Prim.Native.Nat.{ℕ, _+_, _-_, _*_, _^_, _≤_, _<_, min}
-use native.Mathlib.Nat.{add-zero, min-le-left, min-le-right}
+-- The bits of a group of facts, from its first fact on, by the cases of the loop that packs them: what is packed and what is still to come are the whole, so
+-- that nothing wraps. Assumes nothing.
+use Prim.Native.Nat.{ℕ, _+_, _-_, _*_, _%_, _^_, _≤_, _<_}
+use native.Mathlib.Nat.{add-zero, mul-add, mul-comm, mul-assoc, mul-zero, one-mul, zero-add, pow-zero, pow-suc}
+use native.Mathlib.Numerals.{add-one}
 use native.Mathlib.Omega.{arith}
-use mathlib.Core.Path.{_≡_, refl, _∙_}
+use mathlib.Core.Path.{_≡_}
 use mathlib.Core.List.{List}
-use lib.ListN.{length, getD, length-map}
-use lib.Arith.{le-zero}
-use borrow.Author.Tests.{eq-eqb, ne-eqb}
+use lib.ListN.{take}
+use lib.Seq.{take-nil}
+use lib.Pow.{shl-exact}
 use Rattle.mask.specs.Mask.{word-bits, digit, binary}
-use Rattle.mask.proofs.MaskWordLaws.{binary-fits}
-use Rattle.sheet.specs.Layout.{word}
-use Rattle.sheet.specs.Decode.{facts}
-use Rattle.sheet.proofs.TableLaws.{table-length, facts-over, facts-next}
-use Rattle.landmark.specs.Tables.{fact-word, is-wanted}
-use Rattle.landmark.proofs.StampLaws.{word-of-fact}
-use Rattle.cuts.specs.Bits.{has-wanted, flagged, packed}
+use Rattle.mask.proofs.MaskWordLaws.{binary-below, lowest-digit}
+use Rattle.sheet.specs.declared.group.Group.{Group}
+use Rattle.sheet.specs.Group.{facts-in, first-fact, rest-of}
+use Rattle.sheet.proofs.EncodeLaws.{word-of-fact}
+use Rattle.sheet.proofs.GroupLaws.{group-over, group-next}
+use Rattle.fact_table.specs.Tables.{has-wanted}
+use Rattle.cuts.specs.Bits.{flagged, packed}
 
--- the digit of a fact, by what stands at its word
-module _ (t : List ℕ) (x y : ℕ) (read : y ≡ getD t x 0) where
-  pub digit-one : y ≡ is-wanted → 1 ≡ digit (has-wanted t x)
-  unfolding has-wanted
-  digit-one e = rw (← read, eq-eqb y is-wanted e)
+-- one digit d more at the weight p, with t to come behind it
+regroup : (b p t d : ℕ) → b + p * (2 * t + d) ≡ b + d * p + p * 2 * t
+regroup b p t d = rw (mul-add, mul-comm d p, mul-assoc) (omega arith)
 
-  pub digit-zero : (y ≡ is-wanted → ⊥) → 0 ≡ digit (has-wanted t x)
-  unfolding has-wanted
-  digit-zero e = rw (← read, ne-eqb y is-wanted e)
+module _ (t w : List ℕ) where
+  -- the number that the first n facts of a group make
+  abbrev pub to-come : ℕ → Group → ℕ
+  to-come n g = binary (take n (flagged t (facts-in w g)))
 
-pub facts-length : (w : List ℕ) (i end : ℕ) → length (facts w i end) ≡ end - i
-unfolding facts
-facts-length w i end = table-length _ i (end - i)
-
-module _ (t w : List ℕ) (from end : ℕ) where
-  -- the end of the facts that have a bit
-  abbrev top : ℕ
-  top = from + min word-bits (end - from)
-
-  -- the facts from the k-th on are packed
-  pub record Packed (k bits : ℕ) : Type 0 where
-    pub few : k ≤ min word-bits (end - from)
-    pub packs : bits ≡ binary (flagged t (facts w (from + k) top))
-
-  pub packed-start : (k : ℕ) → k ≡ min word-bits (end - from) → Packed k 0
+  over-none : (n : ℕ) (g : Group) → g .end ≤ g .at → to-come n g ≡ 0
   unfolding binary
-  packed-start k e = record { few = omega arith; packs = rw (e, facts-over w top top (omega arith)) }
+  over-none n g h = rw (group-over w g h, take-nil)
 
-  module _ (k bits x d : ℕ) (some-left : 0 < k) (so-far : Packed k bits) (here : x ≡ word w (from + (k - 1))) (shown : d ≡ digit (has-wanted t x)) where
-    one-more : 2 * bits + d ≡ binary (flagged t (facts w (from + (k - 1)) top))
-    unfolding binary
-    one-more =
-        let further : from + (k - 1) + 1 ≡ from + k = omega arith in
-        rw (facts-next w (from + (k - 1)) top (omega (arith, so-far .few)), word-of-fact (word w (from + (k - 1))), ← here, further, ← so-far .packs, shown)
+  first-next : (n : ℕ) (g : Group) → g .at < g .end → to-come (n + 1) g ≡ 2 * to-come n (rest-of w g) + digit (has-wanted t (first-fact w g))
+  unfolding binary
+  first-next n g h = rw (add-one, group-next w g h, word-of-fact (first-fact w g))
 
-    pub packed-more : Packed (k - 1) (2 * bits + d)
-    packed-more = record { few = omega (arith, so-far .few); packs = one-more }
+  -- k facts of the group g are packed, and `rest` is what is left of it
+  pub record Packing (g rest : Group) (k bits : ℕ) : Type 0 where
+    pub room : k ≤ word-bits
+    pub whole : bits + 2 ^ k * to-come (word-bits - k) rest ≡ packed t (facts-in w g)
 
-    pub packed-fits : 2 * bits + d < 2 ^ word-bits
-    packed-fits =
-        let long : length (flagged t (facts w (from + (k - 1)) top)) ≡ top - (from + (k - 1)) = length-map (facts w (from + (k - 1)) top) (λ f. has-wanted t (fact-word f)) ∙ facts-length w (from + (k - 1)) top in
-        rw one-more (binary-fits word-bits (flagged t (facts w (from + (k - 1)) top)) (omega (arith, min-le-left word-bits (end - from))))
+  module _ (g : Group) where
+    pub packing-start : Packing g g 0 0
+    unfolding packed
+    packing-start = record { room = omega arith; whole = rw (pow-zero, one-mul) (zero-add _) }
 
-  pub packed-doubles : (k bits : ℕ) → 0 < k → Packed k bits → 2 * bits < 2 ^ word-bits
-  packed-doubles k bits some-left so-far = omega (arith, packed-fits k bits _ _ some-left so-far refl refl)
+    module _ (rest : Group) (k bits : ℕ) (so-far : Packing g rest k bits) where
+      pub packed-over : rest .end ≤ rest .at → bits ≡ packed t (facts-in w g)
+      packed-over h = rw (over-none (word-bits - k) rest h, mul-zero, add-zero) at (so-far .whole)
 
-  pub packed-end : (k bits : ℕ) → k ≤ 0 → Packed k bits → bits ≡ packed t w from end
-  unfolding packed
-  packed-end k bits none so-far = so-far .packs ∙ rw (le-zero none, add-zero)
+      pub packed-full : word-bits ≤ k → bits ≡ packed t (facts-in w g)
+      unfolding binary
+      packed-full h = let none : word-bits - k ≡ 0 = omega arith in rw (none, mul-zero, add-zero) at (so-far .whole)
 
-  -- the facts that have a bit stand before the end
-  pub inside : (k bits : ℕ) → 0 < k → Packed k bits → from + (k - 1) < end
-  inside k bits some-left so-far = omega (arith, so-far .few, min-le-right word-bits (end - from))
+      module _ (h : rest .at < rest .end) (low : k < word-bits) (x d : ℕ) (read : x ≡ first-fact w rest) (shown : d ≡ digit (has-wanted t x)) where
+        shifted : d * 2 ^ k % 2 ^ word-bits ≡ d * 2 ^ k
+        shifted = let small : d < 2 ^ 1 = rw shown (omega (arith, lowest-digit 0 (has-wanted t x))) in shl-exact 1 k word-bits small (omega arith)
+
+        one-more : bits + d * 2 ^ k + 2 ^ (k + 1) * to-come (word-bits - (k + 1)) (rest-of w rest) ≡ packed t (facts-in w g)
+        one-more =
+            let left : word-bits - k ≡ word-bits - (k + 1) + 1 = omega arith in
+            let double : 2 ^ (k + 1) ≡ 2 ^ k * 2 = rw add-one (pow-suc 2 k) in
+            rw (shown, read, double, ← regroup) (rw (left, first-next (word-bits - (k + 1)) rest h) at (so-far .whole))
+
+        pub packed-fits : bits + d * 2 ^ k % 2 ^ word-bits < 2 ^ word-bits
+        unfolding packed
+        packed-fits = rw shifted (omega (arith, one-more, binary-below word-bits (flagged t (facts-in w g))))
+
+        pub packing-more : (rest′ : Group) → rest′ ≡ rest-of w rest → Packing g rest′ (k + 1) (bits + d * 2 ^ k % 2 ^ word-bits)
+        packing-more rest′ e = rw (e, shifted) (record { room = omega arith; whole = one-more })

@@ -1,35 +1,39 @@
-// The test whether a step may be struck: the wanted facts of its effect hold already.
-use access::flag;
+// The test whether a step may be struck: the wanted facts that it may write hold already.
 use access::word;
-use sheet::layout::action_end;
-use sheet::layout::effect_at;
+use sheet::group::Group;
+use sheet::group::facts_of;
 use step::facts::holds;
 ghost use mathlib.Core.Path.{_≡_};
 ghost use lib.ListN.{getD};
-ghost use Rattle.sheet.specs.Decode.{facts};
-ghost use Rattle.cuts.specs.Bits.{bits-hold, strikes};
+ghost use Rattle.sheet.specs.Decode.{fact-of};
+ghost use Rattle.sheet.specs.Group.{facts-in};
+ghost use Rattle.cuts.specs.Bits.{is-missing, bits-hold, strikes};
 
-// Whether each fact from word `from` up to end whose bit is one holds in a state; the first has the lowest bit.
-pub fn wanted_hold(words: &[u32], state: &[u32], bits: u64, from: usize, end: usize) -> bool
-    ensures { λ r. ⌜ r ≡ bits-hold (now (state .entry)) bits (facts (now (words .entry)) from end) ⌝ }
+// Whether a fact whose bit is the lowest is wanted and does not hold.
+fn missing(state: &[u32], bits: u64, fact: u32) -> bool
+    ensures { λ r. ⌜ r ≡ is-missing (now (state .entry)) bits (fact-of fact) ⌝ }
 {
-    let mut rest = bits;
-    let mut at = from;
-    while at < end {
-        if rest == 0 {
+    if bits % 2 == 1 {
+        return !holds(state, fact);
+    }
+    false
+}
+
+// Whether each fact of a group whose bit is one holds in a state; the first has the lowest bit.
+fn wanted_hold(words: &[u32], state: &[u32], bits: u64, group: Group) -> bool
+    ensures { λ r. ⌜ r ≡ bits-hold (now (state .entry)) bits (facts-in (now (words .entry)) group) ⌝ }
+{
+    let mut left = bits;
+    let mut rest = group;
+    while rest.at < rest.end {
+        if left == 0 {
             return true;
         }
-        if rest % 2 == 1 {
-            if holds(state, word(words, at)) {
-                rest /= 2;
-                at += 1;
-            } else {
-                return false;
-            }
-        } else {
-            rest /= 2;
-            at += 1;
+        if missing(state, left, rest.first(words)) {
+            return false;
         }
+        left /= 2;
+        rest = rest.rest(words);
     }
     true
 }
@@ -41,26 +45,10 @@ fn bits_at(bits: &[u64], i: usize) -> u64
     if i < bits.len() { bits[i] } else { 0 }
 }
 
-// Whether the step at index i may be struck: it is no landmark, and each wanted fact of its effect holds.
-pub fn may_strike(
-    words: &[u32],
-    plan: &[u32],
-    flags: &[bool],
-    bits: &[u64],
-    state: &[u32],
-    i: usize,
-) -> bool
-    ensures { λ r. ⌜ r ≡ strikes (now (words .entry)) (now (plan .entry)) (now (flags .entry)) (now (bits .entry)) (now (state .entry)) i ⌝ }
+// Whether the step at index i may be struck in a state: each wanted fact that it may write holds there.
+pub fn may_strike(words: &[u32], plan: &[u32], bits: &[u64], i: usize, state: &[u32]) -> bool
+    ensures { λ r. ⌜ r ≡ strikes (now (words .entry)) (now (plan .entry)) (now (bits .entry)) i (now (state .entry)) ⌝ }
 {
-    if flag(flags, i) {
-        return false;
-    }
-    let action = word(plan, i);
-    wanted_hold(
-        words,
-        state,
-        bits_at(bits, i),
-        effect_at(words, action),
-        action_end(words, action),
-    )
+    let facts = facts_of(words, word(plan, i));
+    wanted_hold(words, state, bits_at(bits, i), facts.effect)
 }

@@ -1,2 +1,2 @@
--- PartLaws: how many words a part has.
-pub mod PartLaws
+-- TakenLaws: how many words a part has.
+pub mod TakenLaws

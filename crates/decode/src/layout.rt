@@ -1,12 +1,11 @@
-// A task and its plan as lines of words, each part under a comment. The parts are taken in turn up to where each ends, so every word
-// is printed once and in order, even where the task is wrong about its parts.
+// A task and its plan as lines of words, each part under a comment. The parts are taken in turn up to where each
+// ends, so every word is printed once and in order, even where the task is wrong about its parts.
 use access::front;
 use libc::STDOUT_FILENO;
+use sheet::group::facts_of;
+use sheet::group::goal as goal_of;
 use sheet::layout::PAIRS_AT;
-use sheet::layout::action_end;
 use sheet::layout::actions;
-use sheet::layout::goal_at;
-use sheet::layout::goal_end;
 use sheet::layout::start_at;
 use sheet::layout::variables;
 use text::spell::LINE;
@@ -69,6 +68,13 @@ fn domains_at(sheet: &[u32]) -> usize {
     if count < end { end - count } else { 0 }
 }
 
+// Where the part of an action ends, which its effect does too.
+fn action_end(sheet: &[u32], a: u32) -> usize {
+    let facts = facts_of(sheet, a);
+    let effect = facts.effect;
+    effect.end
+}
+
 // Prints the actions from index `from` on, and answers where it stopped.
 fn print_actions(sheet: &[u32], from: usize) -> usize {
     note(b"actions: price, number of precondition facts, precondition facts, effect facts");
@@ -92,9 +98,10 @@ fn print_task(sheet: &[u32]) {
     note(b"domain sizes");
     let start = print_to(sheet, domains, start_at(sheet));
     note(b"starting values");
-    let goal = print_to(sheet, start, goal_at(sheet));
+    let facts = goal_of(sheet);
+    let goal = print_to(sheet, start, facts.at);
     note(b"goal facts, each variable * 256 + value");
-    let first = print_to(sheet, goal, goal_end(sheet));
+    let first = print_to(sheet, goal, facts.end);
     let rest = print_actions(sheet, first);
     print_to(sheet, rest, sheet.len());
 }

@@ -1,5 +1,5 @@
-// The program that turns little-endian words into a text of words, which `encode` turns back into them. A task with its plan is laid out
-// part by part; other words are printed plainly.
+// The program that turns little-endian words into a text of words, which `encode` turns back into them. A task with
+// its plan is laid out part by part; other words are printed plainly.
 // layout: the lines of the text.
 mod layout;
 
@@ -8,7 +8,7 @@ use crate::layout::print_words;
 use access::front;
 use libc::STDIN_FILENO;
 use program::frame::Frame;
-use program::framing::frame;
+use program::framing::frame_input;
 use program::unpack::unpack;
 use program::word::WORD;
 use sheet::layout::actions;
@@ -22,8 +22,12 @@ fn print_bytes(bytes: &[u8]) {
     let mut space = [0u32; MOST];
     unpack(bytes, &mut space);
     let words = front(&space, bytes.len() / WORD);
-    let framed = frame(bytes);
-    if let Frame::Whole { task, plan: _ } = framed {
+    let framed = frame_input(bytes, 0);
+    if let Frame::Whole {
+        task,
+        plan: _,
+        end: _,
+    } = framed {
         if actions(front(words, task)) <= Sheet::ACTIONS {
             print_sheet(words, task);
             return;

@@ -6,9 +6,10 @@ use native.Mathlib.Nat.{min-le-left, min-le-right}
 use native.Mathlib.Omega.{arith}
 use mathlib.Core.Path.{_≡_, refl, sym, _∙_, ap}
 use mathlib.Core.Bool.{true, false, true≢false, false≢true}
+use mathlib.Core.Option.{none}
 use mathlib.Core.List.{List, []}
 use lib.ListN.{length, take, length-map}
-use lib.Seq.{sets, sets-eq, take-at}
+use lib.Seq.{sets-eq, take-at}
 use Rattle.refusal.specs.declared.Refusal.{Refusal}
 use Rattle.refusal.specs.declared.Verdict.{Verdict}
 use Rattle.refusal.specs.declared.Verdict.the-variants.{Passed, Refused}
@@ -16,18 +17,19 @@ use Rattle.tally.specs.declared.Tally.{Tally}
 use Rattle.tally.specs.declared.Order.{Order}
 use Rattle.tally.specs.declared.Order.the-variants.{Less, Equal, Greater}
 use Rattle.tally.specs.Tally.{comparison}
-use Rattle.sheet.specs.Decode.{goal, action}
+use Rattle.sheet.specs.Decode.{action}
 use Rattle.plan.specs.Valid.{steps}
 use Rattle.reduction.specs.Reduction.{Reduction, kept, count, lower}
-use Rattle.reduction.specs.Elimination.{eliminate, greedy}
 use Rattle.reduction.proofs.ReductionLaws.{kept-length, left-length}
-use Rattle.service.specs.Held.{start, held, Leaves}
-use Rattle.service.specs.Reduced.{tally-left, output-left}
+use Rattle.service.specs.Reduced.{reduction-checks, tally-left, output-left}
+use Rattle.refusal.specs.Refusal.{told}
+use Rattle.refusal.specs.Check.{answer}
 use Rattle.service.specs.Tallied.{is-less}
-use Rattle.service.proofs.ChecksLaws.{roomy}
+use Rattle.service.proofs.LodgedLaws.{roomy}
 use Rattle.service.proofs.LessLaws.{less-lower}
 use Rattle.elimination.specs.Eliminations.{elimination-of, greedy-elimination-of, Reduces-both, cheaper-part}
-use Rattle.elimination.proofs.LeavesLaws.{elimination-leaves, greedy-leaves}
+use Rattle.elimination.proofs.LeavesLaws.{left-fits}
+use Rattle.elimination.specs.declared.single.Elimination.the-variants.{Plain, Greedy}
 
 -- an output with room for the list begins with the list left
 front-left : (l : List ℕ) (m : Reduction) (before : List ℕ) → length m ≡ length l → length l ≤ length before → take (count m) (output-left l m before) ≡ kept m l
@@ -65,18 +67,17 @@ shown-first first second t u not-less = by-case (comparison u t) refl
 module _ (w l before before′ : List ℕ) (v : Verdict) (first second : Tally) (after after′ : List ℕ) (both : Reduces-both w l before before′ v first second after after′) where
   -- the list that is shown where nothing is refused
   module _ (passed : v ≡ Passed) where
+    nothing-refused : answer (reduction-checks w l (min (length before) (length before′))) ≡ none
+    nothing-refused = sym (both .refusal) ∙ ap told passed
+
     fits-first : length (elimination-of w l) ≡ length l
-    fits-first =
-        let left : Leaves l (elimination-of w l) (held l (eliminate (start w) (goal w) (steps w l))) = elimination-leaves w l _ v (both .refusal) passed _ refl in
-        rw (left .same) at (left .fits)
+    fits-first = left-fits _ w l nothing-refused Plain ∙ length-map l (action w)
 
     fits-second : length (greedy-elimination-of w l) ≡ length l
-    fits-second =
-        let left : Leaves l (greedy-elimination-of w l) (held l (greedy (start w) (goal w) (steps w l))) = greedy-leaves w l _ v (both .refusal) passed _ refl in
-        rw (left .same) at (left .fits)
+    fits-second = left-fits _ w l nothing-refused Greedy ∙ length-map l (action w)
 
     room : length l ≤ min (length before) (length before′)
-    room = roomy w l (min (length before) (length before′)) v (both .refusal) passed
+    room = roomy w l (min (length before) (length before′)) nothing-refused
 
     told-first : first ≡ tally-left w l (elimination-of w l)
     told-first = rw passed at (both .first-tally)

@@ -12,22 +12,18 @@ use lib.Seq.{length-take-le, take-take, getD-take, take-at, getD-at, drop-append
 use Rattle.sas.specs.Plan.{satisfies, applicable}
 use Rattle.tally.specs.declared.Tally.{Tally}
 use Rattle.step.specs.Advance.{Advances}
-use Rattle.sheet.specs.Decode.{goal, action}
+use Rattle.sheet.specs.Decode.{initial, goal, action}
 use Rattle.plan.specs.Limits.{most-steps}
 use Rattle.plan.specs.Valid.{steps}
+use Rattle.plan.proofs.FaultLaws.{steps-drop}
 use Rattle.reduction.specs.Reduction.{Reduction, Before}
 use Rattle.reduction.specs.Landmark.{step}
 use Rattle.reduction.specs.Elimination.{walk, after, trial}
 use Rattle.reduction.proofs.TrialLaws.{From-before, trial-from-before, trial-succeeds, success-valid, walk-length, unkept-fails}
 use Rattle.reduction.proofs.BeforeLaws.{Passes, before-next, walk-past}
 use Rattle.elimination.specs.Trial.{Tries}
-use Rattle.service.specs.Held.{start, mask}
+use Rattle.service.specs.Held.{mask}
 use Rattle.elimination.specs.Current.{Current, Eliminates}
-
-steps-drop : (w l : List ℕ) (n : ℕ) → steps w (drop n l) ≡ drop n (steps w l)
-steps-drop w l zero = refl
-steps-drop w [] (suc n) = refl
-steps-drop w (a ∷ l) (suc n) = steps-drop w l n
 
 -- the step at index i is the action that the entry there names
 pub steps-at : (w l : List ℕ) (i : ℕ) → i < length l → step (steps w l) i ≡ action w (getD l i 0)
@@ -45,9 +41,9 @@ module _ (w l : List ℕ) (flags : Reduction) (current : Current w l flags) wher
   pub mask-flag : (i : ℕ) → i < length l → getD (mask l flags) i false ≡ getD flags i false
   mask-flag i h = getD-take (length l) flags i false h
 
-  module _ (i : ℕ) (values : List ℕ) (here : i < length l) (before : Before (start w) (steps w l) (mask l flags) i values) where
-    from : From-before (start w) (steps w l) (mask l flags) i
-    from = trial-from-before (start w) (goal w) (steps w l) (mask l flags) i fits (current .valid-left) (omega (arith, mask-length))
+  module _ (i : ℕ) (values : List ℕ) (here : i < length l) (before : Before (initial w) (steps w l) (mask l flags) i values) where
+    from : From-before (initial w) (steps w l) (mask l flags) i
+    from = trial-from-before (initial w) (goal w) (steps w l) (mask l flags) i fits (current .valid-left) (omega (arith, mask-length))
 
     same-state : from .before ≡ values
     same-state = Option·some-injective _ _ (sym (from .reached) ∙ before)
@@ -65,29 +61,29 @@ module _ (w l : List ℕ) (flags : Reduction) (current : Current w l flags) wher
 
     module _ (met : Bool) (left : Reduction) (struck : Tally) (tries : Tries w l i flags values met left struck) where
       -- what the trial leaves is what the definitions' walk leaves, and no flag is up past it
-      left-flags : left ≡ walk (start w) (steps w l) (set (mask l flags) i false) ++ replicate (most-steps - length l) false
+      left-flags : left ≡ walk (initial w) (steps w l) (set (mask l flags) i false) ++ replicate (most-steps - length l) false
       left-flags =
           tries .flags
           ∙ rw (walked-past .0, from .walked, same-state, ← take-take i (length l) flags (omega arith), steps-drop w l (i + 1), add-one)
           (sym (append-assoc (take i (mask l flags)) (false ∷ walk values (drop (suc i) (steps w l)) (drop (suc i) (mask l flags))) _))
 
-      met-goal : met ≡ satisfies (after (start w) (steps w l) (set (mask l flags) i false)) (goal w)
+      met-goal : met ≡ satisfies (after (initial w) (steps w l) (set (mask l flags) i false)) (goal w)
       met-goal = tries .goal-met ∙ rw (walked-past .1, from .end, same-state, steps-drop w l (i + 1), add-one)
 
       pub trial-met : getD flags i false ≡ true → met ≡ true
-          → trial (start w) (goal w) (steps w l) (mask l flags) i ≡ some (walk (start w) (steps w l) (set (mask l flags) i false))
+          → trial (initial w) (goal w) (steps w l) (mask l flags) i ≡ some (walk (initial w) (steps w l) (set (mask l flags) i false))
       unfolding trial
       trial-met up is = rw (mask-flag i here, up, ← met-goal, is)
 
-      pub trial-unmet : met ≡ false → trial (start w) (goal w) (steps w l) (mask l flags) i ≡ none
+      pub trial-unmet : met ≡ false → trial (initial w) (goal w) (steps w l) (mask l flags) i ≡ none
       unfolding trial
       trial-unmet is = rw (← met-goal, is, and-false)
 
-      pub left-length : length (walk (start w) (steps w l) (set (mask l flags) i false)) ≡ length l
-      left-length = walk-length (start w) (steps w l) (set (mask l flags) i false) ∙ length-set (mask l flags) i false ∙ mask-length
+      pub left-length : length (walk (initial w) (steps w l) (set (mask l flags) i false)) ≡ length l
+      left-length = walk-length (initial w) (steps w l) (set (mask l flags) i false) ∙ length-set (mask l flags) i false ∙ mask-length
 
       -- the reduction that a trial leaves
-      pub left-mask : mask l left ≡ walk (start w) (steps w l) (set (mask l flags) i false)
+      pub left-mask : mask l left ≡ walk (initial w) (steps w l) (set (mask l flags) i false)
       left-mask = rw left-flags (take-at _ _ (length l) left-length)
 
       pub left-current : getD flags i false ≡ true → met ≡ true → Current w l left
@@ -96,14 +92,14 @@ module _ (w l : List ℕ) (flags : Reduction) (current : Current w l flags) wher
             few = current .few;
             long = rw left-flags (simp (length-append, length-replicate, left-length) (omega (arith, current .few)));
             none-past = left-flags ∙ rw left-mask;
-            valid-left = rw left-mask (success-valid (trial-succeeds (start w) (goal w) (steps w l) (mask l flags) i (trial-met up is)));
+            valid-left = rw left-mask (success-valid (trial-succeeds (initial w) (goal w) (steps w l) (mask l flags) i (trial-met up is)));
           }
 
       -- before index i it is the reduction that was tried, and at i it strikes
       front : length (take i (mask l flags)) ≡ i
       front = length-take-le i (mask l flags) (omega (arith, mask-length))
 
-      left-before : Before (start w) (steps w l) (mask l left) i values
+      left-before : Before (initial w) (steps w l) (mask l left) i values
       left-before = rw (left-mask, from .walked, take-at (take i (mask l flags)) _ i front) before
 
       left-struck : getD (mask l left) i false ≡ false
@@ -113,20 +109,20 @@ module _ (w l : List ℕ) (flags : Reduction) (current : Current w l flags) wher
       pub eliminates-struck : getD flags i false ≡ true → met ≡ true → Eliminates w l i flags left values
       eliminates-struck up is =
           let now = left-current up is in
-          let passes = before-next (start w) (goal w) (steps w l) (mask l left) i (rw left-mask (left-length ∙ sym (length-map l (action w)))) (now .valid-left) (rw left-mask (omega (arith, left-length))) left-before in
+          let passes = before-next (initial w) (goal w) (steps w l) (mask l left) i (rw left-mask (left-length ∙ sym (length-map l (action w)))) (now .valid-left) (rw left-mask (omega (arith, left-length))) left-before in
           record { current = now; struck = left-mask ∙ rw (trial-met up is); before = rw add-one (passes .struck-next left-struck) }
 
-    passes : Passes (start w) (steps w l) (mask l flags) i values
-    passes = before-next (start w) (goal w) (steps w l) (mask l flags) i fits (current .valid-left) (omega (arith, mask-length)) before
+    passes : Passes (initial w) (steps w l) (mask l flags) i values
+    passes = before-next (initial w) (goal w) (steps w l) (mask l flags) i fits (current .valid-left) (omega (arith, mask-length)) before
 
     -- elimination's turn at a step that was struck before
     pub eliminates-nothing : getD flags i false ≡ false → Eliminates w l i flags flags values
     eliminates-nothing down =
         let unkept : getD (mask l flags) i false ≡ false = mask-flag i here ∙ down in
-        record { current = current; struck = rw (unkept-fails (start w) (goal w) (steps w l) (mask l flags) i unkept); before = rw add-one (passes .struck-next unkept) }
+        record { current = current; struck = rw (unkept-fails (initial w) (goal w) (steps w l) (mask l flags) i unkept); before = rw add-one (passes .struck-next unkept) }
 
     -- a kept step is done
-    pub advanced : (done : Bool) (values′ : List ℕ) → getD flags i false ≡ true → Advances w values (getD l i 0) done values′ → Before (start w) (steps w l) (mask l flags) (i + 1) values′
+    pub advanced : (done : Bool) (values′ : List ℕ) → getD flags i false ≡ true → Advances w values (getD l i 0) done values′ → Before (initial w) (steps w l) (mask l flags) (i + 1) values′
     advanced done values′ up advances =
         let raised : getD (mask l flags) i false ≡ true = mask-flag i here ∙ up in
         let able : applicable values (action w (getD l i 0)) ≡ true = rw (steps-at w l i here) at (passes .able raised) in

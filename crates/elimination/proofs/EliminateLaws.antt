@@ -7,14 +7,14 @@ use mathlib.Core.Bool.{true, false}
 use mathlib.Core.List.{List, _++_}
 use lib.ListN.{length, replicate, length-map, length-append, length-replicate}
 use lib.Seq.{take-at}
-use Rattle.sheet.specs.Decode.{goal, action}
+use Rattle.sheet.specs.Decode.{initial, goal, action}
 use Rattle.plan.specs.Limits.{most-steps}
 use Rattle.plan.specs.Valid.{steps}
 use Rattle.reduction.specs.Reduction.{Reduction, whole, valid, Before}
 use Rattle.reduction.specs.Elimination.{eliminated, eliminate}
 use Rattle.reduction.proofs.ReductionLaws.{kept-whole}
 use Rattle.reduction.proofs.BeforeLaws.{before-first}
-use Rattle.service.specs.Held.{start, mask, held}
+use Rattle.service.specs.Held.{mask, held}
 use Rattle.elimination.specs.Current.{Current, Eliminates}
 
 -- nothing struck: the flags of a plan that is valid
@@ -22,7 +22,7 @@ module _ (w l : List ℕ) (flags : Reduction) (few : length l ≤ most-steps) (i
   pub all-mask : mask l flags ≡ whole (steps w l)
   all-mask = rw (is, length-map l (action w)) (take-at (replicate (length l) true) _ (length l) (length-replicate (length l) true))
 
-  pub all-current : valid (start w) (goal w) (steps w l) ≡ true → Current w l flags
+  pub all-current : valid (initial w) (goal w) (steps w l) ≡ true → Current w l flags
   all-current v =
       record {
         few = few;
@@ -35,14 +35,14 @@ module _ (w l : List ℕ) (flags : Reduction) (few : length l ≤ most-steps) (i
 pub record Eliminating (w l : List ℕ) (i : ℕ) (flags : Reduction) (values : List ℕ) : Type 0 where
   pub within : i ≤ length l
   pub current : Current w l flags
-  pub so-far : mask l flags ≡ eliminated (start w) (goal w) (steps w l) i
-  pub before : Before (start w) (steps w l) (mask l flags) i values
+  pub so-far : mask l flags ≡ eliminated (initial w) (goal w) (steps w l) i
+  pub before : Before (initial w) (steps w l) (mask l flags) i values
 
-pub eliminating-start : (w l : List ℕ) (flags : Reduction) (values : List ℕ) → length l ≤ most-steps → valid (start w) (goal w) (steps w l) ≡ true
-    → flags ≡ replicate (length l) true ++ replicate (most-steps - length l) false → values ≡ start w → Eliminating w l 0 flags values
+pub eliminating-start : (w l : List ℕ) (flags : Reduction) (values : List ℕ) → length l ≤ most-steps → valid (initial w) (goal w) (steps w l) ≡ true
+    → flags ≡ replicate (length l) true ++ replicate (most-steps - length l) false → values ≡ initial w → Eliminating w l 0 flags values
 unfolding eliminated
 eliminating-start w l flags values few v is starts =
-    record { within = omega arith; current = all-current w l flags few is v; so-far = all-mask w l flags few is; before = rw starts (before-first (start w) (steps w l) (mask l flags)) }
+    record { within = omega arith; current = all-current w l flags few is v; so-far = all-mask w l flags few is; before = rw starts (before-first (initial w) (steps w l) (mask l flags)) }
 
 pub eliminating-more : (w l : List ℕ) (i : ℕ) (flags after : Reduction) (values next : List ℕ) → Eliminating w l i flags values → i < length l → Eliminates w l i flags after next
     → Eliminating w l (i + 1) after next
@@ -51,7 +51,7 @@ eliminating-more w l i flags after values next so here turn =
     record { within = omega arith; current = turn .current; so-far = turn .struck ∙ rw (so .so-far, add-one); before = turn .before }
 
 pub eliminating-end : (w l : List ℕ) (i : ℕ) (flags : Reduction) (values : List ℕ) → Eliminating w l i flags values → length l ≤ i
-    → flags ≡ held l (eliminate (start w) (goal w) (steps w l))
+    → flags ≡ held l (eliminate (initial w) (goal w) (steps w l))
 unfolding eliminate
 eliminating-end w l i flags values so past =
     let all : length (steps w l) ≡ i = length-map l (action w) ∙ omega (arith, so .within) in

@@ -6,25 +6,25 @@ use mathlib.Core.Bool.{true, false, true≢false}
 use mathlib.Core.Option.{none, some}
 use mathlib.Core.List.{List, _++_}
 use lib.ListN.{length, replicate, length-map}
-use Rattle.sheet.specs.Decode.{goal, action}
+use Rattle.sheet.specs.Decode.{initial, goal, action}
 use Rattle.plan.specs.Limits.{most-steps}
 use Rattle.plan.specs.Valid.{steps}
 use Rattle.reduction.specs.Reduction.{Reduction, valid}
 use Rattle.reduction.specs.Elimination.{best, rounds, greedy}
 use Rattle.reduction.proofs.BeforeLaws.{before-first}
 use Rattle.elimination.specs.declared.greedy.Best.{Best}
-use Rattle.service.specs.Held.{start, mask, held}
+use Rattle.service.specs.Held.{mask, held}
 use Rattle.elimination.specs.Current.{Current}
 use Rattle.elimination.specs.Round.{Picks, Looks}
 use Rattle.elimination.proofs.EliminateLaws.{all-current, all-mask}
 
 -- before the first position nothing is found
-pub looks-start : (w l : List ℕ) (m : Reduction) (r : Best) (values : List ℕ) → r .found ≡ false → values ≡ start w → Looks w l m 0 r values
+pub looks-start : (w l : List ℕ) (m : Reduction) (r : Best) (values : List ℕ) → r .found ≡ false → values ≡ initial w → Looks w l m 0 r values
 unfolding best
 looks-start w l m r values none-yet starts =
     record {
       picks = record { nothing-found = λ f. refl; best-found = λ f. absurd (true≢false (sym f ∙ none-yet)); current = λ f. absurd (true≢false (sym f ∙ none-yet)); balanced = λ f. absurd (true≢false (sym f ∙ none-yet)) };
-      before = rw starts (before-first (start w) (steps w l) m);
+      before = rw starts (before-first (initial w) (steps w l) m);
     }
 
 -- past the last position all are looked at
@@ -35,9 +35,9 @@ looks-all w l m i r values looks within past = let all : i ≡ length l = omega 
 pub record Rounding (w l : List ℕ) (n : ℕ) (flags : Reduction) : Type 0 where
   pub within : n ≤ length l
   pub current : Current w l flags
-  pub leads : rounds (start w) (goal w) (steps w l) (length l - n) (mask l flags) ≡ greedy (start w) (goal w) (steps w l)
+  pub leads : rounds (initial w) (goal w) (steps w l) (length l - n) (mask l flags) ≡ greedy (initial w) (goal w) (steps w l)
 
-pub rounding-start : (w l : List ℕ) (flags : Reduction) → length l ≤ most-steps → valid (start w) (goal w) (steps w l) ≡ true
+pub rounding-start : (w l : List ℕ) (flags : Reduction) → length l ≤ most-steps → valid (initial w) (goal w) (steps w l) ≡ true
     → flags ≡ replicate (length l) true ++ replicate (most-steps - length l) false → Rounding w l 0 flags
 unfolding greedy
 rounding-start w l flags few v is =
@@ -55,20 +55,20 @@ module _ (w l : List ℕ) (n : ℕ) (flags : Reduction) (so : Rounding w l n fla
   pub rounding-more : r .found ≡ true → Rounding w l (n + 1) (r .flags)
   unfolding rounds
   rounding-more found =
-      let chosen : best (start w) (goal w) (steps w l) (mask l flags) (length (steps w l)) ≡ some (mask l (r .flags)) = rw positions (picks .best-found found) in
-      let next : rounds (start w) (goal w) (steps w l) (suc (length l - (n + 1))) (mask l flags) ≡ rounds (start w) (goal w) (steps w l) (length l - (n + 1)) (mask l (r .flags)) = rw (chosen, rounds) in
+      let chosen : best (initial w) (goal w) (steps w l) (mask l flags) (length (steps w l)) ≡ some (mask l (r .flags)) = rw positions (picks .best-found found) in
+      let next : rounds (initial w) (goal w) (steps w l) (suc (length l - (n + 1))) (mask l flags) ≡ rounds (initial w) (goal w) (steps w l) (length l - (n + 1)) (mask l (r .flags)) = rw (chosen, rounds) in
       record { within = omega arith; current = picks .current found; leads = sym next ∙ rw one-left at (so .leads) }
 
   -- a round without
-  pub rounding-ends : r .found ≡ false → flags ≡ held l (greedy (start w) (goal w) (steps w l))
+  pub rounding-ends : r .found ≡ false → flags ≡ held l (greedy (initial w) (goal w) (steps w l))
   unfolding rounds
   rounding-ends nothing =
-      let chosen : best (start w) (goal w) (steps w l) (mask l flags) (length (steps w l)) ≡ none = rw positions (picks .nothing-found nothing) in
-      let last : rounds (start w) (goal w) (steps w l) (suc (length l - (n + 1))) (mask l flags) ≡ mask l flags = rw (chosen, rounds) in
+      let chosen : best (initial w) (goal w) (steps w l) (mask l flags) (length (steps w l)) ≡ none = rw positions (picks .nothing-found nothing) in
+      let last : rounds (initial w) (goal w) (steps w l) (suc (length l - (n + 1))) (mask l flags) ≡ mask l flags = rw (chosen, rounds) in
       so .current .none-past ∙ ap (held l) (sym last ∙ rw one-left at (so .leads))
 
 -- as many rounds as steps
-pub rounding-over : (w l : List ℕ) (n : ℕ) (flags : Reduction) → Rounding w l n flags → length l ≤ n → flags ≡ held l (greedy (start w) (goal w) (steps w l))
+pub rounding-over : (w l : List ℕ) (n : ℕ) (flags : Reduction) → Rounding w l n flags → length l ≤ n → flags ≡ held l (greedy (initial w) (goal w) (steps w l))
 unfolding rounds
 rounding-over w l n flags so past =
     let none-left : length l - n ≡ zero = omega arith in

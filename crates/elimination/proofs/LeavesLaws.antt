@@ -1,37 +1,26 @@
--- What each elimination leaves of a list that passes the checks, from the starting values as the code holds them, is what it leaves by the definitions: by
--- the laws of padding. Assumes nothing.
+-- What an elimination leaves of a list that passes the checks of its service, as flags: a reduction of the list. Assumes nothing.
 use Prim.Native.Nat.{ℕ}
-use mathlib.Core.Path.{_≡_}
+use mathlib.Core.Path.{_≡_, refl}
+use mathlib.Core.Option.{none}
 use mathlib.Core.List.{List}
-use Rattle.refusal.specs.declared.Verdict.{Verdict}
-use Rattle.refusal.specs.declared.Verdict.the-variants.{Passed}
-use Rattle.refusal.specs.Refusal.{told}
-use Rattle.refusal.specs.Check.{answer}
-use Rattle.sheet.specs.Limits.{limits}
+use lib.ListN.{length}
+use Rattle.refusal.specs.Check.{Check, answer}
 use Rattle.sheet.specs.Decode.{initial, goal}
 use Rattle.plan.specs.Valid.{steps}
+use Rattle.plan.specs.Checked.{lodged-checks}
 use Rattle.reduction.specs.Reduction.{Reduction}
-use Rattle.reduction.specs.Elimination.{eliminate, greedy}
 use Rattle.reduction.proofs.EliminationTheorem.{eliminate-shortens, greedy-shortens}
-use Rattle.reduction.proofs.PaddedLaws.{pad-eliminate, pad-greedy}
-use Rattle.service.specs.Held.{start, held, Leaves}
-use Rattle.service.specs.Reduced.{reduction-checks}
+use Rattle.service.specs.Held.{held, Leaves}
 use Rattle.service.proofs.HeldLaws.{leaves}
-use Rattle.service.proofs.ChecksLaws.{Padding, padding, valid-start}
-use Rattle.elimination.specs.Eliminations.{elimination-of, greedy-elimination-of}
+use Rattle.service.proofs.LodgedLaws.{lodged-valid}
+use Rattle.elimination.specs.declared.single.Elimination.{Elimination}
+use Rattle.elimination.specs.declared.single.Elimination.the-variants.{Plain, Greedy}
+use Rattle.elimination.specs.Eliminations.{left-by}
 
-module _ (w l : List ℕ) (room : ℕ) (v : Verdict) (checked : told v ≡ answer (reduction-checks w l room)) (passed : v ≡ Passed) where
-  fine : Padding w l
-  fine = padding w l room v checked passed
+module _ (besides : List Check) (w l : List ℕ) (passed : answer (lodged-checks besides w l) ≡ none) where
+  pub left-fits : (by : Elimination) → length (left-by by w l) ≡ length (steps w l)
+  left-fits Plain = eliminate-shortens (initial w) (goal w) (steps w l) (lodged-valid besides w l passed) .reduction .fits
+  left-fits Greedy = greedy-shortens (initial w) (goal w) (steps w l) (lodged-valid besides w l passed) .reduction .fits
 
-  pub elimination-leaves : (flags : Reduction) → flags ≡ held l (eliminate (start w) (goal w) (steps w l)) → Leaves l (elimination-of w l) flags
-  elimination-leaves flags is =
-      leaves w l (elimination-of w l) (eliminate (start w) (goal w) (steps w l)) flags
-      (eliminate-shortens (start w) (goal w) (steps w l) (valid-start w l room v checked passed) .reduction .fits)
-      (rw (fine .padded) (pad-eliminate (limits .variables) (initial w) (steps w l) (fine .complete) (fine .rising) (fine .formed))) is
-
-  pub greedy-leaves : (flags : Reduction) → flags ≡ held l (greedy (start w) (goal w) (steps w l)) → Leaves l (greedy-elimination-of w l) flags
-  greedy-leaves flags is =
-      leaves w l (greedy-elimination-of w l) (greedy (start w) (goal w) (steps w l)) flags
-      (greedy-shortens (start w) (goal w) (steps w l) (valid-start w l room v checked passed) .reduction .fits)
-      (rw (fine .padded) (pad-greedy (limits .variables) (initial w) (steps w l) (fine .complete) (fine .rising) (fine .formed))) is
+  pub left-leaves : (by : Elimination) (flags : Reduction) → flags ≡ held l (left-by by w l) → Leaves l (left-by by w l) flags
+  left-leaves by flags is = leaves w l (left-by by w l) (left-by by w l) flags (left-fits by) refl is

@@ -8,7 +8,7 @@ use mathlib.Core.Option.{Option, none, some}
 use mathlib.Core.List.{List}
 use lib.ListN.{length, getD}
 use Rattle.tally.specs.Tally.{nothing, comparison}
-use Rattle.sheet.specs.Decode.{goal}
+use Rattle.sheet.specs.Decode.{initial, goal}
 use Rattle.step.specs.Advance.{Advances}
 use Rattle.plan.specs.Valid.{steps}
 use Rattle.reduction.specs.Reduction.{Reduction, kept, lower, Before}
@@ -18,7 +18,7 @@ use Rattle.elimination.specs.declared.greedy.Best.{Best}
 use Rattle.elimination.specs.declared.trial.Tried.{Tried}
 use Rattle.elimination.specs.Walk.{Balanced}
 use Rattle.elimination.specs.Trial.{Tries}
-use Rattle.service.specs.Held.{start, mask}
+use Rattle.service.specs.Held.{mask}
 use Rattle.elimination.specs.Current.{Current}
 use Rattle.service.specs.Tallied.{is-less}
 use Rattle.elimination.specs.Round.{replaces, better-of, Picks, Looks}
@@ -28,31 +28,31 @@ use Rattle.plan.specs.Readable.{Readable}
 
 module _ (w l : List ℕ) (m : Reduction) (i : ℕ) where
   -- a trial that fails changes nothing
-  best-same : trial (start w) (goal w) (steps w l) m i ≡ none → best (start w) (goal w) (steps w l) m (suc i) ≡ best (start w) (goal w) (steps w l) m i
+  best-same : trial (initial w) (goal w) (steps w l) m i ≡ none → best (initial w) (goal w) (steps w l) m (suc i) ≡ best (initial w) (goal w) (steps w l) m i
   unfolding best better
-  best-same e = rw e (by-case (best (start w) (goal w) (steps w l) m i))
+  best-same e = rw e (by-case (best (initial w) (goal w) (steps w l) m i))
     where
       by-case : (b : Option Reduction) → better (steps w l) b none ≡ b
       by-case none = refl
       by-case (some k) = refl
 
   -- the first success is the best so far
-  best-first : (k : Reduction) → best (start w) (goal w) (steps w l) m i ≡ none → trial (start w) (goal w) (steps w l) m i ≡ some k → best (start w) (goal w) (steps w l) m (suc i) ≡ some k
+  best-first : (k : Reduction) → best (initial w) (goal w) (steps w l) m i ≡ none → trial (initial w) (goal w) (steps w l) m i ≡ some k → best (initial w) (goal w) (steps w l) m (suc i) ≡ some k
   unfolding best better
   best-first k e t = rw (e, t)
 
   -- of two successes the lower, the earlier where they are equal
-  best-second : (k n : Reduction) (b : Bool) → best (start w) (goal w) (steps w l) m i ≡ some n → trial (start w) (goal w) (steps w l) m i ≡ some k
-      → lower (kept k (steps w l)) (kept n (steps w l)) ≡ b → best (start w) (goal w) (steps w l) m (suc i) ≡ cond b (some k) (some n)
+  best-second : (k n : Reduction) (b : Bool) → best (initial w) (goal w) (steps w l) m i ≡ some n → trial (initial w) (goal w) (steps w l) m i ≡ some k
+      → lower (kept k (steps w l)) (kept n (steps w l)) ≡ b → best (initial w) (goal w) (steps w l) m (suc i) ≡ cond b (some k) (some n)
   unfolding best better
   best-second k n b e t is = rw (e, t, is)
 
-  same-picks : (so-far : Best) → Picks w l m i so-far → best (start w) (goal w) (steps w l) m (suc i) ≡ best (start w) (goal w) (steps w l) m i → Picks w l m (suc i) so-far
+  same-picks : (so-far : Best) → Picks w l m i so-far → best (initial w) (goal w) (steps w l) m (suc i) ≡ best (initial w) (goal w) (steps w l) m i → Picks w l m (suc i) so-far
   same-picks so-far picks e =
       record { nothing-found = λ f. e ∙ picks .nothing-found f; best-found = λ f. e ∙ picks .best-found f; current = picks .current; balanced = picks .balanced }
 
 module _ (w l : List ℕ) (readable : Readable w l) (flags : Reduction) (current : Current w l flags) (i : ℕ) (values : List ℕ) (here : i < length l)
-    (before : Before (start w) (steps w l) (mask l flags) i values) where
+    (before : Before (initial w) (steps w l) (mask l flags) i values) where
   module _ (so-far : Best) (tried : Tried) (picks : Picks w l (mask l flags) i so-far) (tries : Tries w l i flags values (tried .succeeds) (tried .flags) (tried .struck)) (up : getD flags i false ≡ true) where
     chosen : Best
     chosen = record { found = true; flags = tried .flags; struck = tried .struck }
@@ -62,7 +62,7 @@ module _ (w l : List ℕ) (readable : Readable w l) (flags : Reduction) (current
     so-far-stays e = rw e
 
     module _ (succeeds : tried .succeeds ≡ true) where
-      tried-here : trial (start w) (goal w) (steps w l) (mask l flags) i ≡ some (mask l (tried .flags))
+      tried-here : trial (initial w) (goal w) (steps w l) (mask l flags) i ≡ some (mask l (tried .flags))
       tried-here = trial-met w l flags current i values here before (tried .succeeds) (tried .flags) (tried .struck) tries up succeeds ∙ ap some (sym (left-mask w l flags current i values here before (tried .succeeds) (tried .flags) (tried .struck) tries))
 
       tried-current : Current w l (tried .flags)
@@ -71,7 +71,7 @@ module _ (w l : List ℕ) (readable : Readable w l) (flags : Reduction) (current
       tried-balanced : Balanced w l (mask l flags) (mask l (tried .flags)) nothing (tried .struck)
       tried-balanced = balanced-mask w l flags (tried .flags) (tried .struck) (tries .balanced up (readable-fits w l flags readable (mask-length w l flags current)))
 
-      chosen-picks : best (start w) (goal w) (steps w l) (mask l flags) (suc i) ≡ some (mask l (tried .flags)) → Picks w l (mask l flags) (suc i) chosen
+      chosen-picks : best (initial w) (goal w) (steps w l) (mask l flags) (suc i) ≡ some (mask l (tried .flags)) → Picks w l (mask l flags) (suc i) chosen
       unfolding chosen
       chosen-picks e =
           record { nothing-found = λ f. absurd (true≢false f); best-found = λ f. e; current = λ f. tried-current; balanced = λ f. tried-balanced }
@@ -120,6 +120,6 @@ module _ (w l : List ℕ) (readable : Readable w l) (flags : Reduction) (current
   looks-struck so-far picks down =
       let unkept : getD (mask l flags) i false ≡ false = mask-flag w l flags current i here ∙ down in
       record {
-        picks = rw add-one (same-picks w l (mask l flags) i so-far picks (best-same w l (mask l flags) i (unkept-fails (start w) (goal w) (steps w l) (mask l flags) i unkept)));
+        picks = rw add-one (same-picks w l (mask l flags) i so-far picks (best-same w l (mask l flags) i (unkept-fails (initial w) (goal w) (steps w l) (mask l flags) i unkept)));
         before = eliminates-nothing w l flags current i values here before down .before;
       }

@@ -4,30 +4,32 @@ use mathlib.Core.Path.{_≡_, refl, sym, _∙_, ap}
 use mathlib.Core.List.{List}
 use lib.ListN.{length, take}
 use Rattle.refusal.specs.declared.Refusal.{Refusal}
-use Rattle.refusal.specs.declared.Verdict.{Verdict}
 use Rattle.refusal.specs.declared.Verdict.the-variants.{Passed, Refused}
-use Rattle.refusal.specs.Refusal.{told}
 use Rattle.refusal.specs.Check.{answer}
 use Rattle.tally.specs.declared.Tally.{Tally}
 use Rattle.tally.specs.declared.Order.{Order}
 use Rattle.tally.specs.declared.Order.the-variants.{Less, Equal, Greater}
 use Rattle.tally.specs.Tally.{nothing, comparison}
+use Rattle.plan.specs.declared.check.Answer.{Answer}
+use Rattle.plan.specs.declared.check.Answer.the-variants.{Valid, Refused as Refused-answer}
+use Rattle.plan.specs.Checked.{told-answer}
 use Rattle.reduction.specs.Reduction.{Reduction}
 use Rattle.service.specs.Reduced.{reduction-checks}
 use Rattle.service.specs.Kept.{Keeps}
 use Rattle.elimination.specs.Eliminations.{elimination-of, greedy-elimination-of, Reduces-both, cheaper-part}
 
-module _ (w l before before′ : List ℕ) (room : ℕ) (v : Verdict) (shorter : room ≡ min (length before) (length before′)) (checked : told v ≡ answer (reduction-checks w l room)) where
-  pub both-refused : (r : Refusal) (first second : Tally) → v ≡ Refused r → first ≡ nothing → second ≡ nothing
+module _ (w l before before′ : List ℕ) (room : ℕ) (given : Answer) (shorter : room ≡ min (length before) (length before′))
+    (checked : told-answer given ≡ answer (reduction-checks w l room)) where
+  pub both-refused : (r : Refusal) (first second : Tally) → given ≡ Refused-answer r → first ≡ nothing → second ≡ nothing
       → Reduces-both w l before before′ (Refused r) first second before before′
   both-refused r first second refuses none-first none-second =
-      record { refusal = sym (ap told refuses) ∙ rw shorter at checked; first-tally = none-first; second-tally = none-second; first-output = refl; second-output = refl }
+      record { refusal = sym (ap told-answer refuses) ∙ rw shorter at checked; first-tally = none-first; second-tally = none-second; first-output = refl; second-output = refl }
 
-  pub both-kept : (left left′ : Reduction) (first second : Tally) (words words′ after after′ : List ℕ) → v ≡ Passed → left ≡ elimination-of w l → left′ ≡ greedy-elimination-of w l
+  pub both-kept : (lodged : Tally) (left left′ : Reduction) (first second : Tally) (words words′ after after′ : List ℕ) → given ≡ Valid lodged → left ≡ elimination-of w l → left′ ≡ greedy-elimination-of w l
       → Keeps w l left before first words after → Keeps w l left′ before′ second words′ after′ → Reduces-both w l before before′ Passed first second after after′
-  both-kept left left′ first second words words′ after after′ passes same same′ keeps keeps′ =
+  both-kept lodged left left′ first second words words′ after after′ passes same same′ keeps keeps′ =
       record {
-        refusal = sym (ap told passes) ∙ rw shorter at checked;
+        refusal = sym (ap told-answer passes) ∙ rw shorter at checked;
         first-tally = rw (← same) (keeps .counted);
         second-tally = rw (← same′) (keeps′ .counted);
         first-output = rw (← same) (keeps .written);

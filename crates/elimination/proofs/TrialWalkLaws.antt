@@ -18,21 +18,21 @@ use Rattle.plan.specs.Valid.{steps}
 use Rattle.reduction.specs.Reduction.{Reduction}
 use Rattle.reduction.specs.Elimination.{walk, after}
 use Rattle.reduction.proofs.TrialLaws.{walk-done, walk-struck, after-done, after-struck}
-use Rattle.elimination.specs.Walk.{flags-after, state-after, Fits, Balanced, Walks, Turns}
+use Rattle.elimination.specs.Walk.{flags-after, state-after, Fits, Balanced, Walks, Does-or-strikes}
 use Rattle.elimination.proofs.BalanceLaws.{strike-balanced, same-balanced, balanced-then, balanced-fits}
 
 module _ (w : List ℕ) (a j : ℕ) (m : Reduction) (s : List ℕ) (t : Tally) where
   -- it was struck before
-  pub turns-skip : getD m j false ≡ false → Turns w a j m s t m s t
+  pub turns-skip : getD m j false ≡ false → Does-or-strikes w a j m s t m s t
   turns-skip down = record { flags = rw down; state = rw down; tally = rw down }
 
-  pub turns-done : (done : Bool) (s′ : List ℕ) → getD m j false ≡ true → Advances w s a done s′ → done ≡ true → Turns w a j m s t m s′ t
+  pub turns-done : (done : Bool) (s′ : List ℕ) → getD m j false ≡ true → Advances w s a done s′ → done ≡ true → Does-or-strikes w a j m s t m s′ t
   turns-done done s′ up advances was =
       let can : applicable s (action w a) ≡ true = sym (advances .applied) ∙ was in
       record { flags = rw (up, can); state = rw (up, can) (advances .state ∙ rw was); tally = rw (up, can) }
 
   pub turns-struck : (done : Bool) (s′ : List ℕ) (m′ : Reduction) (c : ℕ) (t′ : Tally) → getD m j false ≡ true → Advances w s a done s′ → done ≡ false → m′ ≡ set m j false → c ≡ cost-word w a
-      → t′ ≡ one-more t c → Turns w a j m s t m′ s′ t′
+      → t′ ≡ one-more t c → Does-or-strikes w a j m s t m′ s′ t′
   turns-struck done s′ m′ c t′ up advances was struck price counted =
       let can-not : applicable s (action w a) ≡ false = sym (advances .applied) ∙ was in
       record { flags = rw (up, can-not) struck; state = rw (up, can-not) (advances .state ∙ rw was); tally = rw (up, can-not) (counted ∙ rw price) }
@@ -63,7 +63,7 @@ module _ (w l : List ℕ) (j : ℕ) (m : Reduction) (s : List ℕ) (here : j < l
   rest-kept : drop (j + 1) (set m j false) ≡ drop (j + 1) m
   rest-kept = drop-set-lt (j + 1) m j false (omega arith)
 
-  module _ (m′ : Reduction) (s′ : List ℕ) (t t′ : Tally) (turns : Turns w (getD l j 0) j m s t m′ s′ t′) where
+  module _ (m′ : Reduction) (s′ : List ℕ) (t t′ : Tally) (turns : Does-or-strikes w (getD l j 0) j m s t m′ s′ t′) where
     -- the step was struck before
     turned-skip : getD m j false ≡ false → (flags-after w l (j + 1) m′ s′ ≡ flags-after w l j m s) × (state-after w l (j + 1) m′ s′ ≡ state-after w l j m s)
     unfolding flags-after state-after walk after
@@ -117,26 +117,24 @@ module _ (w l : List ℕ) (j : ℕ) (m : Reduction) (s : List ℕ) (here : j < l
             let next-t : t′ ≡ one-more t (cost-word w (getD l j 0)) = turns .tally ∙ rw (e, can) in
             rw (next-m, next-t) (strike-balanced w l m j t here e fits)
 
--- where the walk from index i on stands before index j: it ends as it was to end, nothing has changed its length, and what is struck is counted
+-- where the walk from index i on stands before index j: it ends as it was to end, no flag has come or gone, and what is struck is counted
 pub record Along (w l : List ℕ) (i : ℕ) (m₀ : Reduction) (s₀ : List ℕ) (t₀ : Tally) (j : ℕ) (m : Reduction) (s : List ℕ) (t : Tally) : Type 0 where
   pub long : length m ≡ length m₀
-  pub complete : length s ≡ length s₀
   pub flags : flags-after w l j m s ≡ flags-after w l i m₀ s₀
   pub state : state-after w l j m s ≡ state-after w l i m₀ s₀
   pub balanced : Fits w l m₀ t₀ → Balanced w l m₀ m t₀ t
 
 pub along-start : (w l : List ℕ) (i : ℕ) (m : Reduction) (s : List ℕ) (t : Tally) → Along w l i m s t i m s t
-along-start w l i m s t = record { long = refl; complete = refl; flags = refl; state = refl; balanced = λ fits. same-balanced w l m t }
+along-start w l i m s t = record { long = refl; flags = refl; state = refl; balanced = λ fits. same-balanced w l m t }
 
 module _ (w l : List ℕ) (i : ℕ) (m₀ : Reduction) (s₀ : List ℕ) (t₀ : Tally) (j : ℕ) (m : Reduction) (s : List ℕ) (t : Tally) (along : Along w l i m₀ s₀ t₀ j m s t) where
-  pub along-turn : (m′ : Reduction) (s′ : List ℕ) (t′ : Tally) → length l ≤ length m₀ → j < length l → length m′ ≡ length m → length s′ ≡ length s → Turns w (getD l j 0) j m s t m′ s′ t′
+  pub along-turn : (m′ : Reduction) (s′ : List ℕ) (t′ : Tally) → length l ≤ length m₀ → j < length l → length m′ ≡ length m → Does-or-strikes w (getD l j 0) j m s t m′ s′ t′
       → Along w l i m₀ s₀ t₀ (j + 1) m′ s′ t′
-  along-turn m′ s′ t′ room here as-long as-complete turns =
+  along-turn m′ s′ t′ room here as-long turns =
       let inside : j < length m = omega (arith, along .long) in
       let same = turned w l j m s here inside m′ s′ t t′ turns in
       record {
         long = as-long ∙ along .long;
-        complete = as-complete ∙ along .complete;
         flags = same .0 ∙ along .flags;
         state = same .1 ∙ along .state;
         balanced = λ fits. let so-far = along .balanced fits in balanced-then w l _ _ _ _ _ _ so-far (turned-balanced w l j m s here inside m′ s′ t t′ turns (balanced-fits w l _ _ _ _ so-far fits));

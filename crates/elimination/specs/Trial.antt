@@ -13,7 +13,8 @@ use Rattle.reduction.specs.Elimination.{walk, after}
 use Rattle.plan.specs.Valid.{steps}
 use Rattle.elimination.specs.Walk.{Fits, Balanced}
 
-pub record Tries (w l : List ℕ) (i : ℕ) (m : Reduction) (s : List ℕ) (succeeds : Bool) (left : Reduction) (struck : Tally) : Type 0 where
+pub record Tries (w l : List ℕ) (i : ℕ) (m : Reduction) (s : List ℕ)
+    (succeeds : Bool) (left : Reduction) (struck : Tally) : Type 0 where
   pub goal-met : succeeds ≡ satisfies (after s (steps w (drop (i + 1) l)) (drop (i + 1) m)) (goal w)
   pub flags : left ≡ take i m ++ (false ∷ walk s (steps w (drop (i + 1) l)) (drop (i + 1) m))
   pub balanced : getD m i false ≡ true → Fits w l m nothing → Balanced w l m left nothing struck

@@ -30,13 +30,15 @@ pub record Balanced (w l : List ℕ) (m m′ : Reduction) (t t′ : Tally) : Typ
   pub by-cost : t′ .cost + cost (kept m′ (steps w l)) ≡ t .cost + cost (kept m (steps w l))
   pub by-steps : t′ .steps + length (kept m′ (steps w l)) ≡ t .steps + length (kept m (steps w l))
 
-pub record Walks (w l : List ℕ) (i : ℕ) (m : Reduction) (s : List ℕ) (t : Tally) (m′ : Reduction) (s′ : List ℕ) (t′ : Tally) : Type 0 where
+pub record Walks (w l : List ℕ) (i : ℕ) (m : Reduction) (s : List ℕ) (t : Tally)
+    (m′ : Reduction) (s′ : List ℕ) (t′ : Tally) : Type 0 where
   pub flags : m′ ≡ flags-after w l i m s
   pub state : s′ ≡ state-after w l i m s
   pub balanced : Fits w l m t → Balanced w l m m′ t t′
 
 -- one turn: a kept step of action a at index j is done, or struck where it can't be
-pub record Turns (w : List ℕ) (a j : ℕ) (m : Reduction) (s : List ℕ) (t : Tally) (m′ : Reduction) (s′ : List ℕ) (t′ : Tally) : Type 0 where
+pub record Does-or-strikes (w : List ℕ) (a j : ℕ) (m : Reduction) (s : List ℕ) (t : Tally)
+    (m′ : Reduction) (s′ : List ℕ) (t′ : Tally) : Type 0 where
   pub flags : m′ ≡ cond (getD m j false && not (applicable s (action w a))) (set m j false) m
   pub state : s′ ≡ cond (getD m j false && applicable s (action w a)) (apply s (action w a)) s
   pub tally : t′ ≡ cond (getD m j false && not (applicable s (action w a))) (one-more t (cost-word w a)) t

@@ -1,10 +1,12 @@
 // Both eliminations as one service, and the part of the cheaper list.
-use crate::eliminate::eliminate;
-use crate::greedy::greedy;
+use crate::single::Elimination;
+use crate::single::flags_left;
 use access::front;
+use plan::check::Answer;
+use plan::check::check_lodged;
 use refusal::Verdict;
-use service::checks::check_reduction;
 use service::finish::finish;
+use service::room::check_room;
 use tally::Order;
 use tally::Tally;
 ghost use mathlib.Core.Path.{_≡_};
@@ -27,10 +29,13 @@ fn shorter(a: usize, b: usize) -> usize
 
 // Writes what elimination leaves of a plan to `first`, and what greedy elimination leaves to `second`.
 pub fn cheaper(words: &[u32], plan: &[u32], first: &mut [u32], second: &mut [u32]) -> Both
-    ensures { λ r. ⌜ Reduces-both (now (words .entry)) (now (plan .entry)) (now (first .entry)) (now (second .entry)) (r .verdict) (r .first) (r .second) (now (first .exit)) (now (second .exit)) ⌝ }
+    ensures { λ r. ⌜ Reduces-both (now (words .entry)) (now (plan .entry)) (now (first .entry)) (now (second .entry))
+        (r .verdict) (r .first) (r .second) (now (first .exit)) (now (second .exit)) ⌝ }
 {
-    let verdict = check_reduction(words, plan, shorter(first.len(), second.len()));
-    if let Verdict::Refused(refusal) = verdict {
+    let room = shorter(first.len(), second.len());
+    let checked = check_lodged(words, plan, check_room(plan.len(), room));
+    let answer = checked.answer;
+    if let Answer::Refused(refusal) = answer {
         return Both {
             verdict: Verdict::Refused(refusal),
             first: Tally::new(),
@@ -38,9 +43,9 @@ pub fn cheaper(words: &[u32], plan: &[u32], first: &mut [u32], second: &mut [u32
         };
     }
     let n = plan.len();
-    let eliminated = eliminate(words, plan);
+    let eliminated = flags_left(words, plan, Elimination::Plain);
     let by_elimination = finish(words, plan, &eliminated[..n], first);
-    let greedily = greedy(words, plan);
+    let greedily = flags_left(words, plan, Elimination::Greedy);
     let by_greed = finish(words, plan, &greedily[..n], second);
     let of_first = by_elimination.tally;
     let of_second = by_greed.tally;
@@ -51,7 +56,8 @@ pub fn cheaper(words: &[u32], plan: &[u32], first: &mut [u32], second: &mut [u32
     }
 }
 
-// The kept part of whichever list is cheaper: lower cost, then fewer steps, then the first. `tally` is that of the first.
+// The kept part of whichever list is cheaper: lower cost, then fewer steps, then the first. `tally` is that of the
+// first.
 pub fn kept_part<'a>(first: &'a [u32], second: &'a [u32], tally: Tally, other: Tally) -> &'a [u32]
     ensures { λ r. ⌜ now r ≡ cheaper-part (now (first .entry)) (now (second .entry)) tally other ⌝ }
 {

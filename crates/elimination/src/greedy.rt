@@ -2,19 +2,19 @@
 use crate::trial::Tried;
 use crate::trial::trial;
 use plan::limits::Plan;
-use plan::start::initial;
 use service::held::all_kept;
-use step::advance::advance;
+use step::advance::advance_in;
+use step::state::initial;
 use tally::Order;
 use tally::Tally;
 ghost use mathlib.Core.Path.{_≡_};
 ghost use mathlib.Core.Bool.{true};
 ghost use lib.ListN.{length};
 ghost use Rattle.reduction.specs.Reduction.{valid};
-ghost use Rattle.reduction.specs.Elimination.{greedy as greedy-of};
-ghost use Rattle.sheet.specs.Decode.{goal};
+ghost use Rattle.sheet.specs.Decode.{goal, initial as initial-of};
 ghost use Rattle.plan.specs.Valid.{steps};
-ghost use Rattle.service.specs.Held.{start, mask, held};
+ghost use Rattle.service.specs.Held.{mask, held};
+ghost use Rattle.elimination.specs.Eliminations.{greedy-elimination-of};
 ghost use Rattle.elimination.specs.Current.{Current};
 ghost use Rattle.elimination.specs.Round.{Picks, better-of};
 ghost use Rattle.plan.specs.Readable.{Readable};
@@ -26,7 +26,8 @@ pub(crate) struct Best {
     pub struck: Tally,
 }
 
-// The better of the best so far and a trial: the larger cost struck, then the more steps, the earlier where they are equal.
+// The better of the best so far and a trial: the larger cost struck, then the more steps, the earlier where they are
+// equal.
 fn better(best: Best, tried: Tried) -> Best
     ensures { λ r. ⌜ r ≡ better-of best tried ⌝ }
 {
@@ -58,7 +59,8 @@ fn better(best: Best, tried: Tried) -> Best
 fn round(words: &[u32], plan: &[u32], flags: [bool; Plan::STEPS]) -> Best
     requires { ⌜ Readable (now words) (now plan) ⌝ }
     requires { ⌜ Current (now words) (now plan) flags ⌝ }
-    ensures { λ r. ⌜ Picks (now (words .entry)) (now (plan .entry)) (mask (now (plan .entry)) flags) (length (now (plan .entry))) r ⌝ }
+    ensures { λ r. ⌜ Picks (now (words .entry)) (now (plan .entry)) (mask (now (plan .entry)) flags)
+        (length (now (plan .entry))) r ⌝ }
 {
     let mut values = initial(words);
     let mut best = Best {
@@ -70,7 +72,7 @@ fn round(words: &[u32], plan: &[u32], flags: [bool; Plan::STEPS]) -> Best
     while i < plan.len() {
         if flags[i] {
             best = better(best, trial(words, plan, flags, values, i));
-            advance(words, &mut values, plan[i]);
+            advance_in(words, &mut values, plan[i]);
             i += 1;
         } else {
             i += 1;
@@ -82,8 +84,8 @@ fn round(words: &[u32], plan: &[u32], flags: [bool; Plan::STEPS]) -> Best
 // The flags that greedy elimination leaves of a valid plan.
 pub(crate) fn greedy(words: &[u32], plan: &[u32]) -> [bool; Plan::STEPS]
     requires { ⌜ Readable (now words) (now plan) ⌝ }
-    requires { ⌜ valid (start (now words)) (goal (now words)) (steps (now words) (now plan)) ≡ true ⌝ }
-    ensures { λ r. ⌜ r ≡ held (now (plan .entry)) (greedy-of (start (now (words .entry))) (goal (now (words .entry))) (steps (now (words .entry)) (now (plan .entry)))) ⌝ }
+    requires { ⌜ valid (initial-of (now words)) (goal (now words)) (steps (now words) (now plan)) ≡ true ⌝ }
+    ensures { λ r. ⌜ r ≡ held (now (plan .entry)) (greedy-elimination-of (now (words .entry)) (now (plan .entry))) ⌝ }
 {
     let mut flags = all_kept(plan.len());
     let mut rounds = 0;

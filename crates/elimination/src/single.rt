@@ -1,37 +1,54 @@
 // Each elimination as a service: refusals 1 to 11, and the tally, the mask and the list left.
 use crate::eliminate::eliminate;
 use crate::greedy::greedy;
-use refusal::Verdict;
+use plan::check::Answer;
+use plan::check::check_lodged;
+use plan::limits::Plan;
 use service::answer::Reduced;
 use service::answer::refused;
 use service::answer::told;
-use service::checks::check_reduction;
 use service::finish::finish;
+use service::room::check_room;
+ghost use mathlib.Core.Path.{_≡_};
+ghost use mathlib.Core.Bool.{true};
+ghost use Rattle.reduction.specs.Reduction.{valid};
+ghost use Rattle.sheet.specs.Decode.{goal, initial};
+ghost use Rattle.plan.specs.Valid.{steps};
+ghost use Rattle.plan.specs.Readable.{Readable};
+ghost use Rattle.service.specs.Held.{held};
 ghost use Rattle.service.specs.Reduced.{Reduces};
-ghost use Rattle.elimination.specs.Eliminations.{elimination-of, greedy-elimination-of};
+ghost use Rattle.elimination.specs.Eliminations.{left-by};
 
-// Elimination of a plan of a task.
-pub fn eliminate_plan(words: &[u32], plan: &[u32], out: &mut [u32]) -> Reduced
-    ensures { λ r. ⌜ Reduces (now (words .entry)) (now (plan .entry)) (elimination-of (now (words .entry)) (now (plan .entry))) (now (out .entry)) (r .answer) (r .mask .words) (now (out .exit)) ⌝ }
-{
-    let verdict = check_reduction(words, plan, out.len());
-    if let Verdict::Refused(refusal) = verdict {
-        return refused(refusal);
-    }
-    let flags = eliminate(words, plan);
-    let n = plan.len();
-    told(finish(words, plan, &flags[..n], out))
+// Which of document 01's two eliminations.
+pub enum Elimination {
+    Plain,
+    Greedy,
 }
 
-// Greedy elimination of a plan of a task.
-pub fn eliminate_greedily(words: &[u32], plan: &[u32], out: &mut [u32]) -> Reduced
-    ensures { λ r. ⌜ Reduces (now (words .entry)) (now (plan .entry)) (greedy-elimination-of (now (words .entry)) (now (plan .entry))) (now (out .entry)) (r .answer) (r .mask .words) (now (out .exit)) ⌝ }
+// The flags that an elimination leaves of a valid plan.
+pub(crate) fn flags_left(words: &[u32], plan: &[u32], by: Elimination) -> [bool; Plan::STEPS]
+    requires { ⌜ Readable (now words) (now plan) ⌝ }
+    requires { ⌜ valid (initial (now words)) (goal (now words)) (steps (now words) (now plan)) ≡ true ⌝ }
+    ensures { λ r. ⌜ r ≡ held (now (plan .entry)) (left-by by (now (words .entry)) (now (plan .entry))) ⌝ }
 {
-    let verdict = check_reduction(words, plan, out.len());
-    if let Verdict::Refused(refusal) = verdict {
+    match by {
+        Elimination::Plain => eliminate(words, plan),
+        Elimination::Greedy => greedy(words, plan),
+    }
+}
+
+// An elimination of a plan of a task: writes what it leaves to the front of `out`.
+pub fn eliminate_plan(words: &[u32], plan: &[u32], out: &mut [u32], by: Elimination) -> Reduced
+    ensures { λ r. ⌜ Reduces (now (words .entry)) (now (plan .entry))
+        (left-by by (now (words .entry)) (now (plan .entry)))
+        (now (out .entry)) (r .answer) (r .mask .words) (now (out .exit)) ⌝ }
+{
+    let checked = check_lodged(words, plan, check_room(plan.len(), out.len()));
+    let answer = checked.answer;
+    if let Answer::Refused(refusal) = answer {
         return refused(refusal);
     }
-    let flags = greedy(words, plan);
+    let flags = flags_left(words, plan, by);
     let n = plan.len();
     told(finish(words, plan, &flags[..n], out))
 }

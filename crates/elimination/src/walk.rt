@@ -7,9 +7,10 @@ ghost use mathlib.Core.Path.{_≡_};
 ghost use mathlib.Core.Bool.{true, false};
 ghost use Prim.Native.Nat.{_≤_};
 ghost use lib.ListN.{length, getD};
-ghost use Rattle.elimination.specs.Walk.{Walks, Turns};
+ghost use Rattle.elimination.specs.Walk.{Walks, Does-or-strikes};
 
-// Does each kept step from index i on in turn, and strikes those that can't be done. Adds what it strikes to the tally of what is struck already.
+// Does each kept step from index i on in turn, and strikes those that can't be done. Adds what it strikes to the tally
+// of what is struck already.
 pub(crate) fn walk_rest(
     words: &[u32],
     plan: &[u32],
@@ -19,7 +20,9 @@ pub(crate) fn walk_rest(
     struck: Tally,
 ) -> Tally
     requires { ⌜ length (now plan) ≤ length (now flags) ⌝ }
-    ensures { λ r. ⌜ Walks (now (words .entry)) (now (plan .entry)) i (now (flags .entry)) (now (state .entry)) struck (now (flags .exit)) (now (state .exit)) r ⌝ }
+    ensures { λ r. ⌜ Walks (now (words .entry)) (now (plan .entry)) i
+        (now (flags .entry)) (now (state .entry)) struck
+        (now (flags .exit)) (now (state .exit)) r ⌝ }
 {
     let mut tally = struck;
     let mut j = i;
@@ -44,7 +47,9 @@ fn do_or_strike(
     struck: Tally,
 ) -> Tally
     requires { ⌜ getD (now flags) j false ≡ true ⌝ }
-    ensures { λ r. ⌜ Turns (now (words .entry)) a j (now (flags .entry)) (now (state .entry)) struck (now (flags .exit)) (now (state .exit)) r ⌝ }
+    ensures { λ r. ⌜ Does-or-strikes (now (words .entry)) a j
+        (now (flags .entry)) (now (state .entry)) struck
+        (now (flags .exit)) (now (state .exit)) r ⌝ }
 {
     if advance(words, state, a) {
         return struck;

@@ -1,5 +1,5 @@
-// The program that turns a text of words (`text`) into the form in which the programs read a task and a plan. Where the text is no
-// text of words it says so, with the line, and writes no word.
+// The program that turns a text of words (`text`) into the form in which the programs read a task and a plan. Where
+// the text is no text of words it says so, with the line, and writes no word.
 use access::front;
 use libc::STDOUT_FILENO;
 use program::word::WORD;
@@ -10,7 +10,7 @@ use text::message::say;
 use text::message::say_line;
 use text::message::say_too_many;
 use text::pack::pack;
-use text::reader::Outcome;
+use text::reader::Ending;
 ghost use Prim.Native.Nat.{_≤_};
 ghost use lib.ListN.{length};
 ghost use Rattle.text.specs.Input.{most};
@@ -28,16 +28,16 @@ fn write_words(words: &[u32])
 }
 
 // Writes what was read, or says what is wrong with it.
-fn answer(outcome: Outcome, words: &[u32])
+fn write_found(ending: Ending, words: &[u32])
     requires { ⌜ length (now words) ≤ most ⌝ }
 {
-    match outcome {
-        Outcome::Words(n) => write_words(front(words, n)),
-        Outcome::NoWord(line) => {
+    match ending {
+        Ending::Words(n) => write_words(front(words, n)),
+        Ending::NoWord(line) => {
             say_line(line);
             say(b"not a word of 0 to 4294967295");
         }
-        Outcome::NoRoom(line) => {
+        Ending::NoRoom(line) => {
             say_line(line);
             say_too_many();
         }
@@ -48,7 +48,7 @@ fn main() {
     let mut words = [0u32; MOST];
     let found = read_text(&mut words);
     match found {
-        Found::Text(outcome) => answer(outcome, &words),
+        Found::Text(ending) => write_found(ending, &words),
         Found::Failed => say(b"the text can't be read"),
     }
 }

@@ -6,15 +6,19 @@ use mathlib.Core.List.{List, [], _∷_, _++_}
 use lib.ListN.{length, replicate}
 use lib.Seq.{sets}
 use Rattle.refusal.specs.Refusal.{Told}
-use Rattle.refusal.specs.Check.{Check, answer}
+use Rattle.refusal.specs.Check.{Check, answer, unless-refused}
 use Rattle.tally.specs.declared.Tally.{Tally}
 use Rattle.tally.specs.declared.Order.{Order}
 use Rattle.tally.specs.declared.Order.the-variants.{Less, Equal, Greater}
 use Rattle.tally.specs.Tally.{nothing}
 use Rattle.reduction.specs.Reduction.{Reduction}
 use Rattle.mask.specs.Mask.{mask-length, mask-words}
-use Rattle.service.specs.Reduced.{reduction-checks, unless-refused, tally-left, output-left}
-use Rattle.elimination.specs.Eliminations.{elimination-of, greedy-elimination-of}
+use Rattle.service.specs.Reduced.{reduction-checks, tally-left, output-left}
+use Rattle.elimination.specs.declared.single.Elimination.{Elimination}
+use Rattle.elimination.specs.Eliminations.{elimination-of, greedy-elimination-of, left-by}
+use Rattle.plan.specs.declared.check.Answer.{Answer}
+use Rattle.plan.specs.Checked.{plan-checks, told-answer, told-tally, lodged-tally, end-state, no-state}
+use Rattle.landmark.specs.Marks.{marks}
 use Rattle.minimal.specs.Minimised.{most-unmarked, minimal-checks, minimal-of}
 use Rattle.sheet.specs.Limits.{limits}
 use Rattle.sheet.specs.Layout.{word}
@@ -26,8 +30,8 @@ answer-words none = 0 ∷ 0 ∷ []
 answer-words (some t) = t .number ∷ t .place ∷ []
 
 -- a tally of two numbers, and its words: the cost, then the steps
-abbrev pub tally-of : ℕ → ℕ → Tally
-tally-of cost steps = record { cost = cost; steps = steps }
+abbrev pub lent-tally : ℕ → ℕ → Tally
+lent-tally cost steps = record { cost = cost; steps = steps }
 
 abbrev pub tally-words : Tally → List ℕ
 tally-words t = t .cost ∷ t .steps ∷ []
@@ -42,25 +46,50 @@ order-number Greater = 2
 unfoldable pub lent-state : List ℕ → List ℕ
 lent-state words = table (word words) 0 (limits .variables)
 
--- the reduction m of the list l over lent words, from a service with these checks: the list left over `output`, the mask over `mask`, the answer and the
--- tally over `out`
-pub record Answers-lent (checks : List Check) (w l : List ℕ) (m : Reduction) (output output′ mask mask′ out out′ : List ℕ) : Type 0 where
+-- the check of a list over lent words: the end state over `state`, the answer and the tally over `out`
+pub record Checks-lent (w l state state′ out out′ : List ℕ) : Type 0 where
+  pub end : state′ ≡ sets state 0 (unless-refused (answer (plan-checks w l)) (end-state w l) no-state)
+  pub answered : out′ ≡ sets out 0
+      (answer-words (answer (plan-checks w l))
+      ++ tally-words (unless-refused (answer (plan-checks w l)) (lodged-tally w l) nothing))
+
+-- the marks of a list over lent words: their mask over `mask`, the answer over `out`
+pub record Marks-lent (w l mask mask′ out out′ : List ℕ) : Type 0 where
+  pub told-by : mask′ ≡ sets mask 0
+      (unless-refused (answer (plan-checks w l)) (mask-words (marks w l)) (replicate mask-length 0))
+  pub answered : out′ ≡ sets out 0 (answer-words (answer (plan-checks w l)))
+
+-- a mask's words and an answer over lent words
+pub record Writes-reduced (words : List ℕ) (given : Answer) (mask mask′ out out′ : List ℕ) : Type 0 where
+  pub told-by : mask′ ≡ sets mask 0 words
+  pub answered : out′ ≡ sets out 0 (answer-words (told-answer given) ++ tally-words (told-tally given))
+
+-- the reduction m of the list l over lent words, from a service with these checks: the list left over `output`, the
+-- mask over `mask`, the answer and the tally over `out`
+pub record Answers-lent (checks : List Check) (w l : List ℕ) (m : Reduction)
+    (output output′ mask mask′ out out′ : List ℕ) : Type 0 where
   pub list-left : output′ ≡ unless-refused (answer checks) (output-left l m output) output
   pub told-by : mask′ ≡ sets mask 0 (unless-refused (answer checks) (mask-words m) (replicate mask-length 0))
-  pub answered : out′ ≡ sets out 0 (answer-words (answer checks) ++ tally-words (unless-refused (answer checks) (tally-left w l m) nothing))
+  pub answered : out′ ≡ sets out 0
+      (answer-words (answer checks) ++ tally-words (unless-refused (answer checks) (tally-left w l m) nothing))
 
 -- an elimination over lent words
-abbrev pub Reduces-lent : List ℕ → List ℕ → Reduction → List ℕ → List ℕ → List ℕ → List ℕ → List ℕ → List ℕ → Type 0
-Reduces-lent w l m output = Answers-lent (reduction-checks w l (length output)) w l m output
+abbrev pub Eliminates-lent : Elimination → List ℕ → List ℕ
+    → List ℕ → List ℕ → List ℕ → List ℕ → List ℕ → List ℕ → Type 0
+Eliminates-lent by w l output = Answers-lent (reduction-checks w l (length output)) w l (left-by by w l) output
 
--- the exact reduction over lent words
+-- the minimal reduction over lent words
 abbrev pub Minimises-lent : List ℕ → List ℕ → List ℕ → List ℕ → List ℕ → List ℕ → List ℕ → List ℕ → Type 0
 Minimises-lent w l output = Answers-lent (minimal-checks most-unmarked w l (length output)) w l (minimal-of w l) output
 
--- both eliminations over lent words
-pub record Reduces-both-lent (w l first first′ second second′ out out′ : List ℕ) : Type 0 where
-  pub first-left : first′ ≡ unless-refused (answer (reduction-checks w l (min (length first) (length second)))) (output-left l (elimination-of w l) first) first
-  pub second-left : second′ ≡ unless-refused (answer (reduction-checks w l (min (length first) (length second)))) (output-left l (greedy-elimination-of w l) second) second
-  pub answered : out′ ≡ sets out 0 (answer-words (answer (reduction-checks w l (min (length first) (length second))))
-      ++ (tally-words (unless-refused (answer (reduction-checks w l (min (length first) (length second)))) (tally-left w l (elimination-of w l)) nothing)
-      ++ tally-words (unless-refused (answer (reduction-checks w l (min (length first) (length second)))) (tally-left w l (greedy-elimination-of w l)) nothing)))
+-- both eliminations over lent words, of checks that answer t
+pub record Both-lent (t : Option Told) (w l first first′ second second′ out out′ : List ℕ) : Type 0 where
+  pub first-left : first′ ≡ unless-refused t (output-left l (elimination-of w l) first) first
+  pub second-left : second′ ≡ unless-refused t (output-left l (greedy-elimination-of w l) second) second
+  pub answered : out′ ≡ sets out 0 (answer-words t
+      ++ (tally-words (unless-refused t (tally-left w l (elimination-of w l)) nothing)
+      ++ tally-words (unless-refused t (tally-left w l (greedy-elimination-of w l)) nothing)))
+
+abbrev pub Reduces-both-lent : List ℕ → List ℕ → List ℕ → List ℕ → List ℕ → List ℕ → List ℕ → List ℕ → Type 0
+Reduces-both-lent w l first first′ second =
+    Both-lent (answer (reduction-checks w l (min (length first) (length second)))) w l first first′ second

@@ -2,10 +2,11 @@
 use access::put;
 use access::put64;
 use access::word;
+use mask::Mask;
 use plan::check::Answer;
 use refusal::Verdict;
 use sheet::limits::Sheet;
-use step::one::State;
+use step::state::State;
 use tally::Tally;
 ghost use mathlib.Core.Path.{_≡_};
 ghost use Prim.Native.Nat.{_<_, _^_};
@@ -13,7 +14,7 @@ ghost use mathlib.Core.List.{[], _∷_, _++_};
 ghost use lib.Seq.{sets};
 ghost use Rattle.refusal.specs.Refusal.{told};
 ghost use Rattle.plan.specs.Checked.{told-answer, told-tally};
-ghost use Rattle.exports.specs.Words.{answer-words, tally-words, lent-state};
+ghost use Rattle.exports.specs.Words.{answer-words, tally-words, lent-state, Writes-reduced};
 
 // Where the tally of a plan stands, after the refusal's number and place.
 const TALLY_AT: usize = 2;
@@ -47,7 +48,8 @@ pub(crate) fn write_verdict(out: &mut [u64], verdict: Verdict)
 
 // Writes the answer to a plan: the number and the place of a refusal, or 0 and 0, then the cost and the steps.
 pub(crate) fn write_answer(out: &mut [u64], given: Answer)
-    ensures { λ _. ⌜ now (out .exit) ≡ sets (now (out .entry)) 0 (answer-words (told-answer given) ++ tally-words (told-tally given)) ⌝ }
+    ensures { λ _. ⌜ now (out .exit)
+        ≡ sets (now (out .entry)) 0 (answer-words (told-answer given) ++ tally-words (told-tally given)) ⌝ }
 {
     match given {
         Answer::Valid(tally) => {
@@ -61,9 +63,20 @@ pub(crate) fn write_answer(out: &mut [u64], given: Answer)
     }
 }
 
+// Writes what a service that strikes answers: the four words of its mask, and its answer.
+pub(crate) fn write_reduced(mask: &mut [u64], out: &mut [u64], kept: Mask, given: Answer)
+    ensures { λ _. ⌜ Writes-reduced (kept .words) given
+        (now (mask .entry)) (now (mask .exit)) (now (out .entry)) (now (out .exit)) ⌝ }
+{
+    let bits = kept.words;
+    write_wide(mask, &bits);
+    write_answer(out, given);
+}
+
 // Writes the answer of both eliminations: the number and the place of a refusal, or 0 and 0, then the two tallies.
 pub(crate) fn write_both(out: &mut [u64], verdict: Verdict, first: Tally, second: Tally)
-    ensures { λ _. ⌜ now (out .exit) ≡ sets (now (out .entry)) 0 (answer-words (told verdict) ++ (tally-words first ++ tally-words second)) ⌝ }
+    ensures { λ _. ⌜ now (out .exit)
+        ≡ sets (now (out .entry)) 0 (answer-words (told verdict) ++ (tally-words first ++ tally-words second)) ⌝ }
 {
     write_verdict(out, verdict);
     write_pair(out, TALLY_AT, first.cost as u64, first.steps as u64);

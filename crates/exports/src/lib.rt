@@ -7,14 +7,15 @@ use crate::lent::read_state;
 use crate::lent::write_answer;
 use crate::lent::write_both;
 use crate::lent::write_pair;
+use crate::lent::write_reduced;
 use crate::lent::write_values;
 use crate::lent::write_verdict;
 use crate::lent::write_wide;
 use elimination::both::cheaper;
 use elimination::both::kept_part;
-use elimination::single::eliminate_greedily;
+use elimination::single::Elimination;
 use elimination::single::eliminate_plan;
-use landmark::masked::marks_mask;
+use landmark::marks::marks_mask;
 use minimal::reduce::minimal_reduction;
 use plan::check::check_plan;
 use sheet::check::check_sheet;
@@ -22,23 +23,23 @@ use step::one::step;
 use tally::Order;
 use tally::Tally;
 ghost use mathlib.Core.Path.{_≡_};
-ghost use mathlib.Core.List.{_++_};
 ghost use lib.ListN.{length};
 ghost use lib.Seq.{sets};
 ghost use Rattle.refusal.specs.Check.{answer};
 ghost use Rattle.tally.specs.Tally.{one-more, comparison};
 ghost use Rattle.sheet.specs.Causes.{sheet-checks};
 ghost use Rattle.step.specs.Step.{step-checks, state-after};
-ghost use Rattle.plan.specs.Checked.{plan-checks, tally-of as plan-tally, end-state};
-ghost use Rattle.mask.specs.Mask.{mask-words};
-ghost use Rattle.landmark.specs.Marks.{marks-of};
-ghost use Rattle.elimination.specs.Eliminations.{elimination-of, greedy-elimination-of, cheaper-part};
-ghost use Rattle.exports.specs.Words.{answer-words, tally-of, tally-words, order-number, lent-state, Reduces-lent, Minimises-lent, Reduces-both-lent};
+ghost use Rattle.elimination.specs.declared.single.Elimination.the-variants.{Plain, Greedy};
+ghost use Rattle.elimination.specs.Eliminations.{cheaper-part};
+ghost use Rattle.exports.specs.Words.{answer-words, lent-tally, tally-words, order-number, lent-state};
+ghost use Rattle.exports.specs.Words.{Checks-lent, Marks-lent, Eliminates-lent, Minimises-lent};
+ghost use Rattle.exports.specs.Words.{Reduces-both-lent};
 
 // Checks a task: the number and the place of its refusal go to `out`, or 0 and 0.
 #[no_mangle]
 pub extern "C" fn hollchiku_check_sheet(words: &[u32], out: &mut [u64])
-    ensures { λ _. ⌜ now (out .exit) ≡ sets (now (out .entry)) 0 (answer-words (answer (sheet-checks (now (words .entry))))) ⌝ }
+    ensures { λ _. ⌜ now (out .exit)
+        ≡ sets (now (out .entry)) 0 (answer-words (answer (sheet-checks (now (words .entry))))) ⌝ }
 {
     write_verdict(out, check_sheet(words));
 }
@@ -46,7 +47,8 @@ pub extern "C" fn hollchiku_check_sheet(words: &[u32], out: &mut [u64])
 // Adds a step to a tally: the cost and the steps after it go to `out`.
 #[no_mangle]
 pub extern "C" fn hollchiku_tally_add(cost: u32, steps: u32, price: u32, out: &mut [u64])
-    ensures { λ _. ⌜ now (out .exit) ≡ sets (now (out .entry)) 0 (tally-words (one-more (tally-of cost steps) price)) ⌝ }
+    ensures { λ _. ⌜ now (out .exit)
+        ≡ sets (now (out .entry)) 0 (tally-words (one-more (lent-tally cost steps) price)) ⌝ }
 {
     let after = Tally { cost, steps }.add(price);
     write_pair(out, 0, after.cost as u64, after.steps as u64);
@@ -60,7 +62,7 @@ pub extern "C" fn hollchiku_tally_compare(
     cost_b: u32,
     steps_b: u32,
 ) -> u32
-    ensures { λ r. ⌜ r ≡ order-number (comparison (tally-of «cost_a» «steps_a») (tally-of «cost_b» «steps_b»)) ⌝ }
+    ensures { λ r. ⌜ r ≡ order-number (comparison (lent-tally «cost_a» «steps_a») (lent-tally «cost_b» «steps_b»)) ⌝ }
 {
     let first = Tally {
         cost: cost_a,
@@ -80,8 +82,10 @@ pub extern "C" fn hollchiku_tally_compare(
 // Does one step in a lent state of 64 values: the number and the place of its refusal go to `out`, or 0 and 0.
 #[no_mangle]
 pub extern "C" fn hollchiku_step(words: &[u32], state: &mut [u32], action: u32, out: &mut [u64])
-    ensures state { λ _. ⌜ now (state .exit) ≡ sets (now (state .entry)) 0 (state-after (now (words .entry)) (lent-state (now (state .entry))) action) ⌝ }
-    ensures out { λ _. ⌜ now (out .exit) ≡ sets (now (out .entry)) 0 (answer-words (answer (step-checks (now (words .entry)) (lent-state (now (state .entry))) action))) ⌝ }
+    ensures state { λ _. ⌜ now (state .exit) ≡ sets (now (state .entry)) 0
+        (state-after (now (words .entry)) (lent-state (now (state .entry))) action) ⌝ }
+    ensures out { λ _. ⌜ now (out .exit) ≡ sets (now (out .entry)) 0
+        (answer-words (answer (step-checks (now (words .entry)) (lent-state (now (state .entry))) action))) ⌝ }
 {
     let stepped = step(words, read_state(state), action);
     let after = stepped.state;
@@ -91,7 +95,8 @@ pub extern "C" fn hollchiku_step(words: &[u32], state: &mut [u32], action: u32, 
     write_verdict(out, verdict);
 }
 
-// Checks a plan of a task: the number and the place of its refusal, or 0 and 0, then its cost and steps go to `out`, and the end state to the lent state.
+// Checks a plan of a task: the number and the place of its refusal, or 0 and 0, then its cost and steps go to `out`,
+// and the end state to the lent state.
 #[no_mangle]
 pub extern "C" fn hollchiku_check_plan(
     words: &[u32],
@@ -99,8 +104,8 @@ pub extern "C" fn hollchiku_check_plan(
     state: &mut [u32],
     out: &mut [u64],
 )
-    ensures state { λ _. ⌜ now (state .exit) ≡ sets (now (state .entry)) 0 (end-state (now (words .entry)) (now (plan .entry))) ⌝ }
-    ensures out { λ _. ⌜ now (out .exit) ≡ sets (now (out .entry)) 0 (answer-words (answer (plan-checks (now (words .entry)) (now (plan .entry)))) ++ tally-words (plan-tally (now (words .entry)) (now (plan .entry)))) ⌝ }
+    ensures { λ _. ⌜ Checks-lent (now (words .entry)) (now (plan .entry))
+        (now (state .entry)) (now (state .exit)) (now (out .entry)) (now (out .exit)) ⌝ }
 {
     let checked = check_plan(words, plan);
     let end = checked.state;
@@ -110,11 +115,12 @@ pub extern "C" fn hollchiku_check_plan(
     write_answer(out, given);
 }
 
-// Marks the landmarks of a plan: the four words of their mask go to the lent mask, the number and the place of a refusal, or 0 and 0, to `out`.
+// Marks the landmarks of a plan: the four words of their mask go to the lent mask, the number and the place of a
+// refusal, or 0 and 0, to `out`.
 #[no_mangle]
 pub extern "C" fn hollchiku_marks(words: &[u32], plan: &[u32], mask: &mut [u64], out: &mut [u64])
-    ensures mask { λ _. ⌜ now (mask .exit) ≡ sets (now (mask .entry)) 0 (mask-words (marks-of (now (words .entry)) (now (plan .entry)))) ⌝ }
-    ensures out { λ _. ⌜ now (out .exit) ≡ sets (now (out .entry)) 0 (answer-words (answer (plan-checks (now (words .entry)) (now (plan .entry))))) ⌝ }
+    ensures { λ _. ⌜ Marks-lent (now (words .entry)) (now (plan .entry))
+        (now (mask .entry)) (now (mask .exit)) (now (out .entry)) (now (out .exit)) ⌝ }
 {
     let marked = marks_mask(words, plan);
     let verdict = marked.verdict;
@@ -124,7 +130,8 @@ pub extern "C" fn hollchiku_marks(words: &[u32], plan: &[u32], mask: &mut [u64],
     write_verdict(out, verdict);
 }
 
-// Elimination: the kept action numbers go to the front of `output`, the four words of their mask to `mask`, and the number and the place of a refusal, or 0 and 0, then the cost and the steps to `out`.
+// Elimination: the kept action numbers go to the front of `output`, the four words of their mask to `mask`, and the
+// number and the place of a refusal, or 0 and 0, then the cost and the steps to `out`.
 #[no_mangle]
 pub extern "C" fn hollchiku_eliminate(
     words: &[u32],
@@ -133,14 +140,13 @@ pub extern "C" fn hollchiku_eliminate(
     mask: &mut [u64],
     out: &mut [u64],
 )
-    ensures { λ _. ⌜ Reduces-lent (now (words .entry)) (now (plan .entry)) (elimination-of (now (words .entry)) (now (plan .entry))) (now (output .entry)) (now (output .exit)) (now (mask .entry)) (now (mask .exit)) (now (out .entry)) (now (out .exit)) ⌝ }
+    ensures { λ _. ⌜ Eliminates-lent Plain (now (words .entry)) (now (plan .entry))
+        (now (output .entry)) (now (output .exit)) (now (mask .entry)) (now (mask .exit))
+        (now (out .entry)) (now (out .exit)) ⌝ }
 {
-    let reduced = eliminate_plan(words, plan, output);
+    let reduced = eliminate_plan(words, plan, output, Elimination::Plain);
     let given = reduced.answer;
-    let kept = reduced.mask;
-    let bits = kept.words;
-    write_wide(mask, &bits);
-    write_answer(out, given);
+    write_reduced(mask, out, reduced.mask, given);
 }
 
 // Greedy elimination, in the same form.
@@ -152,14 +158,13 @@ pub extern "C" fn hollchiku_greedy(
     mask: &mut [u64],
     out: &mut [u64],
 )
-    ensures { λ _. ⌜ Reduces-lent (now (words .entry)) (now (plan .entry)) (greedy-elimination-of (now (words .entry)) (now (plan .entry))) (now (output .entry)) (now (output .exit)) (now (mask .entry)) (now (mask .exit)) (now (out .entry)) (now (out .exit)) ⌝ }
+    ensures { λ _. ⌜ Eliminates-lent Greedy (now (words .entry)) (now (plan .entry))
+        (now (output .entry)) (now (output .exit)) (now (mask .entry)) (now (mask .exit))
+        (now (out .entry)) (now (out .exit)) ⌝ }
 {
-    let reduced = eliminate_greedily(words, plan, output);
+    let reduced = eliminate_plan(words, plan, output, Elimination::Greedy);
     let given = reduced.answer;
-    let kept = reduced.mask;
-    let bits = kept.words;
-    write_wide(mask, &bits);
-    write_answer(out, given);
+    write_reduced(mask, out, reduced.mask, given);
 }
 
 // The minimal reduction, in the same form.
@@ -171,17 +176,16 @@ pub extern "C" fn hollchiku_exact(
     mask: &mut [u64],
     out: &mut [u64],
 )
-    ensures { λ _. ⌜ Minimises-lent (now (words .entry)) (now (plan .entry)) (now (output .entry)) (now (output .exit)) (now (mask .entry)) (now (mask .exit)) (now (out .entry)) (now (out .exit)) ⌝ }
+    ensures { λ _. ⌜ Minimises-lent (now (words .entry)) (now (plan .entry)) (now (output .entry)) (now (output .exit))
+        (now (mask .entry)) (now (mask .exit)) (now (out .entry)) (now (out .exit)) ⌝ }
 {
     let reduced = minimal_reduction(words, plan, output);
     let given = reduced.answer;
-    let kept = reduced.mask;
-    let bits = kept.words;
-    write_wide(mask, &bits);
-    write_answer(out, given);
+    write_reduced(mask, out, reduced.mask, given);
 }
 
-// Both eliminations: the list that each leaves goes to the front of its output, elimination's to `first`; the number and the place of a refusal, or 0 and 0, then both tallies go to `out`.
+// Both eliminations: the list that each leaves goes to the front of its output, elimination's to `first`; the number
+// and the place of a refusal, or 0 and 0, then both tallies go to `out`.
 #[no_mangle]
 pub extern "C" fn hollchiku_cheaper(
     words: &[u32],
@@ -190,7 +194,8 @@ pub extern "C" fn hollchiku_cheaper(
     second: &mut [u32],
     out: &mut [u64],
 )
-    ensures { λ _. ⌜ Reduces-both-lent (now (words .entry)) (now (plan .entry)) (now (first .entry)) (now (first .exit)) (now (second .entry)) (now (second .exit)) (now (out .entry)) (now (out .exit)) ⌝ }
+    ensures { λ _. ⌜ Reduces-both-lent (now (words .entry)) (now (plan .entry)) (now (first .entry)) (now (first .exit))
+        (now (second .entry)) (now (second .exit)) (now (out .entry)) (now (out .exit)) ⌝ }
 {
     let both = cheaper(words, plan, first, second);
     let verdict = both.verdict;
@@ -210,8 +215,10 @@ pub extern "C" fn hollchiku_kept_part<'a>(
     others: u32,
     part: &mut [u32],
 ) -> u64
-    ensures part { λ _. ⌜ now (part .exit) ≡ sets (now (part .entry)) 0 (cheaper-part (now (first .entry)) (now (second .entry)) (tally-of cost steps) (tally-of other others)) ⌝ }
-    ensures length { λ r. ⌜ r ≡ length (cheaper-part (now (first .entry)) (now (second .entry)) (tally-of cost steps) (tally-of other others)) ⌝ }
+    ensures part { λ _. ⌜ now (part .exit) ≡ sets (now (part .entry)) 0
+        (cheaper-part (now (first .entry)) (now (second .entry)) (lent-tally cost steps) (lent-tally other others)) ⌝ }
+    ensures length { λ r. ⌜ r ≡ length
+        (cheaper-part (now (first .entry)) (now (second .entry)) (lent-tally cost steps) (lent-tally other others)) ⌝ }
 {
     let kept = kept_part(
         first,

@@ -1,94 +1,99 @@
--- What the function for landmarks and the service for marks answer on each of their ways: in an accepted task a table has room for every known fact, and
--- the zeros past the start's variables change nothing. What the code calls is a variable here, with what is known of it as a premise. Assumes nothing.
-use Prim.Native.Nat.{ℕ, _*_, _<_}
+-- What the function for landmarks and the services answer on each of their ways. What the code calls is a variable here, with what is known of it as a premise.
+-- Assumes nothing.
+use Prim.Native.Nat.{ℕ, _<_}
 use native.Mathlib.Omega.{arith}
-use mathlib.Core.Path.{_≡_, sym, _∙_, ap}
+use mathlib.Core.Path.{_≡_, refl, sym, _∙_, ap}
 use mathlib.Core.Bool.{false}
 use mathlib.Core.Option.{none, some}
 use mathlib.Core.List.{List}
-use lib.ListN.{length, replicate, length-map}
-use lib.Seq.{sets}
+use lib.ListN.{length, take, replicate, length-map}
 use Rattle.refusal.specs.declared.Refusal.{Refusal}
+use Rattle.refusal.specs.declared.Verdict.{Verdict}
 use Rattle.refusal.specs.declared.Verdict.the-variants.{Passed, Refused as Refused-verdict}
 use Rattle.refusal.specs.Refusal.{told-refusal}
 use Rattle.refusal.specs.Check.{answer}
-use Rattle.sas.specs.Task.{Fact, State}
-use Rattle.sas.specs.Plan.{holds}
-use Rattle.sas.specs.WellFormed.{Known}
-use Rattle.sas.proofs.PadLaws.{pad-holds}
+use Rattle.refusal.proofs.CheckLaws.{answer-nothing}
 use Rattle.reduction.specs.Reduction.{Reduction}
-use Rattle.reduction.specs.Wanted.{landmarks}
+use Rattle.reduction.proofs.LandmarkTheorem.{landmarks-length}
 use Rattle.tally.specs.declared.Tally.{Tally}
-use Rattle.sheet.specs.Limits.{limits}
-use Rattle.sheet.specs.Layout.{variables, goal-start, goal-end}
-use Rattle.sheet.specs.Decode.{facts, domains, initial, goal}
-use Rattle.sheet.specs.Causes.{Accepted}
-use Rattle.sheet.proofs.Parts.{accepted-measured}
-use Rattle.sheet.proofs.Accepted.{domains-length, domain-limits}
+use Rattle.mask.specs.Mask.{mask-length, mask-words}
+use Rattle.sheet.specs.declared.group.Group.{Group}
+use Rattle.sheet.specs.Decode.{initial, goal}
+use Rattle.sheet.specs.Group.{goal-group, facts-in}
+use Rattle.sheet.proofs.GroupLaws.{goal-facts}
+use Rattle.step.specs.State.{state-size, in-array}
+use Rattle.step.proofs.StateLaws.{front-initial}
 use Rattle.plan.specs.declared.check.Answer.{Answer}
 use Rattle.plan.specs.declared.check.Answer.the-variants.{Valid, Refused}
 use Rattle.plan.specs.Limits.{most-steps}
 use Rattle.plan.specs.Valid.{steps}
-use Rattle.plan.specs.Checked.{list-checks, plan-checks, told-answer}
-use Rattle.plan.proofs.PlanLaws.{initial-complete, start-padded, goal-rising, steps-formed, listed-entries, entries-listed}
-use Rattle.plan.proofs.PlanTheorem.{passed-readable}
-use Rattle.landmark.specs.Marks.{filled, flags-of, marks-of, Marks}
-use Rattle.landmark.specs.Tables.{fact-word, is-wanted, not-wanted, stamped, written-first, flags-at, flags-walked}
-use Rattle.landmark.proofs.StampLaws.{Small}
-use Rattle.landmark.proofs.FlagTheorem.{walks-flag}
 use Rattle.plan.specs.Readable.{Readable}
+use Rattle.plan.specs.Checked.{lodged-checks, plan-checks, told-answer, Checks, Checks-lodged}
+use Rattle.plan.proofs.PlanLaws.{steps-formed, passed-readable}
+use Rattle.service.specs.Held.{mask, held, Leaves}
+use Rattle.service.proofs.HeldLaws.{leaves}
+use Rattle.fact_table.specs.Tables.{most-facts, is-wanted, not-wanted, stamped, goal-table}
+use Rattle.landmark.specs.Marks.{marks, Marks, Marks-lodged, Masks}
+use Rattle.landmark.specs.Walks.{written-first, flags-walked}
+use Rattle.landmark.proofs.FlagTheorem.{walks-flag}
 
--- the facts for which a table has room
-abbrev pub most-facts : ℕ
-most-facts = limits .variables * limits .values
+-- the walks flag the landmarks of a list that can be read
+pub flags-told : (w l values first goals : List ℕ) (n : ℕ) (g : Group) (flags : Reduction) → values ≡ in-array (initial w) → n ≡ state-size w
+    → first ≡ written-first (replicate most-facts most-steps) 0 (steps w l) → g ≡ goal-group w → goals ≡ stamped (replicate most-facts not-wanted) (facts-in w g) is-wanted
+    → flags ≡ flags-walked (take n values) first goals w l → Readable w l → flags ≡ held l (marks w l)
+unfolding marks goal-table
+flags-told w l values first goals n g flags starts fits firsts group stamps e readable =
+    let begins : take n values ≡ initial w = rw (fits, starts) (front-initial w (readable .accepted)) in
+    let wanted : goals ≡ goal-table w = stamps ∙ rw (group, goal-facts w) in
+    e ∙ rw (begins, firsts, wanted)
+    (ap (held l) (walks-flag w (readable .accepted) (initial w) (steps w l) most-steps (rw length-map (readable .few)) (steps-formed w l (readable .accepted) (readable .known))))
 
-module _ (w : List ℕ) (accepted : Accepted w) where
-  -- a known fact has a word of its own in a table
-  pub fits : (f : Fact) → Known (domains w) f → Small f × (fact-word f < most-facts)
-  fits f known =
-      let below : f .variable < variables w = omega (arith, known .variable, domains-length w) in
-      let value : f .value < limits .values = omega (arith, known .value, domain-limits w accepted (f .variable) below .1) in
-      (value, omega (arith, accepted-measured w accepted .variables))
+-- a list over the limit can't be read
+pub too-long : (w l : List ℕ) (flags : Reduction) → most-steps < length l → Readable w l → flags ≡ held l (marks w l)
+too-long w l flags long readable = absurd (omega (arith, readable .few))
 
-  -- the start of the code holds the known facts that the initial state holds
-  start-holds : (start : State) → start ≡ sets (replicate (limits .variables) 0) 0 (initial w) → (f : Fact) → Known (domains w) f → holds start f ≡ holds (initial w) f
-  start-holds start e f known =
-      rw (e, start-padded w accepted) (pad-holds (limits .variables) (initial w) f (omega (arith, known .variable, initial-complete w accepted)))
+-- the flags of a list that can be read hold its marks
+pub marks-leave : (w l : List ℕ) (flags : Reduction) → flags ≡ held l (marks w l) → Leaves l (marks w l) flags
+unfolding marks
+marks-leave w l flags is = leaves w l (marks w l) (marks w l) flags (landmarks-length (initial w) (goal w) (steps w l)) refl is
 
--- the walks flag the landmarks of a list that passes its own checks
-listed-flags : (w l start : List ℕ) → Accepted w → answer (list-checks w l) ≡ none → start ≡ sets (replicate (limits .variables) 0) 0 (initial w)
-    → flags-at start (written-first (replicate most-facts most-steps) 0 (steps w l)) (stamped (replicate most-facts not-wanted) (goal w) is-wanted) 0 (steps w l)
-    ≡ landmarks (initial w) (goal w) (steps w l)
-listed-flags w l start accepted listed starts =
-    let (few, known) = listed-entries w l listed in
-    walks-flag (domains w) most-facts (fits w accepted) (initial w) start (goal w) (steps w l) most-steps (rw length-map few) (start-holds w accepted start starts)
-    (goal-rising w accepted) (steps-formed w l accepted known)
+module _ (w l : List ℕ) (v : Verdict) (given : Answer) (state : List ℕ) (checks : Checks-lodged w l v given state) where
+  -- a list is refused, with no flag
+  pub lodged-refused : (r : Refusal) → given ≡ Refused r → Marks-lodged w l v (Refused r) (replicate most-steps false)
+  lodged-refused r is =
+      record {
+        checked = λ besides asked.
+            let all : Checks (lodged-checks besides w l) w l given state = checks .checked besides asked in
+            let refuses : answer (lodged-checks besides w l) ≡ some (told-refusal r) = sym (all .refusal) ∙ ap told-answer is in
+            record { refusal = sym refuses; tally = rw is at (all .tally); flagged = rw refuses };
+      }
 
-pub flags-told : (w l start first goals : List ℕ) (from end : ℕ) (flags : Reduction) → Accepted w → answer (list-checks w l) ≡ none
-    → start ≡ sets (replicate (limits .variables) 0) 0 (initial w) → first ≡ written-first (replicate most-facts most-steps) 0 (steps w l)
-    → from ≡ goal-start w → end ≡ goal-end w → goals ≡ stamped (replicate most-facts not-wanted) (facts w from end) is-wanted
-    → flags ≡ flags-walked start first goals w l → flags ≡ flags-of w l
-unfolding flags-of goal
-flags-told w l start first goals from end flags accepted listed starts firsts from-goal to-goal-end stamps e =
-    e ∙ rw (firsts, stamps, from-goal, to-goal-end) (ap (filled l) (listed-flags w l start accepted listed starts))
+  -- and one that passes is marked
+  pub lodged-marked : (t : Tally) (flags : Reduction) → given ≡ Valid t → (Readable w l → flags ≡ held l (marks w l)) → Marks-lodged w l v (Valid t) flags
+  lodged-marked t flags is flagged =
+      record {
+        checked = λ besides asked.
+            let all : Checks (lodged-checks besides w l) w l given state = checks .checked besides asked in
+            let passes : answer (lodged-checks besides w l) ≡ none = sym (all .refusal) ∙ ap told-answer is in
+            record { refusal = sym passes; tally = rw is at (all .tally); flagged = rw passes (flagged (passed-readable besides w l passes)) };
+      }
 
--- a list over the limit does not pass
-pub too-long : (w l : List ℕ) (flags : Reduction) → most-steps < length l → Accepted w → answer (list-checks w l) ≡ none → flags ≡ flags-of w l
-too-long w l flags long accepted listed = absurd (omega (arith, listed-entries w l listed .0))
+-- the service, where nothing is asked besides
+module _ (w l : List ℕ) (given : Answer) (flags : Reduction) (lodged : Marks-lodged w l Passed given flags) where
+  all : Marks (plan-checks w l) w l given flags
+  all = lodged .checked _ (sym answer-nothing)
 
--- the service refuses a list, with no flag
-pub marks-refused : (w l : List ℕ) (given : Answer) (r : Refusal) → told-answer given ≡ answer (plan-checks w l) → given ≡ Refused r
-    → Marks w l (Refused-verdict r) (replicate most-steps false)
-unfolding marks-of
-marks-refused w l given r tells is =
-    let refuses : answer (plan-checks w l) ≡ some (told-refusal r) = sym tells ∙ ap told-answer is in
-    record { refusal = sym refuses; marked = rw (refuses, marks-of) }
+  pub masks-refused : (r : Refusal) → given ≡ Refused r → Masks w l (Refused-verdict r) (replicate mask-length 0)
+  masks-refused r is =
+      let refuses : answer (plan-checks w l) ≡ some (told-refusal r) = sym (all .refusal) ∙ ap told-answer is in
+      record { refusal = sym refuses; told-by = rw refuses }
 
--- and marks one that passes
-pub marks-passed : (w l : List ℕ) (given : Answer) (t : Tally) (flags : Reduction) → told-answer given ≡ answer (plan-checks w l) → given ≡ Valid t
-    → (Accepted w → answer (list-checks w l) ≡ none → flags ≡ flags-of w l) → Marks w l Passed flags
-unfolding marks-of
-marks-passed w l given t flags tells is flagged =
-    let passes : answer (plan-checks w l) ≡ none = sym tells ∙ ap told-answer is in
-    let readable : Readable w l = passed-readable w l passes in
-    record { refusal = sym passes; marked = rw (passes, marks-of) (flagged (readable .accepted) (entries-listed w l (readable .few) (readable .known))) }
+  module _ (t : Tally) (is : given ≡ Valid t) where
+    passes : answer (plan-checks w l) ≡ none
+    passes = sym (all .refusal) ∙ ap told-answer is
+
+    pub flags-leave : Leaves l (marks w l) flags
+    flags-leave = marks-leave w l flags (rw passes at (all .flagged))
+
+    pub masks-passed : (words : List ℕ) → words ≡ mask-words (mask l flags) → Masks w l Passed words
+    masks-passed words told-by = record { refusal = sym passes; told-by = rw passes (told-by ∙ ap mask-words (flags-leave .same)) }

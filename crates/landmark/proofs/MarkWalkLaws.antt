@@ -3,37 +3,37 @@
 use Prim.Native.Nat.{ℕ, _+_, _-_, _≤_, _<_}
 use native.Mathlib.Numerals.{add-one}
 use native.Mathlib.Omega.{arith}
-use mathlib.Core.Path.{_≡_, sym, _∙_}
-use mathlib.Core.Bool.{Bool, true, false}
+use mathlib.Core.Path.{_≡_, _∙_}
+use mathlib.Core.Bool.{Bool, false}
 use mathlib.Core.List.{List, [], _∷_}
 use lib.ListN.{length, getD, drop, set, replicate, length-set, length-replicate, drop-of-length-le}
 use lib.Seq.{drop-cons, drop-set-lt, getD-set-same}
 use Rattle.reduction.specs.Reduction.{Reduction}
 use Rattle.reduction.specs.Wanted.{some-fact}
-use Rattle.sheet.specs.Layout.{precondition-start, effect-start, effect-end}
-use Rattle.sheet.specs.Decode.{facts, action}
+use Rattle.sheet.specs.declared.group.Group.{Group}
+use Rattle.sheet.specs.declared.group.ActionFacts.{ActionFacts}
+use Rattle.sheet.specs.Group.{needed-group, written-group, facts-in}
+use Rattle.sheet.proofs.GroupLaws.{written-facts}
+use Rattle.sheet.specs.Decode.{action}
 use Rattle.plan.specs.Limits.{most-steps}
 use Rattle.plan.specs.Valid.{steps}
 use Rattle.plan.proofs.FaultLaws.{drop-next}
-use Rattle.plan.proofs.PlanLaws.{drop-replicate}
-use Rattle.landmark.specs.Marks.{filled}
-use Rattle.landmark.specs.Tables.{is-wanted, not-wanted, stamped, written-first, sought, flagged, wanted-before, wanted-at, flags-at, flags-walked, Marks-step}
+use Rattle.step.proofs.StateLaws.{drop-replicate}
+use Rattle.service.specs.Held.{held}
+use Rattle.fact_table.specs.Tables.{stamped, passed-back}
+use Rattle.fact_table.proofs.WantsLaws.{passed-action}
+use Rattle.landmark.specs.Walks.{written-first, sought, flagged, wanted-at, flags-at, flags-walked, Marks-step}
 
--- one step on the second walk, by whether it is a landmark
-module _ (w s first before behind : List ℕ) (i a to end : ℕ) (landmark : Bool) (starts : to ≡ effect-start w a) (ends : end ≡ effect-end w a)
-    (found : landmark ≡ some-fact (sought s first before i) (facts w to end)) (unwanted : behind ≡ stamped before (facts w to end) not-wanted) where
-  flag-found : landmark ≡ flagged s first before i (action w a)
-  unfolding flagged action
-  flag-found = rw (← starts, ← ends) found
-
-  pub step-marked : (after : List ℕ) (from : ℕ) → landmark ≡ true → from ≡ precondition-start w a → after ≡ stamped behind (facts w from to) is-wanted
-      → Marks-step s first before i (action w a) true after
-  unfolding wanted-before action
-  step-marked after from is here wanted = record { flag = sym is ∙ flag-found; table = rw (← starts, ← ends, ← here, ← unwanted) wanted }
-
-  pub step-unmarked : landmark ≡ false → Marks-step s first before i (action w a) false behind
-  unfolding wanted-before action
-  step-unmarked is = record { flag = sym is ∙ flag-found; table = rw (← starts, ← ends) unwanted }
+-- one step on the second walk
+pub step-marked : (w s first before after : List ℕ) (i a : ℕ) (facts : ActionFacts) (landmark : Bool) → facts .precondition ≡ needed-group w a
+    → facts .effect ≡ written-group w a → landmark ≡ some-fact (sought s first before i) (facts-in w (facts .effect))
+    → after ≡ passed-back before (facts-in w (facts .precondition)) (facts-in w (facts .effect)) landmark → Marks-step s first before i (action w a) landmark after
+unfolding flagged
+step-marked w s first before after i a facts landmark needs writes found passes =
+    record {
+      flag = found ∙ rw (writes, written-facts w a);
+      table = passes ∙ passed-action w before a facts landmark needs writes;
+    }
 
 -- a list whose step at index i − 1 comes next, behind it those from i on
 module _ (w l : List ℕ) (i : ℕ) (some-left : 0 < i) (reached : i ≤ length l) where
@@ -53,13 +53,15 @@ unfolding written-first
 written-end w l empty = record { reached = omega arith; firsts = rw (drop-of-length-le l {i = length l} (omega arith)) }
 
 -- one step more to the front
-pub written-more : (w l empty table table′ : List ℕ) (i from end : ℕ) → Written-from w l empty i table → 0 < i → from ≡ effect-start w (getD l (i - 1) 0)
-    → end ≡ effect-end w (getD l (i - 1) 0) → table′ ≡ stamped table (facts w from end) (i - 1) → Written-from w l empty (i - 1) table′
-unfolding written-first action
-written-more w l empty table table′ i from end along some-left starts ends written =
+pub written-more : (w l empty table table′ : List ℕ) (i : ℕ) (g : Group) → Written-from w l empty i table → 0 < i → g ≡ written-group w (getD l (i - 1) 0)
+    → table′ ≡ stamped table (facts-in w g) (i - 1) → Written-from w l empty (i - 1) table′
+unfolding written-first
+written-more w l empty table table′ i g along some-left group stamps =
     record {
       reached = omega (arith, along .reached);
-      firsts = rw (steps-next w l i some-left (along .reached), further w l i some-left (along .reached), ← starts, ← ends, ← along .firsts) written;
+      firsts =
+          stamps
+          ∙ rw (group, written-facts w (getD l (i - 1) 0), steps-next w l i some-left (along .reached), further w l i some-left (along .reached), ← along .firsts);
     }
 
 -- the walk has come to the first step
@@ -71,7 +73,7 @@ pub record Marked-from (w l s first wanted : List ℕ) (i : ℕ) (flags : Reduct
   pub few : length l ≤ most-steps
   pub reached : i ≤ length l
   pub sized : length flags ≡ most-steps
-  pub behind : drop i flags ≡ filled l (flags-at s first wanted i (steps w (drop i l)))
+  pub behind : drop i flags ≡ held l (flags-at s first wanted i (steps w (drop i l)))
   pub wants : table ≡ wanted-at s first wanted i (steps w (drop i l))
 
 pub marked-end : (w l s first wanted : List ℕ) → length l ≤ most-steps → Marked-from w l s first wanted (length l) (replicate most-steps false) wanted

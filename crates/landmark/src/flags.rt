@@ -1,24 +1,23 @@
 // The landmarks of a plan, one flag to a step.
-use crate::tables::FACTS;
-use crate::tables::UNWANTED;
-use crate::tables::WANTED;
-use crate::tables::stamp;
 use crate::walks::mark_steps;
 use crate::walks::write_first;
+use fact_table::FACTS;
+use fact_table::UNWANTED;
+use fact_table::WANTED;
+use fact_table::stamp;
 use plan::limits::Plan;
-use plan::start::initial;
-use sheet::layout::goal_at;
-use sheet::layout::goal_end;
+use sheet::group::goal;
+use step::state::initial;
+use step::state::size;
 ghost use mathlib.Core.Path.{_≡_};
-ghost use mathlib.Core.Option.{none};
-ghost use Rattle.refusal.specs.Check.{answer};
-ghost use Rattle.sheet.specs.Causes.{Accepted};
-ghost use Rattle.plan.specs.Checked.{list-checks};
-ghost use Rattle.landmark.specs.Marks.{flags-of};
+ghost use Rattle.plan.specs.Readable.{Readable};
+ghost use Rattle.service.specs.Held.{held};
+ghost use Rattle.landmark.specs.Marks.{marks};
 
-// The landmarks of a plan that is not too long, of known actions of an accepted task.
+// The landmarks of a plan that can be read. The index of a step fits a byte, and so does their limit, for no step.
 pub(crate) fn landmarks(words: &[u32], plan: &[u32]) -> [bool; Plan::STEPS]
-    ensures { λ r. ⌜ (Accepted (now (words .entry)) → answer (list-checks (now (words .entry)) (now (plan .entry))) ≡ none → r ≡ flags-of (now (words .entry)) (now (plan .entry))) ⌝ }
+    ensures { λ r. ⌜ (Readable (now (words .entry)) (now (plan .entry))
+        → r ≡ held (now (plan .entry)) (marks (now (words .entry)) (now (plan .entry)))) ⌝ }
 {
     if Plan::STEPS < plan.len() {
         return [false; Plan::STEPS];
@@ -26,7 +25,8 @@ pub(crate) fn landmarks(words: &[u32], plan: &[u32]) -> [bool; Plan::STEPS]
     let mut first = [Plan::STEPS as u8; FACTS];
     write_first(words, plan, &mut first);
     let mut wanted = [UNWANTED; FACTS];
-    stamp(words, &mut wanted, goal_at(words), goal_end(words), WANTED);
+    stamp(words, &mut wanted, goal(words), WANTED);
     let start = initial(words);
-    mark_steps(words, plan, &start, &first, &mut wanted)
+    let n = size(words);
+    mark_steps(words, plan, &start[..n], &first, &mut wanted)
 }

@@ -1,4 +1,5 @@
--- A mask of four words (document 01, "Doing a step, and a valid list"): how it tells a reduction, and what is kept by it. Assumes nothing.
+-- A mask of four words (document 01, "Doing a step, and a valid list"): how it tells a reduction, and what is kept by
+-- it. Assumes nothing.
 use Prim.Native.Nat.{ℕ, zero, suc, _+_, _*_, _/_, _%_, _^_}
 use mathlib.Core.Bool.{Bool, true, false}
 use mathlib.Core.List.{List, [], _∷_, _++_, map}
@@ -34,7 +35,8 @@ unfoldable pub words-of : ℕ → Reduction → List ℕ
 words-of zero m = []
 words-of (suc n) m = binary (take word-bits m) ∷ words-of n (drop word-bits m)
 
--- "bit (i − 1) mod 64 of word (i − 1) div 64 is one when step i is kept; all other bits are zero"; flags that no word has a bit for are dropped
+-- "bit (i − 1) mod 64 of word (i − 1) div 64 is one when step i is kept; all other bits are zero"; flags that no word
+-- has a bit for are dropped
 unfoldable pub mask-words : Reduction → List ℕ
 mask-words m = words-of mask-length m
 

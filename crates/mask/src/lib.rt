@@ -8,7 +8,8 @@ ghost use mathlib.Core.Bool.{false};
 ghost use lib.ListN.{length, getD, take, drop};
 ghost use lib.Seq.{sets};
 ghost use lib.Count.{ones as ones-in};
-ghost use Rattle.mask.specs.Mask.{word-bits, mask-bits, digit as digit-of, binary, mask-words, ones-of, bit-up, with-bit, ones-at, at-places, kept-by-words};
+ghost use Rattle.mask.specs.Mask.{word-bits, mask-bits, digit as digit-of, binary, mask-words, ones-of, bit-up};
+ghost use Rattle.mask.specs.Mask.{with-bit, ones-at, at-places, kept-by-words};
 
 // Document 01's mask. Its words may hold any values.
 pub struct Mask {
@@ -97,10 +98,12 @@ pub fn mask_of(flags: &[bool]) -> Mask
     }
 }
 
-// Writes the plan's words at the ones of a mask's word, whose lowest bit has place `from`, to `out` from index `at` on. Returns the index after them.
+// Writes the plan's words at the ones of a mask's word, whose lowest bit has place `from`, to `out` from index `at` on.
+// Returns the index after them.
 fn write_word(bits: u64, from: usize, plan: &[u32], out: &mut [u32], at: usize) -> usize
     requires { ⌜ (from ≤ mask-bits) × (at ≤ mask-bits) ⌝ }
-    ensures { λ r. ⌜ (now (out .exit) ≡ sets (now (out .entry)) at (at-places (now (plan .entry)) (ones-at from word-bits bits)))
+    ensures { λ r. ⌜ (now (out .exit)
+        ≡ sets (now (out .entry)) at (at-places (now (plan .entry)) (ones-at from word-bits bits)))
         × (r ≡ at + length (ones-at from word-bits bits)) ⌝ }
 {
     let mut rest = bits;
@@ -114,7 +117,8 @@ fn write_word(bits: u64, from: usize, plan: &[u32], out: &mut [u32], at: usize) 
     to
 }
 
-// Writes the plan's words at the ones of a mask to the front of `out`, in order; all other words stay. Returns how many there are.
+// Writes the plan's words at the ones of a mask to the front of `out`, in order; all other words stay. Returns how many
+// there are.
 pub fn write_kept(mask: Mask, plan: &[u32], out: &mut [u32]) -> usize
     ensures { λ r. ⌜ (now (out .exit) ≡ sets (now (out .entry)) 0 (kept-by-words (mask .words) (now (plan .entry))))
         × (r ≡ length (kept-by-words (mask .words) (now (plan .entry)))) ⌝ }

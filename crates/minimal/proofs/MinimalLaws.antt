@@ -1,56 +1,45 @@
--- What the service of the exact reduction answers on each of its ways: the marks are the landmarks, which every valid reduction keeps, so that the search
--- finds the exact reduction; zeros past the start's variables change nothing. What the code calls is a variable here, with what is known of it as a premise.
--- Assumes nothing.
-use Prim.Native.Nat.{ℕ, zero, suc, _-_, _≤_, _<_}
+-- What the service of the minimal reduction answers on each of its ways: the flags are the marks, which every valid reduction keeps, so that the search finds
+-- the minimal reduction. What the code calls is a variable here, with what is known of it as a premise. Assumes nothing.
+use Prim.Native.Nat.{ℕ, _-_, _≤_, _<_}
 use native.Mathlib.Omega.{arith}
 use mathlib.Core.Path.{_≡_, refl, sym, _∙_, ap}
 use mathlib.Core.Bool.{true, false}
-use mathlib.Core.Option.{none}
-use mathlib.Core.List.{List, [], _∷_, _++_}
-use lib.ListN.{length, replicate, length-append, length-replicate, length-map}
+use mathlib.Core.Option.{none, some}
+use mathlib.Core.List.{List, [], _∷_}
+use lib.ListN.{length}
 use borrow.Author.Tests.{lt-ltb, le-ltb}
 use Rattle.refusal.specs.declared.Refusal.{Refusal}
 use Rattle.refusal.specs.declared.Refusal.the-variants.{Unmarked}
 use Rattle.refusal.specs.declared.Verdict.{Verdict}
-use Rattle.refusal.specs.declared.Verdict.the-variants.{Passed, Refused as Refused-verdict}
-use Rattle.refusal.specs.Refusal.{told}
+use Rattle.refusal.specs.Refusal.{told-refusal, told}
 use Rattle.refusal.specs.Check.{answer}
 use Rattle.refusal.proofs.CheckLaws.{answer-fires, answer-passes, answer-nothing, answer-first, answer-second}
-use Rattle.reduction.specs.Reduction.{Reduction, count}
-use Rattle.reduction.specs.Wanted.{landmarks}
-use Rattle.reduction.proofs.LandmarkTheorem.{landmarks-length}
-use Rattle.reduction.specs.Search.{search}
-use Rattle.reduction.proofs.SearchTheorem.{landmarks-sound}
-use Rattle.reduction.proofs.MinimalPadded.{pad-search}
+use Rattle.reduction.specs.Reduction.{Reduction, count, meets}
+use Rattle.reduction.specs.Sound.{Flags-kept}
+use Rattle.reduction.proofs.LandmarksKept.{landmarks-kept}
+use Rattle.tally.specs.declared.Tally.{Tally}
 use Rattle.tally.proofs.TallyLaws.{same-tally}
-use Rattle.mask.specs.Mask.{mask-length, mask-bits, mask-words, ones-of}
+use Rattle.mask.specs.Mask.{mask-bits, mask-words, ones-of}
 use Rattle.mask.proofs.MaskTheorem.{ones-are-kept, mask-keeps}
-use Rattle.sheet.specs.Limits.{limits}
-use Rattle.sheet.specs.Decode.{goal, initial, action}
+use Rattle.sheet.specs.Decode.{goal, initial}
+use Rattle.plan.specs.declared.check.Answer.{Answer}
 use Rattle.plan.specs.declared.check.Answer.the-variants.{Valid, Refused}
-use Rattle.plan.specs.Limits.{most-steps}
 use Rattle.plan.specs.Valid.{steps}
-use Rattle.plan.specs.Checked.{plan-checks}
-use Rattle.landmark.specs.Marks.{flags-of, marks-of, Marks}
+use Rattle.plan.specs.Readable.{Readable}
+use Rattle.plan.specs.Checked.{told-answer}
+use Rattle.plan.proofs.PlanLaws.{passed-readable}
+use Rattle.landmark.specs.Marks.{marks, marked, unmarked, Marks, Marks-lodged}
+use Rattle.landmark.proofs.MarkLaws.{marks-leave}
+use Rattle.landmark.proofs.MarkTheorem.{marks-length}
 use Rattle.service.specs.declared.finish.Kept.{Kept}
-use Rattle.service.specs.Held.{start, mask, Leaves}
-use Rattle.service.specs.Reduced.{reduction-checks}
+use Rattle.service.specs.Held.{mask, Leaves}
 use Rattle.service.specs.Kept.{Keeps}
-use Rattle.service.proofs.HeldLaws.{leaves}
-use Rattle.service.proofs.ChecksLaws.{Padding, nothing-refused, plan-passes, readable, padding}
+use Rattle.service.specs.Reduced.{room-checks, reduction-checks}
 use Rattle.service.proofs.AnswerLaws.{answers-refused, answers-kept}
 use Rattle.search.specs.Told.{Tells, Finds}
-use Rattle.minimal.specs.Minimised.{unmarked, unmarked-check, minimal-checks, minimal-of, Minimises}
-use Rattle.minimal.specs.Written.{Writes}
-use Rattle.plan.specs.Readable.{Readable}
-
--- flags past the end are down, and count nothing
-count-past : (m : Reduction) (n : ℕ) → count (m ++ replicate n false) ≡ count m
-unfolding count
-count-past [] zero = refl
-count-past [] (suc n) = count-past [] n
-count-past (true ∷ m) n = ap suc (count-past m n)
-count-past (false ∷ m) n = count-past m n
+use Rattle.minimal.specs.declared.within.Minimised.{Minimised}
+use Rattle.minimal.specs.Minimised.{unmarked-checks, minimal-checks, minimal-of, Minimises}
+use Rattle.minimal.specs.Written.{Writes, Refuses}
 
 count-few : (m : Reduction) → count m ≤ length m
 unfolding count
@@ -58,102 +47,90 @@ count-few [] = omega arith
 count-few (true ∷ m) = omega (arith, count-few m)
 count-few (false ∷ m) = omega (arith, count-few m)
 
-module _ (w l : List ℕ) where
-  abbrev marked : Reduction
-  marked = landmarks (initial w) (goal w) (steps w l)
+marks-kept : (w l : List ℕ) → Flags-kept (meets (goal w)) (initial w) (steps w l) (marks w l)
+unfolding marks
+marks-kept w l = landmarks-kept (initial w) (goal w) (steps w l)
 
-  marked-fits : length marked ≡ length l
-  marked-fits = landmarks-length (initial w) (goal w) (steps w l) ∙ length-map l (action w)
+-- a refusal, by the check that fires
+refuses-all : (limit : ℕ) (w l before : List ℕ) (refusal : Refusal) (r : Minimised) → answer (minimal-checks limit w l (length before)) ≡ some (told-refusal refusal)
+    → Refuses refusal r → Minimises limit w l before r before
+refuses-all limit w l before refusal r fires refuses =
+    record {
+      answers = rw (refuses .answer, refuses .mask) (answers-refused _ w l (minimal-of w l) before (Refused refusal) (sym fires) refusal refl);
+      lodged = rw fires (refuses .lodged);
+      marks = rw fires (refuses .marked);
+    }
 
-  -- the marks of a list that passes
-  module _ (few : length l ≤ most-steps) (v : Verdict) (flags : Reduction) (marks : Marks w l v flags) (passes : answer (plan-checks w l) ≡ none) where
-    flags-are : flags ≡ flags-of w l
-    unfolding marks-of
-    flags-are = rw (passes, marks-of) at (marks .marked)
+module _ (limit : ℕ) (w l before : List ℕ) (v : Verdict) (given : Answer) (flags : Reduction) (asked : told v ≡ answer (room-checks (length l) (length before)))
+    (lodges : Marks-lodged w l v given flags) where
+  checked : Marks (reduction-checks w l (length before)) w l given flags
+  checked = lodges .checked (room-checks (length l) (length before)) asked
 
-    marks-leave : Leaves l marked flags
-    unfolding flags-of
-    marks-leave = leaves w l marked marked flags (landmarks-length (initial w) (goal w) (steps w l)) refl flags-are
-
-    -- the ones of their mask are the marked steps
-    module _ (words : List ℕ) (ones : ℕ) (told-by : words ≡ mask-words flags) (counted : ones ≡ ones-of words) where
-      pub ones-marked : ones ≡ count marked
-      unfolding flags-of
-      ones-marked =
-          let long : length flags ≤ mask-bits = rw flags-are (simp length-append (simp length-replicate (omega (arith, marked-fits)))) in
-          let ups : count flags ≡ count marked = rw flags-are (count-past marked (most-steps - length l)) in
-          rw (counted, told-by, ones-are-kept flags long) ups
-
-      ones-few : ones ≤ length l
-      ones-few = omega (arith, ones-marked, count-few marked, marked-fits)
-
-      unmarked-counted : length l - ones ≡ unmarked w l
-      unfolding unmarked
-      unmarked-counted = rw ones-marked
-
-module _ (limit : ℕ) (w l before : List ℕ) (v : Verdict) (checked : told v ≡ answer (reduction-checks w l (length before))) where
   -- one of the checks 1 to 11 refuses
-  pub first-refuses : (r : Refusal) → v ≡ Refused-verdict r → Minimises limit w l before (Refused r) (replicate mask-length 0) before
+  pub first-refuses : (refusal : Refusal) (r : Minimised) → given ≡ Refused refusal → Refuses refusal r → Minimises limit w l before r before
   unfolding minimal-checks
-  first-refuses r refuses =
-      answers-refused _ w l (minimal-of w l) before (Refused-verdict r) (sym (answer-first (reduction-checks w l (length before)) _ (sym checked ∙ ap told refuses))) r refl
+  first-refuses refusal r is refuses =
+      refuses-all limit w l before refusal r (answer-first (reduction-checks w l (length before)) _ (sym (checked .refusal) ∙ ap told-answer is)) refuses
 
   -- none does
-  module _ (passes : v ≡ Passed) where
-    only-unmarked : answer (minimal-checks limit w l (length before)) ≡ answer (unmarked-check limit w l ∷ [])
+  module _ (lodged : Tally) (valid : given ≡ Valid lodged) where
+    passed : answer (reduction-checks w l (length before)) ≡ none
+    passed = sym (checked .refusal) ∙ ap told-answer valid
+
+    readable : Readable w l
+    readable = passed-readable _ w l passed
+
+    only-unmarked : answer (minimal-checks limit w l (length before)) ≡ answer (unmarked-checks limit w l)
     unfolding minimal-checks
-    only-unmarked = answer-second (reduction-checks w l (length before)) _ (nothing-refused w l (length before) v checked passes)
+    only-unmarked = answer-second (reduction-checks w l (length before)) _ passed
 
-    list-readable : Readable w l
-    list-readable = readable w l (length before) v checked passes
-
-    plan-passed : answer (plan-checks w l) ≡ none
-    plan-passed = plan-passes w l (length before) v checked passes
-
-    -- the search finds the exact reduction
-    finds-minimal : search (start w) (goal w) (steps w l) (marked w l) ≡ minimal-of w l
-    finds-minimal =
-        let padded : Padding w l = padding w l (length before) v checked passes in
-        rw (padded .padded)
-        (pad-search (limits .variables) (initial w) (steps w l) (padded .complete) (padded .rising) (padded .formed) (marked w l)
-        (landmarks-length (initial w) (goal w) (steps w l)) (landmarks-sound (initial w) (goal w) (steps w l)))
+    -- the flags as a reduction of the list
+    pub marks-left : Leaves l (marks w l) flags
+    marks-left = marks-leave w l flags (rw passed at (checked .flagged))
 
     written-keeps : (m : Reduction) (k r : Kept) (after : List ℕ) → Tells w l m k → Writes l k before r after → Keeps w l m before (r .tally) (r .mask .words) after
     written-keeps m k r after tells writes =
-        let few : length m ≤ mask-bits = omega (arith, tells .fits, list-readable .few) in
+        let few : length m ≤ mask-bits = omega (arith, tells .fits, readable .few) in
         record {
           counted = same-tally _ _ (writes .cost ∙ ap (λ t. t .cost) (tells .counted)) (writes .steps ∙ rw (tells .told-by) (ones-are-kept m few));
           told-by = writes .told-by ∙ tells .told-by;
           written = writes .written ∙ rw (tells .told-by, mask-keeps m l few (tells .fits));
         }
 
-    -- the marks are there
-    module _ (vd : Verdict) (flags : Reduction) (marks : Marks w l vd flags) where
-      -- their flags as a reduction of the list
-      pub marks-left : Leaves l (marked w l) flags
-      marks-left = marks-leave w l (list-readable .few) vd flags marks plan-passed
+    -- the marks are counted in their mask
+    module _ (words : List ℕ) (ones : ℕ) (told-by : words ≡ mask-words (mask l flags)) (counted : ones ≡ ones-of words) where
+      ones-marked : ones ≡ marked w l
+      ones-marked =
+          let few : length (marks w l) ≤ mask-bits = omega (arith, marks-length w l, readable .few) in
+          rw (counted, told-by, marks-left .same) (ones-are-kept (marks w l) few)
 
-      -- and counted
-      module _ (words : List ℕ) (ones : ℕ) (told-by : words ≡ mask-words flags) (counted : ones ≡ ones-of words) where
-        pub marks-few : ones ≤ length l
-        marks-few = ones-few w l (list-readable .few) vd flags marks plan-passed words ones told-by counted
+      pub marks-few : ones ≤ length l
+      marks-few = omega (arith, ones-marked, count-few (marks w l), marks-length w l)
 
-        others : length l - ones ≡ unmarked w l
-        others = unmarked-counted w l (list-readable .few) vd flags marks plan-passed words ones told-by counted
+      others : length l - ones ≡ unmarked w l
+      others = rw ones-marked
 
-        -- too many steps are unmarked
-        pub last-refuses : limit < length l - ones → Minimises limit w l before (Refused (Unmarked (length l - ones))) (replicate mask-length 0) before
-        last-refuses h =
-            let fires : answer (minimal-checks limit w l (length before)) ≡ told (Refused-verdict (Unmarked (length l - ones))) =
-            only-unmarked ∙ answer-fires (unmarked-check limit w l) [] (length l - ones) (rw (← others, lt-ltb limit (length l - ones) h)) in
-            answers-refused _ w l (minimal-of w l) before (Refused-verdict (Unmarked (length l - ones))) (sym fires) (Unmarked (length l - ones)) refl
+      -- too many steps are unmarked
+      pub last-refuses : (r : Minimised) → limit < length l - ones → Refuses (Unmarked (length l - ones)) r → Minimises limit w l before r before
+      unfolding unmarked-checks
+      last-refuses r h refuses =
+          let fires : answer (unmarked-checks limit w l) ≡ some (told-refusal (Unmarked (length l - ones))) =
+          answer-fires _ [] (length l - ones) (rw (← others, lt-ltb limit (length l - ones) h)) in
+          refuses-all limit w l before (Unmarked (length l - ones)) r (only-unmarked ∙ fires) refuses
 
-        -- or the list is shortened
-        pub minimises : (k r : Kept) (after : List ℕ) → length l - ones ≤ limit → Finds w l (mask l flags) k → Writes l k before r after
-            → Minimises limit w l before (Valid (r .tally)) (r .mask .words) after
-        minimises k r after h found writes =
-            let tells : Tells w l (minimal-of w l) k = rw (marks-left .same, finds-minimal) at (found .tells list-readable (marks-left .fits)) in
-            let passed : answer (minimal-checks limit w l (length before)) ≡ none =
-            only-unmarked ∙ answer-passes (unmarked-check limit w l) [] (rw (← others, le-ltb limit (length l - ones) h)) ∙ answer-nothing in
-            answers-kept _ w l (minimal-of w l) before Passed (sym passed) (minimal-of w l) after (r .mask .words) (r .tally) refl refl
-            (written-keeps (minimal-of w l) k r after tells writes)
+      -- or the list is shortened
+      pub minimises : (k left : Kept) (after : List ℕ) → length l - ones ≤ limit → Finds w l (mask l flags) k → Writes l k before left after
+          → Minimises limit w l before (record { answer = Valid (left .tally); mask = left .mask; lodged = lodged; marked = ones }) after
+      unfolding unmarked-checks
+      minimises k left after h found writes =
+          let kept : Flags-kept (meets (goal w)) (initial w) (steps w l) (mask l flags) = rw (marks-left .same) (marks-kept w l) in
+          let tells : Tells w l (minimal-of w l) k = found .tells readable (marks-left .fits) kept in
+          let passes : answer (minimal-checks limit w l (length before)) ≡ none =
+          only-unmarked ∙ answer-passes _ [] (rw (← others, le-ltb limit (length l - ones) h)) ∙ answer-nothing in
+          record {
+            answers =
+                answers-kept _ w l (minimal-of w l) before (Valid lodged) (sym passes) lodged (minimal-of w l) after (left .mask .words) (left .tally) refl refl
+                (written-keeps (minimal-of w l) k left after tells writes);
+            lodged = rw passes (rw (passed, valid) at (checked .tally));
+            marks = rw passes ones-marked;
+          }

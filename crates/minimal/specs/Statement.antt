@@ -1,5 +1,5 @@
--- Demand 3 as one statement, of what the service of the exact reduction answers and writes. Steps stand at indices from 0, one less than document 01's
--- positions. Assumes nothing.
+-- Demand 3 as one statement, of what the service of the minimal reduction answers and writes. Steps stand at indices from
+-- 0, one less than document 01's positions. Assumes nothing.
 use Prim.Native.Nat.{ℕ, _≤_, _<_}
 use mathlib.Core.Path.{_≡_}
 use mathlib.Core.Logic.{_↔_}
@@ -10,8 +10,7 @@ use Rattle.refusal.specs.Refusal.{Told}
 use Rattle.sas.specs.Plan.{holds, Plan}
 use Rattle.reduction.specs.Reduction.{Reduction, keeps, kept, count, Valid-reduction}
 use Rattle.reduction.specs.Landmark.{Marked}
-use Rattle.reduction.specs.Wanted.{landmarks}
-use Rattle.reduction.specs.Minimal.{Minimal}
+use Rattle.reduction.specs.Minimal.{Minimal-reduction}
 use Rattle.tally.specs.Tally.{nothing}
 use Rattle.mask.specs.Mask.{mask-length, mask-words}
 use Rattle.sheet.specs.Decode.{goal, initial, task}
@@ -19,7 +18,8 @@ use Rattle.plan.specs.declared.check.Answer.{Answer}
 use Rattle.plan.specs.Valid.{steps}
 use Rattle.plan.specs.Checked.{told-answer, told-tally}
 use Rattle.service.specs.Reduced.{tally-left}
-use Rattle.minimal.specs.Minimised.{unmarked, minimal-of}
+use Rattle.landmark.specs.Marks.{marks, unmarked}
+use Rattle.minimal.specs.Minimised.{minimal-of}
 use Rattle.plan.specs.Readable.{Readable}
 
 module _ (w l : List ℕ) where
@@ -31,12 +31,12 @@ module _ (w l : List ℕ) where
   abbrev pub Valid-striking : Reduction → Type 0
   Valid-striking m = Valid-reduction (initial w) (goal w) (steps w l) m
 
-  -- the service answers with the exact reduction
+  -- the service answers with the minimal reduction
   pub record Answered (before : List ℕ) (given : Answer) (mask after : List ℕ) : Type 0 where
     pub answers : told-answer given ≡ none
-    -- it is valid and wins against every valid reduction: it costs no more, at equal cost it has no more steps, and where both are equal the other one keeps
-    -- the step at the first place where the two differ
-    pub minimal : Minimal (initial w) (goal w) (steps w l) (minimal-of w l)
+    -- it is valid and wins against every valid reduction: it costs no more, at equal cost it has no more steps, and
+    -- where both are equal the other one keeps the step at the first place where the two differ
+    pub minimal : Minimal-reduction (initial w) (goal w) (steps w l) (minimal-of w l)
     -- the list left is a plan of the task, and it is the lodged list with steps struck
     pub plan-left : Plan (task w) (kept (minimal-of w l) (steps w l))
     pub tally : told-tally given ≡ tally-left w l (minimal-of w l)
@@ -55,8 +55,8 @@ module _ (w l : List ℕ) where
     -- no valid striking drops a marked move
     pub marked-kept : (m : Reduction) → Valid-striking m → (i : ℕ) → Is-marked i → keeps m i
     -- the marked steps are those of these flags, one for each step, and `unmarked` is the number of all others
-    pub marks : (i : ℕ) → keeps (landmarks (initial w) (goal w) (steps w l)) i ↔ Is-marked i
-    pub flagged : length (landmarks (initial w) (goal w) (steps w l)) ≡ length l
+    pub flagged : (i : ℕ) → keeps (marks w l) i ↔ Is-marked i
+    pub each-flagged : length (marks w l) ≡ length l
     -- where no more than the limit are unmarked it answers
     pub answered : unmarked w l ≤ limit → Answered before given mask after
     -- where more are it refuses with 12
@@ -64,7 +64,9 @@ module _ (w l : List ℕ) where
     -- and in no other case
     pub only-then : (t : Told) → told-answer given ≡ some t → limit < unmarked w l
 
--- for every accepted sheet, every valid list of no more steps than a list may have, and every output that has as many words as the list has steps
+-- for every accepted sheet, every valid list of no more steps than a list may have, and every output that has as many
+-- words as the list has steps
 abbrev pub Demand-three : ℕ → List ℕ → List ℕ → List ℕ → Answer → List ℕ → List ℕ → Type 0
 Demand-three limit w l before given mask after =
-    Readable w l → Plan (task w) (steps w l) → length l ≤ length before → Demand-three-of w l limit before given mask after
+    Readable w l → Plan (task w) (steps w l) → length l ≤ length before
+    → Demand-three-of w l limit before given mask after

@@ -1,19 +1,39 @@
 // The minimal reduction of a plan of which no more than a limit of steps is unmarked.
-use landmark::marks::marks;
+use landmark::marks::mark_lodged;
+use mask::Mask;
 use mask::mask_of;
 use mask::write_kept;
+use plan::check::Answer;
 use refusal::Refusal;
-use refusal::Verdict;
 use search::best::minimal;
-use service::answer::Reduced;
-use service::answer::refused;
-use service::answer::told;
-use service::checks::check_reduction;
 use service::finish::Kept;
+use service::room::check_room;
 use tally::Tally;
-ghost use mathlib.Core.Path.{_≡_};
 ghost use Rattle.minimal.specs.Minimised.{Minimises};
-ghost use Rattle.minimal.specs.Written.{Writes};
+ghost use Rattle.minimal.specs.Written.{Writes, Refuses};
+
+// The tally of the list left or a refusal, the mask of the steps kept, and of the lodged list its tally and the number
+// of its marked steps: all zero on a refusal.
+pub struct Minimised {
+    pub answer: Answer,
+    pub mask: Mask,
+    pub lodged: Tally,
+    pub marked: u32,
+}
+
+// A refusal, with its zeros.
+pub fn refused(refusal: Refusal) -> Minimised
+    ensures { λ r. ⌜ Refuses refusal r ⌝ }
+{
+    Minimised {
+        answer: Answer::Refused(refusal),
+        mask: Mask {
+            words: [0u64; Mask::WORDS],
+        },
+        lodged: Tally::new(),
+        marked: 0,
+    }
+}
 
 // Writes the kept steps of a reduction to the front of `out`. Their number is that of the ones in the mask.
 fn write_out(plan: &[u32], kept: Kept, out: &mut [u32]) -> Kept
@@ -30,21 +50,32 @@ fn write_out(plan: &[u32], kept: Kept, out: &mut [u32]) -> Kept
     }
 }
 
-// Writes what the minimal reduction leaves of a plan to the front of `out`; refuses where more than `limit` steps are unmarked.
-pub fn reduce_within(words: &[u32], plan: &[u32], out: &mut [u32], limit: usize) -> Reduced
-    ensures { λ r. ⌜ Minimises limit (now (words .entry)) (now (plan .entry)) (now (out .entry)) (r .answer) (r .mask .words) (now (out .exit)) ⌝ }
+// Writes what the minimal reduction leaves of a plan to the front of `out`; refuses where more than `limit` steps are
+// unmarked.
+pub fn reduce_within(words: &[u32], plan: &[u32], out: &mut [u32], limit: usize) -> Minimised
+    ensures { λ r. ⌜ Minimises limit (now (words .entry)) (now (plan .entry)) (now (out .entry)) r (now (out .exit)) ⌝ }
 {
-    let verdict = check_reduction(words, plan, out.len());
-    if let Verdict::Refused(refusal) = verdict {
-        return refused(refusal);
+    let checked = mark_lodged(words, plan, check_room(plan.len(), out.len()));
+    let answer = checked.answer;
+    let flags = checked.flags;
+    match answer {
+        Answer::Refused(refusal) => refused(refusal),
+        Answer::Valid(lodged) => {
+            let n = plan.len();
+            let marked = mask_of(&flags[..n]).count();
+            let unmarked = n - marked as usize;
+            if limit < unmarked {
+                return refused(Refusal::Unmarked(unmarked));
+            }
+            let left = write_out(plan, minimal(words, plan, &flags[..n]), out);
+            let tally = left.tally;
+            let mask = left.mask;
+            Minimised {
+                answer: Answer::Valid(tally),
+                mask,
+                lodged,
+                marked,
+            }
+        }
     }
-    let marked = marks(words, plan);
-    let flags = marked.flags;
-    let n = plan.len();
-    let unmarked = n - mask_of(&flags).count() as usize;
-    if limit < unmarked {
-        return refused(Refusal::Unmarked(unmarked));
-    }
-    let kept = minimal(words, plan, &flags[..n]);
-    told(write_out(plan, kept, out))
 }

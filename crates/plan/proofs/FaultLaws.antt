@@ -1,7 +1,7 @@
 -- Where a sequence of actions fails to be valid and the state that it ends in: by the cases of the sequence; by those of a loop over a list of
 -- action numbers; and against SAS+, where a sequence without fault is one that runs to a state that satisfies the goal, and a fault is the position
 -- at which it is stuck, or the one past its end. By list induction, along the actions that can be applied. Assumes nothing.
-use Prim.Native.Nat.{ℕ, _+_, _≤_, _<_}
+use Prim.Native.Nat.{ℕ, zero, suc, _+_, _≤_, _<_}
 use native.Mathlib.Omega.{arith}
 use native.Mathlib.Numerals.{add-one}
 use mathlib.Core.Path.{_≡_, refl, sym, _∙_}
@@ -15,7 +15,7 @@ use Rattle.refusal.specs.declared.place.Place.the-variants.{Nowhere, At}
 use Rattle.refusal.specs.Place.{when}
 use Rattle.sas.specs.Task.{Assignment, State, Action}
 use Rattle.sas.specs.Plan.{satisfies, applicable, apply, run, Stuck}
-use Rattle.sas.proofs.ActionLaws.{result-applicable, result-assigned}
+use Rattle.sas.proofs.ActionLaws.{apply-length, result-applicable, result-assigned}
 use Rattle.sas.proofs.RunLaws.{run-end, run-first}
 use Rattle.sas.proofs.Faults.{none-stuck}
 use Rattle.tally.specs.declared.Tally.{Tally}
@@ -23,6 +23,12 @@ use Rattle.tally.specs.Tally.{one-more, after}
 use Rattle.sheet.specs.Layout.{cost-word}
 use Rattle.sheet.specs.Decode.{action}
 use Rattle.plan.specs.Valid.{steps, fault, final}
+
+-- the actions of the steps from index n on
+pub steps-drop : (w l : List ℕ) (n : ℕ) → steps w (drop n l) ≡ drop n (steps w l)
+steps-drop w l zero = refl
+steps-drop w [] (suc n) = refl
+steps-drop w (a ∷ l) (suc n) = steps-drop w l n
 
 -- no action is left, and the goal is looked at
 pub fault-end : (goal : Assignment) (s : State) (i : ℕ) → fault goal s i [] ≡ when (not (satisfies s goal)) i
@@ -53,6 +59,11 @@ final-end s = refl
 pub final-applied : (s : State) (a : Action) (p : List Action) → final s (a ∷ p) ≡ final (apply s a) p
 unfolding final
 final-applied s a p = refl
+
+pub final-length : (s : State) (p : List Action) → length (final s p) ≡ length s
+unfolding final
+final-length s [] = refl
+final-length s (a ∷ p) = final-length (apply s a) p ∙ apply-length s a
 
 after-end : (t : Tally) → after t [] ≡ t
 unfolding after

@@ -1,28 +1,29 @@
 -- The check of a list passes just the plans of SAS+, and what it tells of a list is true of it: the first step that can't be done or the unmet goal,
 -- the end state and the tally. A list that can be read leaves only the fault to the check, and the laws of the fault tell what SAS+'s γ does with the
 -- list's actions. Nothing here is about the code: its contract cites the same definitions. Assumes nothing.
-use Prim.Native.Nat.{ℕ, _+_, _≤_}
+use Prim.Native.Nat.{ℕ, _+_, _-_, _≤_}
+use native.Mathlib.Omega.{arith}
 use mathlib.Core.Path.{_≡_, refl, sym, _∙_}
 use mathlib.Core.Logic.{_⊎_, _↔_}
-use mathlib.Core.Option.{Option, none, some, Option·some-ne-none, Option·some-injective}
-use mathlib.Core.List.{List}
-use lib.ListN.{length, length-map}
+use mathlib.Core.Option.{none, some, Option·some-ne-none, Option·some-injective}
+use mathlib.Core.List.{List, [], _++_}
+use lib.ListN.{length, replicate, length-map}
 use Rattle.refusal.specs.declared.place.Place.{Place}
 use Rattle.refusal.specs.declared.place.Place.the-variants.{Nowhere, At}
 use Rattle.refusal.specs.declared.Refusal.the-variants.{NotAPlan}
 use Rattle.refusal.specs.Refusal.{Told, told-refusal}
 use Rattle.refusal.specs.Check.{answer}
-use Rattle.sas.specs.Plan.{run, cost, Plan, Stuck}
-use Rattle.sas.specs.Pad.{pad}
+use Rattle.sas.specs.Plan.{run, Plan, Stuck}
+use Rattle.sheet.specs.Layout.{variables}
+use Rattle.step.proofs.StateLaws.{few-variables, array-parts, initial-length}
+use Rattle.refusal.proofs.CheckLaws.{answer-nothing}
 use Rattle.sheet.specs.Limits.{limits}
 use Rattle.sheet.specs.Decode.{initial, goal, action, task}
-use Rattle.sheet.specs.Causes.{sheet-checks, Accepted}
-use Rattle.plan.specs.Limits.{most-steps}
 use Rattle.plan.specs.Valid.{steps, fault, final}
-use Rattle.plan.specs.Checked.{list-checks, plan-checks, tally-of, end-state}
-use Rattle.plan.proofs.FaultLaws.{Unmet, runs-faultless, faultless-runs, fault-told}
-use Rattle.plan.proofs.PlanLaws.{steps-known, sheet-answers, list-answers, listed-entries, entries-listed, fault-answers, faultless-passes, passes-faultless}
-use Rattle.plan.specs.Readable.{Entries-known, Readable}
+use Rattle.plan.specs.Checked.{plan-checks, end-state}
+use Rattle.plan.proofs.FaultLaws.{final-length, Unmet, runs-faultless, faultless-runs, fault-told}
+use Rattle.plan.proofs.PlanLaws.{steps-known, passed-readable, fault-answers, faultless-passes, passes-faultless}
+use Rattle.plan.specs.Readable.{Readable}
 
 -- where a list that can be read is no plan: place k is that of the first step that can't be done, or one past the last and only the goal is unmet
 abbrev pub Fails-at : List ℕ → List ℕ → ℕ → Type 0
@@ -39,29 +40,11 @@ pub record Told-truly (w l : List ℕ) : Type 0 where
   -- the final state of a list that passes is γ(I, ⟨a₁, …, aₙ⟩)
   pub reached : answer (plan-checks w l) ≡ none → run (initial w) (steps w l) ≡ some (final (initial w) (steps w l))
   -- the end state told is that state, with zeros past its variables
-  pub end : answer (plan-checks w l) ≡ none → end-state w l ≡ pad (limits .variables) (final (initial w) (steps w l))
-  -- and the tally told is the plan's cost and its number of steps
-  pub tally : answer (plan-checks w l) ≡ none → tally-of w l ≡ record { cost = cost (steps w l); steps = length l }
-
--- an answer that another one repeats is none where that one is
-none-where : (a b : Option Told) → ((t : Told) → a ≡ some t → b ≡ some t) → b ≡ none → a ≡ none
-none-where none b repeats h = refl
-none-where (some t) b repeats h = absurd (Option·some-ne-none t (sym (repeats t refl) ∙ h))
-
--- a list that passes can be read
-pub passed-readable : (w l : List ℕ) → answer (plan-checks w l) ≡ none → Readable w l
-passed-readable w l h =
-    let accepted : Accepted w = none-where (answer (sheet-checks w)) (answer (plan-checks w l)) (λ t e. sheet-answers w l e) h in
-    let listed : answer (list-checks w l) ≡ none = none-where (answer (list-checks w l)) (answer (plan-checks w l)) (λ t e. list-answers w l accepted e) h in
-    let (few, known) = listed-entries w l listed in
-    record { accepted = accepted; few = few; known = known }
+  pub end : end-state w l ≡ final (initial w) (steps w l) ++ replicate (limits .variables - variables w) 0
 
 module _ (w l : List ℕ) (readable : Readable w l) where
-  listed : answer (list-checks w l) ≡ none
-  listed = entries-listed w l (readable .few) (readable .known)
-
   no-fault : answer (plan-checks w l) ≡ none → fault (goal w) (initial w) 1 (steps w l) ≡ Nowhere
-  no-fault h = passes-faultless w l (readable .accepted) listed h
+  no-fault h = passes-faultless [] w l readable answer-nothing h
 
   passed-is-plan : answer (plan-checks w l) ≡ none → Plan (task w) (steps w l)
   unfolding task
@@ -71,30 +54,35 @@ module _ (w l : List ℕ) (readable : Readable w l) where
 
   plan-is-passed : Plan (task w) (steps w l) → answer (plan-checks w l) ≡ none
   unfolding task
-  plan-is-passed p = faultless-passes w l (readable .accepted) listed (runs-faultless (goal w) (initial w) 1 (steps w l) (p .reached) (p .goal))
+  plan-is-passed p = faultless-passes [] w l readable answer-nothing (runs-faultless (goal w) (initial w) 1 (steps w l) (p .reached) (p .goal))
 
   refused-where : (t : Told) → answer (plan-checks w l) ≡ some t → (p : Place) → fault (goal w) (initial w) 1 (steps w l) ≡ p
       → (t .number ≡ 11) × Fails-at w l (t .place)
-  refused-where t h Nowhere e = absurd (Option·some-ne-none t (sym h ∙ faultless-passes w l (readable .accepted) listed e))
+  refused-where t h Nowhere e = absurd (Option·some-ne-none t (sym h ∙ faultless-passes [] w l readable answer-nothing e))
   refused-where t h (At k) e =
-      let same : told-refusal (NotAPlan k) ≡ t = Option·some-injective _ _ (sym (fault-answers w l (readable .accepted) listed k e) ∙ h) in
+      let same : told-refusal (NotAPlan k) ≡ t = Option·some-injective _ _ (sym (fault-answers [] w l readable answer-nothing k e) ∙ h) in
       rw (← same) (refl, rw (← length-map l (action w)) (fault-told (goal w) (initial w) (steps w l) k e))
 
+  ends : end-state w l ≡ final (initial w) (steps w l) ++ replicate (limits .variables - variables w) 0
+  ends =
+      let kept : length (final (initial w) (steps w l)) ≡ length (initial w) = final-length (initial w) (steps w l) in
+      let few : length (initial w) ≤ limits .variables = few-variables w (readable .accepted) in
+      let all : length (final (initial w) (steps w l)) ≡ variables w = kept ∙ initial-length w in
+      array-parts (final (initial w) (steps w l)) (omega arith) ∙ rw all
+
   pub plan-theorem : Told-truly w l
-  unfolding tally-of end-state
   plan-theorem =
       record {
         passed-plan = passed-is-plan;
         plan-passes = plan-is-passed;
         first-failing = λ t h. refused-where t h _ refl;
         reached = λ h. faultless-runs (goal w) (initial w) 1 (steps w l) (no-fault h) .0;
-        end = λ h. rw (h, end-state);
-        tally = λ h. rw (h, tally-of);
+        end = ends;
       }
 
 -- of all words and all lists, just the plans that can be read pass
 pub passes-exactly : (w l : List ℕ) → answer (plan-checks w l) ≡ none ↔ (Readable w l × Plan (task w) (steps w l))
-passes-exactly w l = (λ h. passed (passed-readable w l h) h, λ (readable, plan). plan-is-passed w l readable plan)
+passes-exactly w l = (λ h. passed (passed-readable [] w l h) h, λ (readable, plan). plan-is-passed w l readable plan)
   where
     passed : Readable w l → answer (plan-checks w l) ≡ none → Readable w l × Plan (task w) (steps w l)
     passed readable h = (readable, passed-is-plan w l readable h)

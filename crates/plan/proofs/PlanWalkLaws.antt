@@ -45,25 +45,25 @@ module _ (w l s : List ℕ) (i : ℕ) (values : List ℕ) (tally : Tally) (along
       }
 
   -- a step that can't be done
-  pub walks-stuck : (values′ : List ℕ) (done : Bool) (r : Walked) → i < length l → Advances w values (getD l i 0) done values′ → done ≡ false → r .fault ≡ At (i + 1) → Walks w l s r
+  pub walks-stuck : (values′ : List ℕ) (done : Bool) (r : Walked) → i < length l → Advances w values (getD l i 0) done values′ → done ≡ false → r .fault ≡ At (i + 1) → Walks w l s r values′
   walks-stuck values′ done r here advances is found =
       let place : r .fault ≡ fault (goal w) s 1 (steps w l) = found ∙ sym (fault-here w l (goal w) values i here (sym (advances .applied) ∙ is)) ∙ along .place in
       record { place = place; tally = λ nowhere. absurd (elsewhere r (i + 1) found nowhere); values = λ nowhere. absurd (elsewhere r (i + 1) found nowhere) }
 
   -- the goal is met after the last step
-  pub walks-valid : (holds : Bool) (r : Walked) → length l ≤ i → holds ≡ satisfies values (goal w) → holds ≡ true → r .fault ≡ Nowhere → r .tally ≡ tally → r .values ≡ values
-      → Walks w l s r
-  walks-valid holds r past test is found counts reached =
+  pub walks-valid : (holds : Bool) (r : Walked) → length l ≤ i → holds ≡ satisfies values (goal w) → holds ≡ true → r .fault ≡ Nowhere → r .tally ≡ tally
+      → Walks w l s r values
+  walks-valid holds r past test is found counts =
       let met : satisfies values (goal w) ≡ true = sym test ∙ is in
       let place : Nowhere ≡ fault (goal w) s 1 (steps w l) = sym (fault-goal w l (goal w) values i past ∙ rw met) ∙ along .place in
       record {
         place = found ∙ place;
         tally = λ nowhere. counts ∙ sym (after-over w l tally i past) ∙ along .counted;
-        values = λ nowhere. reached ∙ sym (final-over w l values i past) ∙ along .ends;
+        values = λ nowhere. sym (final-over w l values i past) ∙ along .ends;
       }
 
   -- the goal is not met
-  pub walks-unmet : (holds : Bool) (r : Walked) → length l ≤ i → holds ≡ satisfies values (goal w) → holds ≡ false → r .fault ≡ At (length l + 1) → Walks w l s r
+  pub walks-unmet : (holds : Bool) (r : Walked) → length l ≤ i → holds ≡ satisfies values (goal w) → holds ≡ false → r .fault ≡ At (length l + 1) → Walks w l s r values
   walks-unmet holds r past test is found =
       let unmet : satisfies values (goal w) ≡ false = sym test ∙ is in
       let last : length l ≡ i = omega (arith, along .reached) in

@@ -10,8 +10,11 @@ use Rattle.plan.specs.Limits.{most-steps}
 abbrev pub Entries-known : List ℕ → List ℕ → Type 0
 Entries-known w l = (a : ℕ) → List·Memᴰ a l → a < actions w
 
--- its sheet is accepted, it is not too long, and each entry is the number of an action
-pub record Readable (w l : List ℕ) : Type 0 where
+-- its sheet is accepted, it has no more steps than the limit, and each entry is the number of an action
+pub record Readable-within (limit : ℕ) (w l : List ℕ) : Type 0 where
   pub accepted : Accepted w
-  pub few : length l ≤ most-steps
+  pub few : length l ≤ limit
   pub known : Entries-known w l
+
+abbrev pub Readable : List ℕ → List ℕ → Type 0
+Readable w l = Readable-within most-steps w l

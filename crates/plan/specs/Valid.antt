@@ -13,7 +13,8 @@ use Rattle.sheet.specs.Decode.{action}
 abbrev pub steps : List ℕ → List ℕ → List Action
 steps w l = map (action w) l
 
--- where a sequence of actions, the first at position i, fails to be valid from a state: at the first that can't be done, or past the last where the goal does not hold there
+-- where a sequence of actions, the first at position i, fails to be valid from a state: at the first that can't be
+-- done, or past the last where the goal does not hold there
 unfoldable pub fault : Assignment → State → ℕ → List Action → Place
 fault goal s i [] = when (not (satisfies s goal)) i
 fault goal s i (a ∷ p) = elim (applicable s a) [ true ↦ fault goal (apply s a) (i + 1) p | false ↦ At i ]

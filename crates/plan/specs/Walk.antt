@@ -1,4 +1,5 @@
--- What the walk along a plan hands back. Not to be believed: the laws of Valid tie it to what the check of a plan promises. Assumes nothing.
+-- What the walk along a plan hands back. Not to be believed: the laws of Valid tie it to what the check of a plan
+-- promises. Assumes nothing.
 use mathlib.Core.Path.{_≡_}
 use mathlib.Core.List.{List, map}
 use Prim.Native.Nat.{ℕ}
@@ -9,7 +10,7 @@ use Rattle.tally.specs.Tally.{nothing, after}
 use Rattle.plan.specs.declared.walk.Walked.{Walked}
 use Rattle.plan.specs.Valid.{steps, fault, final}
 
-pub record Walks (w l s : List ℕ) (r : Walked) : Type 0 where
-  pub place : r .fault ≡ fault (goal w) s 1 (steps w l)
+pub record Walks (w l before : List ℕ) (r : Walked) (after-it : List ℕ) : Type 0 where
+  pub place : r .fault ≡ fault (goal w) before 1 (steps w l)
   pub tally : r .fault ≡ Nowhere → r .tally ≡ after nothing (map (cost-word w) l)
-  pub values : r .fault ≡ Nowhere → r .values ≡ final s (steps w l)
+  pub values : r .fault ≡ Nowhere → after-it ≡ final before (steps w l)

@@ -1,19 +1,18 @@
-// The check of a plan as a service: refusals 1 to 9 and 11, the tally and the end state.
-use crate::list::check_list;
-use crate::start::initial;
+// The check of a plan as a service, refusals 1 to 9 and 11, and as what every service of a plan begins with.
+use crate::limits::Plan;
+use crate::list::check_read;
 use crate::walk::walk;
 use refusal::Refusal;
 use refusal::Verdict;
 use refusal::place::Place;
-use sheet::check::check_sheet;
 use sheet::limits::Sheet;
-use step::one::State;
+use step::state::State;
+use step::state::initial;
+use step::state::size;
 use tally::Tally;
 ghost use mathlib.Core.Path.{_≡_};
-ghost use lib.ListN.{replicate};
-ghost use Rattle.sheet.specs.Limits.{limits};
 ghost use Rattle.plan.specs.declared.check.Answer.the-variants.{Refused};
-ghost use Rattle.plan.specs.Checked.{Checks};
+ghost use Rattle.plan.specs.Checked.{plan-checks, no-state, Checks, Checks-lodged};
 
 // What the check of a plan answers: the tally of a valid one, or the first cause of refusal.
 pub enum Answer {
@@ -29,7 +28,7 @@ pub struct Checked {
 
 // A refusal, with its state of zeros.
 fn refused(refusal: Refusal) -> Checked
-    ensures { λ r. ⌜ (r .answer ≡ Refused refusal) × (r .state .values ≡ replicate (limits .variables) 0) ⌝ }
+    ensures { λ r. ⌜ (r .answer ≡ Refused refusal) × (r .state .values ≡ no-state) ⌝ }
 {
     Checked {
         answer: Answer::Refused(refusal),
@@ -39,29 +38,38 @@ fn refused(refusal: Refusal) -> Checked
     }
 }
 
-// Checks a plan of a task.
-pub fn check_plan(words: &[u32], plan: &[u32]) -> Checked
-    ensures { λ r. ⌜ Checks (now (words .entry)) (now (plan .entry)) (r .answer) (r .state .values) ⌝ }
+// Checks a plan of a task. `besides` is the verdict on what a service asks besides, after what is read and before the
+// plan's validity.
+pub fn check_lodged(words: &[u32], plan: &[u32], besides: Verdict) -> Checked
+    ensures { λ r. ⌜ Checks-lodged (now (words .entry)) (now (plan .entry)) besides (r .answer) (r .state .values) ⌝ }
 {
-    let sheet = check_sheet(words);
-    if let Verdict::Refused(refusal) = sheet {
+    let read = check_read(words, plan, Plan::STEPS);
+    if let Verdict::Refused(refusal) = read {
         return refused(refusal);
     }
-    let list = check_list(words, plan);
-    if let Verdict::Refused(refusal) = list {
+    if let Verdict::Refused(refusal) = besides {
         return refused(refusal);
     }
-    let walked = walk(words, plan, initial(words));
+    let mut values = initial(words);
+    let n = size(words);
+    let walked = walk(words, plan, &mut values[..n]);
     let fault = walked.fault;
     match fault {
         Place::At(i) => refused(Refusal::NotAPlan(i)),
         Place::Nowhere => {
             let tally = walked.tally;
-            let values = walked.values;
             Checked {
                 answer: Answer::Valid(tally),
                 state: State { values },
             }
         }
     }
+}
+
+// Checks a plan of a task.
+pub fn check_plan(words: &[u32], plan: &[u32]) -> Checked
+    ensures { λ r. ⌜ Checks (plan-checks (now (words .entry)) (now (plan .entry)))
+        (now (words .entry)) (now (plan .entry)) (r .answer) (r .state .values) ⌝ }
+{
+    check_lodged(words, plan, Verdict::Passed)
 }

@@ -1,13 +1,14 @@
-// The checks of a plan's entries: refusal 8, too many steps, and 9, an unknown action.
-use crate::limits::Plan;
+// The checks of what is read: the sheet's, then those of a plan's entries, refusal 8, too many steps, and 9, an unknown
+// action.
 use refusal::Refusal;
 use refusal::Verdict;
 use refusal::place::Place;
+use sheet::check::check_sheet;
 use sheet::layout::actions;
 ghost use mathlib.Core.Path.{_≡_};
 ghost use Rattle.refusal.specs.Refusal.{told};
 ghost use Rattle.refusal.specs.Check.{answer};
-ghost use Rattle.plan.specs.Checked.{unknown-place, list-checks};
+ghost use Rattle.plan.specs.Checked.{unknown-place, list-checks, read-checks};
 
 // The position of the first unknown action.
 fn unknown_action(words: &[u32], plan: &[u32]) -> Place
@@ -24,16 +25,27 @@ fn unknown_action(words: &[u32], plan: &[u32]) -> Place
     Place::Nowhere
 }
 
-// Refusals 8 and 9.
-pub fn check_list(words: &[u32], plan: &[u32]) -> Verdict
-    ensures { λ r. ⌜ told r ≡ answer (list-checks (now (words .entry)) (now (plan .entry))) ⌝ }
+// Refusals 8, more steps than the limit, and 9.
+fn check_list(words: &[u32], plan: &[u32], limit: usize) -> Verdict
+    ensures { λ r. ⌜ told r ≡ answer (list-checks limit (now (words .entry)) (now (plan .entry))) ⌝ }
 {
-    if Plan::STEPS < plan.len() {
-        return Verdict::Refused(Refusal::PlanLength(Plan::STEPS));
+    if limit < plan.len() {
+        return Verdict::Refused(Refusal::PlanLength(limit));
     }
     let unknown = unknown_action(words, plan);
     if let Place::At(i) = unknown {
         return Verdict::Refused(Refusal::UnknownAction(i));
     }
     Verdict::Passed
+}
+
+// The sheet's checks, then the list's.
+pub fn check_read(words: &[u32], plan: &[u32], limit: usize) -> Verdict
+    ensures { λ r. ⌜ told r ≡ answer (read-checks limit (now (words .entry)) (now (plan .entry))) ⌝ }
+{
+    let sheet = check_sheet(words);
+    match sheet {
+        Verdict::Refused(refusal) => Verdict::Refused(refusal),
+        Verdict::Passed => check_list(words, plan, limit),
+    }
 }

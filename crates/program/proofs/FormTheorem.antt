@@ -1,9 +1,8 @@
--- Reading no further than is wanted loses nothing: where no more bytes are wanted than have been read, the form is that of the whole input, whatever follows; and of
--- every input no more are wanted after three stages. By how far the bytes go. Assumes nothing.
+-- Reading no more bytes than tell the form loses nothing: once they are there, the form of the record is that which it has in the whole input, whatever follows; and of
+-- every input no more must be read after three stages. By how far the bytes go. Assumes nothing.
 use Prim.Native.Nat.{ℕ, zero, suc, _+_, _*_, _≤_, _<_}
 use native.Mathlib.Omega.{arith}
 use mathlib.Core.Path.{_≡_, refl, sym, _∙_, ap}
-use mathlib.Core.Logic.{_⊎_, inl, inr, ⊎-elim}
 use mathlib.Core.Bool.{Bool, true, false}
 use mathlib.Core.List.{List, [], _++_}
 use lib.ListN.{length, take, drop, length-append, length-take, take-append-drop}
@@ -11,10 +10,9 @@ use lib.Seq.{take-all, length-take-le}
 use lib.Dec.{ltb, lit<}
 use borrow.Author.Tests.{ltb-true, ltb-false}
 use Rattle.plan.specs.Limits.{most-steps}
-use Rattle.program.specs.declared.frame.Frame.the-variants.{Broken, Long}
-use Rattle.program.specs.Form.{word-bytes, word-at, length-at, task-length, plan-length, plan-start, plan-end, outside, form, header-bytes, wanted}
+use Rattle.program.specs.Form.{word-bytes, word-at, length-at, task-length, plan-length, plan-start, record-end, outside, record-form, header-bytes, bytes-to-read}
 use Rattle.program.proofs.InputWordLaws.{word-stays}
-use Rattle.program.proofs.FormLaws.{inside-limits, form-outside, form-long, form-not-ended, wanted-header, wanted-outside, wanted-start, wanted-long, wanted-end}
+use Rattle.program.proofs.FormLaws.{inside-limits, form-outside, form-long, form-whole, reads-header, reads-outside, reads-start, reads-long, reads-end}
 
 -- how far bytes go: not to word 3; to a word 3 outside its limits; not to the length of the plan; to a length that is too large; to one that is not
 data Reach (bytes : List ℕ) : Type 0 where
@@ -43,118 +41,128 @@ reach bytes = by-header (ltb (length bytes) header-bytes) refl
     by-header true e = short (ltb-true _ _ e)
     by-header false e = by-limits (ltb-false _ _ e) (outside (task-length bytes)) refl
 
--- where all wanted bytes are there, the form is broken or long, and so it is whatever follows
-module _ (xs ys : List ℕ) (read : wanted xs ≤ length xs) where
-  more : length (xs ++ ys) ≡ length xs + length ys
-  more = length-append xs ys
+module _ (further beyond : ℕ) where
+  abbrev needed : List ℕ → ℕ
+  needed bytes = bytes-to-read further beyond bytes
 
-  same-task : header-bytes ≤ length xs → task-length xs ≡ task-length (xs ++ ys)
-  same-task header = sym (word-stays xs ys length-at header)
+  -- once all bytes that must be read are there, no further byte changes the form of the record
+  module _ (xs ys : List ℕ) (read : needed xs ≤ length xs) where
+    more : length (xs ++ ys) ≡ length xs + length ys
+    more = length-append xs ys
 
-  same-plan : plan-start xs ≤ length xs → plan-length xs ≡ word-at (xs ++ ys) (task-length xs)
-  same-plan there = sym (word-stays xs ys (task-length xs) there)
+    same-task : header-bytes ≤ length xs → task-length xs ≡ task-length (xs ++ ys)
+    same-task header = sym (word-stays xs ys length-at header)
 
-  with-more : Reach xs → ((form xs ≡ Broken) × (form (xs ++ ys) ≡ Broken)) ⊎ ((form xs ≡ Long (task-length xs)) × (form (xs ++ ys) ≡ Long (task-length xs)))
-  with-more (short s) = absurd (omega (arith, wanted-header xs s))
-  with-more (unfit header e) = inl (form-outside xs (task-length xs) refl e, form-outside (xs ++ ys) (task-length xs) (same-task header) e)
-  with-more (cut header inside s) = absurd (omega (arith, wanted-start xs (task-length xs) refl inside header s))
-  with-more (long header inside there l) =
-      inr (
-        form-long xs (task-length xs) (plan-length xs) refl inside there refl l,
-        form-long (xs ++ ys) (task-length xs) (plan-length xs) (same-task header) inside (omega (arith, more)) (same-plan there) l,
-      )
-  with-more (listed header inside there few) =
-      let want : wanted xs ≡ plan-end xs + 1 = wanted-end xs (task-length xs) (plan-length xs) refl inside there refl header few in
-      inl (
-        form-not-ended xs (task-length xs) (plan-length xs) refl inside there refl few (λ ends. omega arith),
-        form-not-ended (xs ++ ys) (task-length xs) (plan-length xs) (same-task header) inside (omega (arith, more)) (same-plan there) few (λ ends. omega (arith, more)),
-      )
+    same-plan : plan-start xs ≤ length xs → plan-length xs ≡ word-at (xs ++ ys) (task-length xs)
+    same-plan there = sym (word-stays xs ys (task-length xs) there)
 
-pub settled-form : (xs : List ℕ) → wanted xs ≤ length xs → (form xs ≡ Broken) ⊎ (form xs ≡ Long (task-length xs))
-settled-form xs h = ⊎-elim (λ broken. inl (broken .0)) (λ long. inr (long .0)) (with-more xs [] h (reach xs))
+    with-more : Reach xs → record-form further (xs ++ ys) ≡ record-form further xs
+    with-more (short s) = absurd (omega (arith, reads-header further beyond xs s))
+    with-more (unfit header e) = form-outside further (xs ++ ys) (task-length xs) (same-task header) e ∙ sym (form-outside further xs (task-length xs) refl e)
+    with-more (cut header inside s) = absurd (omega (arith, reads-start further beyond xs header (task-length xs) refl inside s))
+    with-more (long header inside there l) =
+        form-long further (xs ++ ys) (task-length xs) (same-task header) inside (omega (arith, more)) (plan-length xs) (same-plan there) l
+        ∙ sym (form-long further xs (task-length xs) refl inside there (plan-length xs) refl l)
+    with-more (listed header inside there few) =
+        let needs-all : needed xs ≡ record-end further xs + beyond = reads-end further beyond xs header (task-length xs) refl inside there (plan-length xs) refl few in
+        form-whole further (xs ++ ys) (task-length xs) (same-task header) inside (omega (arith, more)) (plan-length xs) (same-plan there) few (record-end further xs) refl (omega (arith, more))
+        ∙ sym (form-whole further xs (task-length xs) refl inside there (plan-length xs) refl few (record-end further xs) refl (omega arith))
 
--- no further byte changes it
-pub settled : (xs ys : List ℕ) → wanted xs ≤ length xs → form (xs ++ ys) ≡ form xs
-settled xs ys h = ⊎-elim (λ broken. broken .1 ∙ sym (broken .0)) (λ long. long .1 ∙ sym (long .0)) (with-more xs ys h (reach xs))
+  pub settled : (xs ys : List ℕ) → needed xs ≤ length xs → record-form further (xs ++ ys) ≡ record-form further xs
+  settled xs ys h = with-more xs ys h (reach xs)
 
--- where that is so of what f tells of bytes, f tells the same of the first k bytes of an input as of all of it, if no more than k are wanted
-pub enough : {A : Type 0} (f : List ℕ → A) → ((xs ys : List ℕ) → wanted xs ≤ length xs → f (xs ++ ys) ≡ f xs)
-    → (k : ℕ) (input : List ℕ) → wanted (take k input) ≤ k → f (take k input) ≡ f input
-enough f stays k input h = by-case (ltb (length input) k) refl
-  where
-    by-case : (b : Bool) → ltb (length input) k ≡ b → f (take k input) ≡ f input
-    by-case true e = let all : length input < k = ltb-true _ _ e in ap f (take-all k input (omega arith))
-    by-case false e =
-        let read : length (take k input) ≡ k = length-take-le k input (ltb-false _ _ e) in
-        sym (stays (take k input) (drop k input) (omega arith)) ∙ ap f (take-append-drop k input)
+  -- where that is so of what f tells of bytes, f tells the same of the first k bytes of an input as of all of it, if no more than k must be read
+  pub enough : {A : Type 0} (f : List ℕ → A) → ((xs ys : List ℕ) → needed xs ≤ length xs → f (xs ++ ys) ≡ f xs)
+      → (k : ℕ) (input : List ℕ) → needed (take k input) ≤ k → f (take k input) ≡ f input
+  enough f stays k input h = by-case (ltb (length input) k) refl
+    where
+      by-case : (b : Bool) → ltb (length input) k ≡ b → f (take k input) ≡ f input
+      by-case true e = let all : length input < k = ltb-true _ _ e in ap f (take-all k input (omega arith))
+      by-case false e =
+          let read : length (take k input) ≡ k = length-take-le k input (ltb-false _ _ e) in
+          sym (stays (take k input) (drop k input) (omega arith)) ∙ ap f (take-append-drop k input)
 
--- the bytes of an input that are read in so many stages, in each of them as many as are wanted
-unfoldable pub read-after : ℕ → List ℕ → List ℕ
-read-after zero input = []
-read-after (suc k) input = take (wanted (read-after k input)) input
+  -- the bytes of an input that are read in so many stages, in each of them as many as must be read
+  unfoldable pub read-after : ℕ → List ℕ → List ℕ
+  read-after zero input = []
+  read-after (suc k) input = take (needed (read-after k input)) input
 
--- what is wanted of an input whose first k bytes have been read
-module _ (input : List ℕ) where
-  -- a word that the input has and that has been read
-  word-read : (k i : ℕ) → word-bytes * (i + 1) ≤ k → word-bytes * (i + 1) ≤ length input → word-at input i ≡ word-at (take k input) i
-  word-read k i read there = ap (λ l. word-at l i) (sym (take-append-drop k input)) ∙ word-stays (take k input) (drop k input) i (rw length-take (omega arith))
+  -- what must be read of an input whose first k bytes have been read
+  module _ (input : List ℕ) where
+    -- a word that the input has and that has been read
+    word-read : (k i : ℕ) → word-bytes * (i + 1) ≤ k → word-bytes * (i + 1) ≤ length input → word-at input i ≡ word-at (take k input) i
+    word-read k i read there = ap (λ l. word-at l i) (sym (take-append-drop k input)) ∙ word-stays (take k input) (drop k input) i (rw length-take (omega arith))
 
-  wants-header : (k : ℕ) → length input < header-bytes → wanted (take k input) ≡ header-bytes
-  wants-header k s = wanted-header (take k input) (rw length-take (omega arith))
+    needs-header : (k : ℕ) → length input < header-bytes → needed (take k input) ≡ header-bytes
+    needs-header k s = reads-header further beyond (take k input) (rw length-take (omega arith))
 
-  module _ (k : ℕ) (header : header-bytes ≤ length input) (read : header-bytes ≤ k) where
-    wants-no-more : outside (task-length input) ≡ true → wanted (take k input) ≡ header-bytes
-    wants-no-more e = wanted-outside (take k input) (task-length input) (word-read k length-at read header) (rw length-take (omega arith)) e
+    module _ (k : ℕ) (header : header-bytes ≤ length input) (read : header-bytes ≤ k) where
+      header-read : header-bytes ≤ length (take k input)
+      header-read = rw length-take (omega arith)
 
-    module _ (inside : outside (task-length input) ≡ false) where
-      wants-start : length (take k input) < plan-start input → wanted (take k input) ≡ plan-start input
-      wants-start s = wanted-start (take k input) (task-length input) (word-read k length-at read header) inside (rw length-take (omega arith)) s
+      task-read : task-length input ≡ task-length (take k input)
+      task-read = word-read k length-at read header
 
-      module _ (there : plan-start input ≤ length input) (read-start : plan-start input ≤ k) where
-        wants-no-plan : most-steps < plan-length input → wanted (take k input) ≡ plan-start input
-        wants-no-plan l = wanted-long (take k input) (task-length input) (plan-length input) (word-read k length-at read header) inside (rw length-take (omega arith)) (word-read k (task-length input) read-start there) (rw length-take (omega arith)) l
+      needs-no-more : outside (task-length input) ≡ true → needed (take k input) ≡ header-bytes
+      needs-no-more e = reads-outside further beyond (take k input) header-read (task-length input) task-read e
 
-        wants-end : plan-length input ≤ most-steps → wanted (take k input) ≡ plan-end input + 1
-        wants-end few = wanted-end (take k input) (task-length input) (plan-length input) (word-read k length-at read header) inside (rw length-take (omega arith)) (word-read k (task-length input) read-start there) (rw length-take (omega arith)) few
+      module _ (inside : outside (task-length input) ≡ false) where
+        needs-start : length (take k input) < plan-start input → needed (take k input) ≡ plan-start input
+        needs-start s = reads-start further beyond (take k input) header-read (task-length input) task-read inside s
 
--- after three stages no more is wanted than was in the third
-pub three-stages : (input : List ℕ) → wanted (read-after 3 input) ≤ wanted (read-after 2 input)
-unfolding read-after
-three-stages input = by-reach (reach input)
-  where
-    first : ℕ
-    first = wanted []
+        module _ (there : plan-start input ≤ length input) (read-start : plan-start input ≤ k) where
+          start-read : plan-start input ≤ length (take k input)
+          start-read = rw length-take (omega arith)
 
-    second : ℕ
-    second = wanted (take first input)
+          needs-no-plan : most-steps < plan-length input → needed (take k input) ≡ plan-start input
+          needs-no-plan l = reads-long further beyond (take k input) header-read (task-length input) task-read inside start-read (plan-length input) (word-read k (task-length input) read-start there) l
 
-    third : ℕ
-    third = wanted (take second input)
+          needs-end : plan-length input ≤ most-steps → needed (take k input) ≡ record-end further input + beyond
+          needs-end few = reads-end further beyond (take k input) header-read (task-length input) task-read inside start-read (plan-length input) (word-read k (task-length input) read-start there) few
 
-    begins : first ≡ header-bytes
-    begins = wanted-header [] (lit< tt)
+  -- after three stages no more must be read than in the third
+  pub three-stages : (input : List ℕ) → needed (read-after 3 input) ≤ needed (read-after 2 input)
+  unfolding read-after
+  three-stages input = by-reach (reach input)
+    where
+      first : ℕ
+      first = needed []
 
-    by-reach : Reach input → wanted (take third input) ≤ third
-    by-reach (short s) = omega (arith, wants-header input second s, wants-header input third s)
-    by-reach (unfit header e) =
-        let after : second ≡ header-bytes = wants-no-more input first header (omega (arith, begins)) e in
-        let settles : third ≡ header-bytes = wants-no-more input second header (omega arith) e in
-        omega (arith, wants-no-more input third header (omega arith) e)
-    by-reach (cut header inside s) =
-        let (low, high) = inside-limits (task-length input) inside in
-        let part : (k : ℕ) → length (take k input) < plan-start input = λ k. rw length-take (omega arith) in
-        let after : second ≡ plan-start input = wants-start input first header (omega (arith, begins)) inside (part first) in
-        let settles : third ≡ plan-start input = wants-start input second header (omega arith) inside (part second) in
-        omega (arith, wants-start input third header (omega arith) inside (part third))
-    by-reach (long header inside there l) =
-        let (low, high) = inside-limits (task-length input) inside in
-        let part : length (take first input) < plan-start input = rw length-take (omega (arith, begins)) in
-        let after : second ≡ plan-start input = wants-start input first header (omega (arith, begins)) inside part in
-        let settles : third ≡ plan-start input = wants-no-plan input second header (omega arith) inside there (omega arith) l in
-        omega (arith, wants-no-plan input third header (omega arith) inside there (omega arith) l)
-    by-reach (listed header inside there few) =
-        let (low, high) = inside-limits (task-length input) inside in
-        let part : length (take first input) < plan-start input = rw length-take (omega (arith, begins)) in
-        let after : second ≡ plan-start input = wants-start input first header (omega (arith, begins)) inside part in
-        let settles : third ≡ plan-end input + 1 = wants-end input second header (omega arith) inside there (omega arith) few in
-        omega (arith, wants-end input third header (omega arith) inside there (omega arith) few)
+      second : ℕ
+      second = needed (take first input)
+
+      third : ℕ
+      third = needed (take second input)
+
+      begins : first ≡ header-bytes
+      begins = reads-header further beyond [] (lit< tt)
+
+      by-reach : Reach input → needed (take third input) ≤ third
+      by-reach (short s) = omega (arith, needs-header input second s, needs-header input third s)
+      by-reach (unfit header e) =
+          let after : second ≡ header-bytes = needs-no-more input first header (omega (arith, begins)) e in
+          let settles : third ≡ header-bytes = needs-no-more input second header (omega arith) e in
+          omega (arith, needs-no-more input third header (omega arith) e)
+      by-reach (cut header inside s) =
+          let (low, high) = inside-limits (task-length input) inside in
+          let part : (k : ℕ) → length (take k input) < plan-start input = λ k. rw length-take (omega arith) in
+          let after : second ≡ plan-start input = needs-start input first header (omega (arith, begins)) inside (part first) in
+          let settles : third ≡ plan-start input = needs-start input second header (omega arith) inside (part second) in
+          omega (arith, needs-start input third header (omega arith) inside (part third))
+      by-reach (long header inside there l) =
+          let (low, high) = inside-limits (task-length input) inside in
+          let part : length (take first input) < plan-start input = rw length-take (omega (arith, begins)) in
+          let after : second ≡ plan-start input = needs-start input first header (omega (arith, begins)) inside part in
+          let settles : third ≡ plan-start input = needs-no-plan input second header (omega arith) inside there (omega arith) l in
+          omega (arith, needs-no-plan input third header (omega arith) inside there (omega arith) l)
+      by-reach (listed header inside there few) =
+          let (low, high) = inside-limits (task-length input) inside in
+          let part : length (take first input) < plan-start input = rw length-take (omega (arith, begins)) in
+          let after : second ≡ plan-start input = needs-start input first header (omega (arith, begins)) inside part in
+          let settles : third ≡ record-end further input + beyond = needs-end input second header (omega arith) inside there (omega arith) few in
+          omega (arith, needs-end input third header (omega arith) inside there (omega arith) few)
+
+  -- so, of every input, what is read in three stages tells the form of the record at its front
+  pub form-in-stages : (input : List ℕ) → record-form further (read-after 3 input) ≡ record-form further input
+  unfolding read-after
+  form-in-stages input = enough (record-form further) settled (needed (read-after 2 input)) input (three-stages input)

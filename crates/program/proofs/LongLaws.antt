@@ -3,7 +3,7 @@
 use Prim.Native.Nat.{ℕ, _<_}
 use mathlib.Core.Path.{_≡_, refl, sym, _∙_, ap}
 use mathlib.Core.Option.{Option, none, some}
-use mathlib.Core.List.{List}
+use mathlib.Core.List.{List, []}
 use lib.ListN.{length}
 use borrow.Author.Tests.{lt-ltb}
 use Rattle.refusal.specs.declared.Refusal.{Refusal}
@@ -16,7 +16,7 @@ use Rattle.refusal.proofs.CheckLaws.{answer-fires}
 use Rattle.sheet.specs.Causes.{sheet-checks}
 use Rattle.plan.specs.Limits.{most-steps}
 use Rattle.plan.specs.Checked.{list-checks, plan-checks}
-use Rattle.plan.proofs.PlanLaws.{sheet-answers, list-answers}
+use Rattle.plan.proofs.PlanLaws.{sheet-answers, list-answers, read-answers}
 use Rattle.program.specs.Long.{long-refusal}
 
 module _ (w : List ℕ) where
@@ -41,5 +41,5 @@ module _ (w : List ℕ) where
   as-checked l long = by-case (answer (sheet-checks w)) refl
     where
       by-case : (o : Option Told) → answer (sheet-checks w) ≡ o → answer (plan-checks w l) ≡ some (long-refusal w)
-      by-case (some t) e = rw (long-sheet t e) (sheet-answers w l e)
-      by-case none e = rw (long-plan e) (list-answers w l e (answer-fires _ _ most-steps (rw (lt-ltb most-steps (length l) long))))
+      by-case (some t) e = rw (long-sheet t e) (read-answers [] w l (sheet-answers most-steps w l e))
+      by-case none e = rw (long-plan e) (read-answers [] w l (list-answers most-steps w l e ∙ answer-fires _ _ most-steps (rw (lt-ltb most-steps (length l) long))))

@@ -1,10 +1,11 @@
--- The form in which a program reads a task and a plan (document 01, "Worked lists", on the program): little-endian words, the task, as many as its word 3
--- says, a length, and the plan (document 01: list), of that length. Assumes nothing.
+-- The form in which a program reads a task and a plan (document 01, "Worked lists", on the program; its sheet and its
+-- list): a record of little-endian words, the task, as many as its word 3 says, a length, the plan, of that length, and
+-- so many further words as a program asks for, which document 01's does not. Assumes nothing.
 use Prim.Native.Nat.{ℕ, _+_, _*_}
 use mathlib.Core.Bool.{Bool, cond, _||_}
 use mathlib.Core.List.{List, [], _∷_}
 use lib.ListN.{length, take, drop}
-use lib.Dec.{ltb, eqb}
+use lib.Dec.{ltb}
 use Rattle.sheet.specs.Limits.{limits}
 use Rattle.sheet.specs.Decode.{table}
 use Rattle.plan.specs.Limits.{most-steps}
@@ -31,9 +32,12 @@ word-at bytes i = little-endian (take word-bytes (drop (word-bytes * i) bytes))
 abbrev pub unpacked : List ℕ → ℕ → List ℕ
 unpacked bytes n = table (word-at bytes) 0 n
 
--- the m words that follow a task of n words and the length: a plan of m words
+-- behind a task of n words and the length: the plan, of m words; and behind that, the k further words
 abbrev pub plan-words : List ℕ → ℕ → ℕ → List ℕ
 plan-words bytes n m = table (word-at bytes) (n + 1) m
+
+abbrev pub further-words : List ℕ → ℕ → ℕ → ℕ → List ℕ
+further-words bytes n m k = table (word-at bytes) (n + 1 + m) k
 
 -- the word of the task that says how many words it has, and the fewest words that it may have
 abbrev pub length-at : ℕ
@@ -54,36 +58,49 @@ outside n = ltb n fewest-words || ltb (limits .words) n
 abbrev pub plan-length : List ℕ → ℕ
 plan-length bytes = word-at bytes (task-length bytes)
 
--- the byte at which the plan begins, after the task and the length, and the byte at which it ends
+-- the byte at which the plan begins, after the task and the length; and the byte behind the record
 abbrev pub plan-start : List ℕ → ℕ
 plan-start bytes = word-bytes * (task-length bytes + 1)
 
-abbrev pub plan-end : List ℕ → ℕ
-plan-end bytes = plan-start bytes + word-bytes * plan-length bytes
+abbrev pub record-end : ℕ → List ℕ → ℕ
+record-end further bytes = plan-start bytes + word-bytes * (plan-length bytes + further)
 
--- the form of the input: broken where word 3 is outside its limits or the input breaks off before the plan; else long where the plan has too many words, after whose length
--- nothing counts; else whole where the input ends with the plan, and broken where it breaks off in the plan or runs on after it
-unfoldable pub form : List ℕ → Frame
-form bytes =
+-- the form of the record at the front of bytes, whatever follows it. Document 01: "A word 3 outside 4 to 8,192, or
+-- input that breaks off": broken, before the plan or in what follows it; "After a length above 255 nothing more is
+-- read": long; else whole, with its words and its end
+unfoldable pub record-form : ℕ → List ℕ → Frame
+record-form further bytes =
     cond (outside (task-length bytes) || ltb (length bytes) (plan-start bytes)) Broken
     (cond (ltb most-steps (plan-length bytes)) (Long (task-length bytes))
-    (cond (eqb (length bytes) (plan-end bytes)) (Whole (task-length bytes) (plan-length bytes)) Broken))
+    (cond (ltb (length bytes) (record-end further bytes)) Broken
+    (Whole (task-length bytes) (plan-length bytes) (record-end further bytes))))
+
+-- a record's form where nothing may follow it (document 01: "or runs on"): broken where something does
+abbrev pub as-input : List ℕ → Frame → Frame
+as-input bytes Broken = Broken
+as-input bytes (Long n) = Long n
+as-input bytes (Whole n m end) = cond (ltb end (length bytes)) Broken (Whole n m end)
+
+-- the form of an input of one record
+unfoldable pub input-form : ℕ → List ℕ → Frame
+input-form further bytes = as-input bytes (record-form further bytes)
 
 -- the bytes to word 3, the last of the words that every task has
 abbrev pub header-bytes : ℕ
 header-bytes = word-bytes * fewest-words
 
--- how many bytes in all must have been read to tell the form, as far as those read so far show: those to word 3; then those to the length of the plan; then, unless it is
--- too long, the plan and one byte more, to see that nothing follows
-unfoldable pub wanted : List ℕ → ℕ
-wanted bytes =
+-- how many bytes in all must have been read to tell the form, as far as those read so far show: those to word 3; then
+-- those to the length of the plan; then, unless it is too long, the record, and so many bytes beyond it: one for an
+-- input of one record, to see that nothing follows, and none where other records may
+unfoldable pub bytes-to-read : ℕ → ℕ → List ℕ → ℕ
+bytes-to-read further beyond bytes =
     cond (ltb (length bytes) header-bytes || outside (task-length bytes)) header-bytes
     (cond (ltb (length bytes) (plan-start bytes) || ltb most-steps (plan-length bytes)) (plan-start bytes)
-    (plan-end bytes + 1))
+    (record-end further bytes + beyond))
 
--- the most words of input that is whole, and the most bytes that are ever wanted
+-- the most words of a record before its further ones, and the most bytes that are ever read
 abbrev pub most-words : ℕ
 most-words = limits .words + 1 + most-steps
 
-abbrev pub most-bytes : ℕ
-most-bytes = word-bytes * most-words + 1
+abbrev pub most-bytes : ℕ → ℕ → ℕ
+most-bytes further beyond = word-bytes * (most-words + further) + beyond

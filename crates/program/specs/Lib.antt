@@ -1,5 +1,7 @@
--- Form: little-endian words, the form of input, and how much of it must be read to tell. Long: the refusal of a plan that is too long to be read.
--- Due: what a program answers to its input.
+-- Form: little-endian words, the form of a record and of an input, and how much must be read to tell.
+-- Long: the refusal of a plan that is too long to be read.
+-- Opening: what a program finds of its input. Reply: what it answers to it.
 pub mod Form
 pub mod Long
-pub mod Due
+pub mod Opening
+pub mod Reply

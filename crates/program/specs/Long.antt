@@ -1,4 +1,5 @@
--- The refusal of a plan that is too long to be read (document 01: "the sheet's checks follow, then refusal 8"). Assumes nothing.
+-- The refusal of a plan that is too long to be read (document 01: "the sheet's checks follow, then refusal 8").
+-- Assumes nothing.
 use Prim.Native.Nat.{ℕ}
 use mathlib.Core.Option.{none, some}
 use mathlib.Core.List.{List}

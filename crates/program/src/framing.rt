@@ -1,25 +1,30 @@
-// Which form input has, and how much of it must have been read to tell.
+// Which form a record at the front of bytes has, and how much must have been read to tell. `further` is how many
+// words stand behind its plan: none in document 01's program.
 use crate::frame::Frame;
 use crate::word::WORD;
-use crate::word::word;
+use crate::word::word_at;
 use plan::limits::Plan;
 use sheet::layout::LENGTH_AT;
 use sheet::layout::PAIRS_AT;
 use sheet::limits::Sheet;
 ghost use mathlib.Core.Path.{_≡_};
 ghost use Prim.Native.Nat.{_<_, _≤_, _^_};
-ghost use Rattle.program.specs.Form.{outside as outside-limits, task-length, form, wanted as wanted-of, most-bytes};
+ghost use Rattle.program.specs.Form.{outside as outside-limits, task-length, record-form, input-form};
+ghost use Rattle.program.specs.Form.{bytes-to-read, most-bytes};
 
-// The most words of input that is whole, and the most bytes that are ever wanted: one more than those words have.
+// How many bytes beyond a record are read where nothing may follow it, to see that nothing does.
+pub const ALONE: u32 = 1;
+
+// The most words of a record with none behind its plan, and the most bytes that are read of an input of one.
 pub const WORDS: usize = Sheet::WORDS + 1 + Plan::STEPS;
 
-pub const BYTES: usize = WORD * WORDS + 1;
+pub const BYTES: usize = WORD * WORDS + ALONE as usize;
 
 // How many words the task has, by its own account.
 fn task_length(bytes: &[u8]) -> usize
     ensures { λ r. ⌜ (r ≡ task-length (now (bytes .entry))) × (r < 2 ^ 32) ⌝ }
 {
-    word(bytes, LENGTH_AT) as usize
+    word_at(bytes, LENGTH_AT) as usize
 }
 
 // Whether a task may not have so many words.
@@ -35,9 +40,9 @@ fn outside(words: usize) -> bool
     false
 }
 
-// The form of the whole input.
-pub fn frame(bytes: &[u8]) -> Frame
-    ensures { λ r. ⌜ r ≡ form (now (bytes .entry)) ⌝ }
+// The form of the record at the front of the bytes, whatever follows it.
+pub fn frame_record(bytes: &[u8], further: u32) -> Frame
+    ensures { λ r. ⌜ r ≡ record-form further (now (bytes .entry)) ⌝ }
 {
     let task = task_length(bytes);
     if outside(task) {
@@ -47,19 +52,39 @@ pub fn frame(bytes: &[u8]) -> Frame
     if bytes.len() < start {
         return Frame::Broken;
     }
-    let plan = word(bytes, task) as usize;
+    let plan = word_at(bytes, task) as usize;
     if Plan::STEPS < plan {
         return Frame::Long { task };
     }
-    if bytes.len() == start + WORD * plan {
-        return Frame::Whole { task, plan };
+    let end = start + WORD * (plan + further as usize);
+    if bytes.len() < end {
+        return Frame::Broken;
     }
-    Frame::Broken
+    Frame::Whole { task, plan, end }
 }
 
-// How many bytes in all must have been read before the form can be told, as far as those read so far show.
-pub fn wanted(bytes: &[u8]) -> usize
-    ensures { λ r. ⌜ (r ≡ wanted-of (now (bytes .entry))) × (r ≤ most-bytes) ⌝ }
+// The form of an input of one record, behind which nothing may follow.
+pub fn frame_input(bytes: &[u8], further: u32) -> Frame
+    ensures { λ r. ⌜ r ≡ input-form further (now (bytes .entry)) ⌝ }
+{
+    let framed = frame_record(bytes, further);
+    match framed {
+        Frame::Broken => Frame::Broken,
+        Frame::Long { task } => Frame::Long { task },
+        Frame::Whole { task, plan, end } => {
+            if end < bytes.len() {
+                Frame::Broken
+            } else {
+                Frame::Whole { task, plan, end }
+            }
+        }
+    }
+}
+
+// How many bytes in all must have been read before the form can be told, as far as those read so far show, with
+// `beyond` bytes behind the record.
+pub(crate) fn bytes_to_read(bytes: &[u8], further: u32, beyond: u32) -> usize
+    ensures { λ r. ⌜ (r ≡ bytes-to-read further beyond (now (bytes .entry))) × (r ≤ most-bytes further beyond) ⌝ }
 {
     let header = WORD * PAIRS_AT;
     if bytes.len() < header {
@@ -73,9 +98,9 @@ pub fn wanted(bytes: &[u8]) -> usize
     if bytes.len() < start {
         return start;
     }
-    let plan = word(bytes, task) as usize;
+    let plan = word_at(bytes, task) as usize;
     if Plan::STEPS < plan {
         return start;
     }
-    start + WORD * plan + 1
+    start + WORD * (plan + further as usize) + beyond as usize
 }

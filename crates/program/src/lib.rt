@@ -1,10 +1,13 @@
 // The form in which the programs read a task and a plan (document 01, "Worked lists", on the program).
-// word: little-endian words among bytes. frame: the forms that input has. framing: which form it has, and how much must be read to tell.
-// unpack: bytes as words. parts: the plan among them. long: the refusal of a plan that is too long to be read. input: the reading. output: the lines that are printed.
+// word: little-endian words among bytes. frame: the forms that a record of a task and a plan has. framing: which form
+// it has, and how much must be read to tell. input: the reading. unpack: bytes as words. parts: the plan and what is
+// behind it among them. long: the refusal of a plan that is too long to be read. opened: what a program finds of its
+// input, by all these. output: the lines that are printed.
 pub mod frame;
 pub mod framing;
 pub mod input;
-pub mod long;
+mod long;
+pub mod opened;
 pub mod output;
 pub mod parts;
 pub mod unpack;

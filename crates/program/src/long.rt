@@ -8,7 +8,7 @@ ghost use Rattle.refusal.specs.Refusal.{told-refusal};
 ghost use Rattle.program.specs.Long.{long-refusal};
 
 // The task's own checks go first, so that a faulty task is refused as in any other service.
-pub fn refuse_long(words: &[u32]) -> Refusal
+pub(crate) fn refuse_long(words: &[u32]) -> Refusal
     ensures { λ r. ⌜ told-refusal r ≡ long-refusal (now (words .entry)) ⌝ }
 {
     let sheet = check_sheet(words);

@@ -1,4 +1,5 @@
-// The lines that a program prints: a line is texts and numbers, one space before each number that does not begin it, and a line end.
+// The lines that a program prints: a line is texts and numbers, one space before each number that does not begin it,
+// and a line end.
 use libc::STDOUT_FILENO;
 use refusal::Refusal;
 

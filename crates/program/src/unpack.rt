@@ -1,5 +1,5 @@
 // Bytes as words.
-use crate::word::word;
+use crate::word::word_at;
 ghost use mathlib.Core.Path.{_≡_};
 ghost use lib.ListN.{length};
 ghost use Rattle.program.specs.Form.{unpacked};
@@ -10,7 +10,7 @@ pub fn unpack(bytes: &[u8], words: &mut [u32])
 {
     let mut i = 0;
     while i < words.len() {
-        words[i] = word(bytes, i);
+        words[i] = word_at(bytes, i);
         i += 1;
     }
 }

@@ -13,7 +13,7 @@ use Rattle.sas.specs.Task.{Assignment, State, Action}
 use Rattle.sas.specs.Plan.{cost}
 use Rattle.reduction.specs.Reduction.{Reduction, kept, count, whole, valid, Valid-reduction}
 use Rattle.reduction.specs.Elimination.{trial, eliminated, eliminate, best, rounds, greedy}
-use Rattle.reduction.proofs.ReductionLaws.{kept-whole, kept-length, count-whole, left-length, left-cost}
+use Rattle.reduction.proofs.ReductionLaws.{whole-valid, kept-length, count-whole, left-length, left-cost}
 use Rattle.reduction.proofs.GreedyChoice.{best-none, best-chosen}
 use Rattle.reduction.proofs.TrialLaws.{Succeeds, trial-succeeds, unkept-fails, success-length, success-valid, success-count}
 
@@ -23,12 +23,9 @@ success-reduction : {s : State} {goal : Assignment} {p : List Action} {m n : Red
 success-reduction fits t = record { fits = success-length t ∙ fits; valid-left = success-valid t }
 
 module _ (s : State) (goal : Assignment) (p : List Action) where
-  whole-valid : valid s goal p ≡ true → Valid-reduction s goal p (whole p)
-  whole-valid v = record { fits = length-replicate (length p) true; valid-left = rw kept-whole v }
-
   eliminated-valid : valid s goal p ≡ true → (n : ℕ) → Valid-reduction s goal p (eliminated s goal p n)
   unfolding eliminated
-  eliminated-valid v zero = whole-valid v
+  eliminated-valid v zero = whole-valid p v
   eliminated-valid v (suc n) = by-case (eliminated-valid v n) (trial s goal p (eliminated s goal p n) n) refl
     where
       by-case : Valid-reduction s goal p (eliminated s goal p n) → (r : Option Reduction) → trial s goal p (eliminated s goal p n) n ≡ r
@@ -92,7 +89,7 @@ module _ (s : State) (goal : Assignment) (p : List Action) where
 
   pub greedy-shortens : valid s goal p ≡ true → Shortens s goal p (greedy s goal p)
   unfolding greedy
-  greedy-shortens v = valid-shortens (rounds-valid s goal p (length p) (whole p) (whole-valid s goal p v))
+  greedy-shortens v = valid-shortens (rounds-valid s goal p (length p) (whole p) (whole-valid p v))
 
   -- greedy elimination ends: no trial succeeds on what it leaves
   pub greedy-ends : (i : ℕ) → trial s goal p (greedy s goal p) i ≡ none

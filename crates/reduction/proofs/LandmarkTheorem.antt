@@ -6,19 +6,20 @@ use native.Mathlib.Omega.{arith}
 use mathlib.Core.Path.{_≡_, refl, ap}
 use mathlib.Core.Logic.{_↔_, _≢_}
 use mathlib.Core.Bool.{Bool, true, false, false≢true, not, _&&_}
-use mathlib.Core.List.{List, [], _∷_, List·Memᴰ·not-nil}
+use mathlib.Core.List.{List, [], _∷_}
 use lib.ListN.{length}
 use Rattle.sas.specs.Task.{Fact, Assignment, State, Action}
-use Rattle.sas.specs.Plan.{holds}
-use Rattle.sas.proofs.ActionLaws.{may-write}
+use Rattle.sas.specs.Plan.{holds, written, may-write}
+use Rattle.sas.proofs.ActionLaws.{idle-writes-nothing}
 use Rattle.reduction.specs.Reduction.{Reduction, keeps, Valid-reduction}
 use Rattle.reduction.specs.Landmark.{step, Sole-writer, Marked}
 use Rattle.reduction.specs.Landmark.Marked.{for-goal, for-step}
-use Rattle.reduction.specs.Wanted.{has, wanted, landmarks-behind, landmarks}
+use Rattle.reduction.specs.Wanted.{has, wanted}
 use Rattle.reduction.proofs.MemberLaws.{or-neither, found, has-no-member, no-member-has}
 use Rattle.reduction.proofs.WantedLaws.{Unwritten, Wanted-by, wanted-why, why-wanted}
 use Rattle.reduction.proofs.WantedLaws.Wanted-by.{by-goal, by-step}
-use Rattle.reduction.proofs.LandmarksKept.{passed, flags-behind, flagged-fact, flags-kept}
+use Rattle.reduction.proofs.LandmarksKept.{passed, flags-behind, flagged-fact, landmarks-kept}
+use Rattle.reduction.specs.Landmarks.{landmarks-behind, landmarks}
 
 module _ {f : Fact} {n : ℕ} (a : Action) (p : List Action) where
   -- the first step writes f, and none behind it does
@@ -50,14 +51,14 @@ module _ {f : Fact} {n : ℕ} (a : Action) (p : List Action) where
 module _ (held : Fact → Bool) (goal : Assignment) (a : Action) (p : List Action) where
   marked-later : {i : ℕ} → Marked (passed held a) goal p i → Marked held goal (a ∷ p) (suc i)
   marked-later (for-goal {f = f} unheld sole g) =
-      let (before, unwritten) = or-neither (held f) (has (a .effect) f) unheld in
-      for-goal before (sole-later a p (has-no-member (a .effect) f unwritten) sole) g
+      let (before, unwritten) = or-neither (held f) (has (written a) f) unheld in
+      for-goal before (sole-later a p (has-no-member (written a) f unwritten) sole) g
   marked-later (for-step {f = f} unheld sole need m) =
-      let (before, unwritten) = or-neither (held f) (has (a .effect) f) unheld in
-      for-step before (sole-later a p (has-no-member (a .effect) f unwritten) sole) need (marked-later m)
+      let (before, unwritten) = or-neither (held f) (has (written a) f) unheld in
+      for-step before (sole-later a p (has-no-member (written a) f unwritten) sole) need (marked-later m)
 
   not-passed : (f : Fact) → held f ≡ false → (may-write a f → ⊥) → passed held a f ≡ false
-  not-passed f unheld first = rw (unheld, no-member-has (a .effect) f first)
+  not-passed f unheld first = rw (unheld, no-member-has (written a) f first)
 
   marked-sooner : {i : ℕ} → Marked held goal (a ∷ p) (suc i) → Marked (passed held a) goal p i
   marked-sooner (for-goal {f = f} unheld sole g) = for-goal (not-passed f unheld (first-unwritten a p sole)) (sole-sooner a p sole) g
@@ -93,8 +94,8 @@ module _ (held : Fact → Bool) (goal : Assignment) (a : Action) (p : List Actio
       by-reason f w unheld (by-step j flagged need u) = for-step unheld (sole-first a p w u) need (marked-later (rest j flagged))
 
 unmarked : {held : Fact → Bool} {goal : Assignment} {i : ℕ} → Marked held goal [] i → ⊥
-unmarked (for-goal unheld sole g) = List·Memᴰ·not-nil (sole .writes)
-unmarked (for-step unheld sole need m) = List·Memᴰ·not-nil (sole .writes)
+unmarked (for-goal unheld sole g) = idle-writes-nothing (sole .writes)
+unmarked (for-step unheld sole need m) = idle-writes-nothing (sole .writes)
 
 marked-flagged : (held : Fact → Bool) (goal : Assignment) (p : List Action) (i : ℕ) → Marked held goal p i → keeps (landmarks-behind held goal p) i
 unfolding landmarks-behind
@@ -124,5 +125,6 @@ unfolding landmarks
 flagged-just-marked s goal p i = (flagged-marked (holds s) goal p i, marked-flagged (holds s) goal p i)
 
 -- every valid reduction keeps every marked step
-pub landmark-kept : {s : State} {goal : Assignment} {p : List Action} {m : Reduction} {i : ℕ} → Valid-reduction s goal p m → Marked (holds s) goal p i → keeps m i
-landmark-kept {s} {goal} {p} {m} {i} v marked = flags-kept s goal p m (v .fits) (v .valid-left) i (flagged-just-marked s goal p i .1 marked)
+pub landmark-kept : {s : State} {goal : Assignment} {p : List Action} {m : Reduction} {i : ℕ}
+    → Valid-reduction s goal p m → Marked (holds s) goal p i → keeps m i
+landmark-kept {s} {goal} {p} {m} {i} v marked = landmarks-kept s goal p m v i (flagged-just-marked s goal p i .1 marked)

@@ -9,17 +9,19 @@ use mathlib.Core.List.{List, [], _∷_}
 use lib.ListN.{length}
 use borrow.Author.Tests.{not-true}
 use Rattle.sas.specs.Task.{Fact, Assignment, State, Action}
-use Rattle.sas.specs.Plan.{holds, result}
-use Rattle.sas.proofs.ActionLaws.{may-write, stays-false}
-use Rattle.reduction.specs.Reduction.{Reduction, keeps, kept, valid, Contains}
-use Rattle.reduction.specs.Wanted.{has, wanted, landmarks-behind, landmarks}
+use Rattle.sas.specs.Plan.{holds, result, written, may-write}
+use Rattle.sas.proofs.ActionLaws.{stays-false}
+use Rattle.reduction.specs.Reduction.{Reduction, keeps, kept, meets, valid, Contains}
+use Rattle.reduction.specs.Wanted.{has, wanted}
+use Rattle.reduction.specs.Sound.{Flags-kept}
 use Rattle.reduction.proofs.ValidLaws.{valid-first}
 use Rattle.reduction.proofs.MemberLaws.{or-neither, found-passes, has-no-member}
 use Rattle.reduction.proofs.WantedLaws.{wanted-holds}
+use Rattle.reduction.specs.Landmarks.{landmarks-behind, landmarks}
 
 -- the facts held at the start or written by a step passed, when one step more is passed
 abbrev pub passed : (Fact → Bool) → Action → Fact → Bool
-passed held a f = held f || has (a .effect) f
+passed held a f = held f || has (written a) f
 
 -- the flags of the steps behind the first
 abbrev pub flags-behind : (Fact → Bool) → Assignment → Action → List Action → Reduction
@@ -30,7 +32,7 @@ pub flagged-fact : (held : Fact → Bool) (goal : Assignment) (a : Action) (p : 
     → (f : Fact) × may-write a f × (held f ≡ false) × (wanted goal p (flags-behind held goal a p) f ≡ true)
 unfolding landmarks-behind
 flagged-fact held goal a p k =
-    let (f, m, passes) = found-passes (λ f. not (held f) && wanted goal p (flags-behind held goal a p) f) (a .effect) k in
+    let (f, m, passes) = found-passes (λ f. not (held f) && wanted goal p (flags-behind held goal a p) f) (written a) k in
     let (unheld, behind) = and-eq-true-iff (not (held f)) (wanted goal p (flags-behind held goal a p) f) .0 passes in
     (f, m, not-true _ unheld, behind)
 
@@ -40,13 +42,13 @@ False-unless held s = (f : Fact) → held f ≡ false → holds s f ≡ false
 
 -- that stays so where a step is struck
 false-past : (held : Fact → Bool) (s : State) (a : Action) → False-unless held s → False-unless (passed held a) s
-false-past held s a unheld f e = unheld f (or-neither (held f) (has (a .effect) f) e .0)
+false-past held s a unheld f e = unheld f (or-neither (held f) (has (written a) f) e .0)
 
 -- and where it is done
 false-after : (held : Fact → Bool) (s t : State) (a : Action) → result s a ≡ some t → False-unless held s → False-unless (passed held a) t
 false-after held s t a done unheld f e =
-    let (before, unwritten) = or-neither (held f) (has (a .effect) f) e in
-    stays-false s a done f (has-no-member (a .effect) f unwritten) (unheld f before)
+    let (before, unwritten) = or-neither (held f) (has (written a) f) e in
+    stays-false s a done f (has-no-member (written a) f unwritten) (unheld f before)
 
 kept-behind : (held : Fact → Bool) (s : State) (goal : Assignment) (p : List Action) (r : Reduction) → False-unless held s → length r ≡ length p
     → valid s goal (kept r p) ≡ true → Contains r (landmarks-behind held goal p)
@@ -55,16 +57,15 @@ kept-behind held s goal [] r unheld fits v i k = absurd (false≢true k)
 kept-behind held s goal (a ∷ p) [] unheld fits v i k = absurd (omega arith)
 kept-behind held s goal (a ∷ p) (true ∷ r) unheld fits v zero k = refl
 kept-behind held s goal (a ∷ p) (true ∷ r) unheld fits v (suc i) k =
-    let (t, done, rest) = valid-first s goal a (kept r p) v in
+    let (t, done, rest) = valid-first (meets goal) s a (kept r p) v in
     kept-behind (passed held a) t goal p r (false-after held s t a done unheld) (omega arith) rest i k
 kept-behind held s goal (a ∷ p) (false ∷ r) unheld fits v zero k =
     let (f, written, not-held, behind) = flagged-fact held goal a p k in
     let rest : Contains r (flags-behind held goal a p) = kept-behind (passed held a) s goal p r (false-past held s a unheld) (omega arith) v in
-    absurd (true≢false (sym (wanted-holds s goal p r (flags-behind held goal a p) f (omega arith) v rest behind) ∙ unheld f not-held))
+    absurd (true≢false (sym (wanted-holds (meets goal) goal (λ t met. met) s p r (flags-behind held goal a p) f (omega arith) v rest behind) ∙ unheld f not-held))
 kept-behind held s goal (a ∷ p) (false ∷ r) unheld fits v (suc i) k = kept-behind (passed held a) s goal p r (false-past held s a unheld) (omega arith) v i k
 
 -- every valid reduction keeps every flagged step
-pub flags-kept : (s : State) (goal : Assignment) (p : List Action) (m : Reduction) → length m ≡ length p → valid s goal (kept m p) ≡ true
-    → Contains m (landmarks s goal p)
+pub landmarks-kept : (s : State) (goal : Assignment) (p : List Action) → Flags-kept (meets goal) s p (landmarks s goal p)
 unfolding landmarks
-flags-kept s goal p m = kept-behind (holds s) s goal p m (λ f unheld. unheld)
+landmarks-kept s goal p m v = kept-behind (holds s) s goal p m (λ f unheld. unheld) (v .fits) (v .valid-left)

@@ -20,17 +20,17 @@ pub mod GreedyChoice
 pub mod EliminationTheorem
 -- BeforeLaws: the state before an index of a valid reduction, step by step, and flags past the end of a plan.
 pub mod BeforeLaws
--- PaddedLaws: zeros at the end of a state change nothing for trials and eliminations.
-pub mod PaddedLaws
 -- WinsLaws: when one reduction of a plan wins against another.
 pub mod WinsLaws
 -- MinimalTheorem: every plan has just one minimal reduction, it is computed, and nothing more can be struck of what it leaves.
 pub mod MinimalTheorem
+-- UpdateLaws: the best reduction so far, updated with one found behind some decisions.
+pub mod UpdateLaws
 -- TurnLaws: what each turn of the search does, by its cases.
 pub mod TurnLaws
+-- CutLaws: the cuts of the search are sound, and two sound cuts are one.
+pub mod CutLaws
 -- SearchTheorem: the search returns the minimal reduction.
 pub mod SearchTheorem
--- MinimalPadded: zeros at the end of a state change nothing for the minimal reduction.
-pub mod MinimalPadded
 -- Starred: the worked lists of document 01 that carry a star.
 pub mod Starred

@@ -1,16 +1,17 @@
 -- What a reduction leaves, reductions of reductions, and that a strike raises neither the number of steps nor the cost. By one walk along the
 -- reductions; where a Boolean is missing its step counts as struck, so that few laws ask for the length. Assumes nothing.
-use Prim.Native.Nat.{ℕ, zero, suc, _≤_}
+use Prim.Native.Nat.{ℕ, zero, suc, _+_, _-_, _≤_, _<_}
 use native.Mathlib.Omega.{arith}
 use mathlib.Core.Path.{_≡_, refl, sym, _∙_, ap}
 use mathlib.Core.Bool.{Bool, true, false, false≢true}
-use mathlib.Core.List.{List, [], _∷_, List·Memᴰ, List·Memᴰ·head, List·Memᴰ·tail, List·Memᴰ·not-nil}
-use lib.ListN.{length, set, getD-replicate, List·getD-eq-default}
+use mathlib.Core.List.{List, [], _∷_, _++_, List·Memᴰ, List·Memᴰ·head, List·Memᴰ·tail, List·Memᴰ·not-nil}
+use lib.ListN.{length, getD, take, drop, set, length-replicate, getD-replicate, List·getD-eq-default}
+use lib.Seq.{take-append-seam, drop-append-seam, getD-take, getD-drop}
 use lib.Dec.{ltb}
 use borrow.Author.Tests.{ltb-true, ltb-false}
-use Rattle.sas.specs.Task.{Assignment, State, Action, Task}
+use Rattle.sas.specs.Task.{State, Action, Task}
 use Rattle.sas.specs.Plan.{cost, Plan}
-use Rattle.reduction.specs.Reduction.{Contains, Reduction, keeps, kept, count, whole, Valid-reduction}
+use Rattle.reduction.specs.Reduction.{Contains, Reduction, keeps, kept, count, whole, valid-for, Valid-for, Valid-reduction}
 use Rattle.reduction.proofs.ValidLaws.{valid-plan}
 
 pub kept-whole : {A : Type 0} (p : List A) → kept (whole p) p ≡ p
@@ -18,10 +19,27 @@ unfolding kept
 kept-whole [] = refl
 kept-whole (a ∷ p) = ap (λ q. a ∷ q) (kept-whole p)
 
+-- so what strikes nothing of a valid list is a valid reduction of it
+pub whole-valid : {ends : State → Bool} {s : State} (p : List Action) → valid-for ends s p ≡ true → Valid-for ends s p (whole p)
+whole-valid p v = record { fits = length-replicate (length p) true; valid-left = rw kept-whole v }
+
 pub kept-none : {A : Type 0} (p : List A) → kept [] p ≡ []
 unfolding kept
 kept-none [] = refl
 kept-none (a ∷ p) = refl
+
+-- what is left before an index, and from there on
+pub kept-split : {A : Type 0} (i : ℕ) (m : Reduction) (p : List A) → kept m p ≡ kept (take i m) (take i p) ++ kept (drop i m) (drop i p)
+unfolding kept
+kept-split zero m p = refl
+kept-split (suc i) m [] = refl
+kept-split (suc i) [] (a ∷ p) = sym (kept-none (drop i p))
+kept-split (suc i) (true ∷ m) (a ∷ p) = ap (λ q. a ∷ q) (kept-split i m p)
+kept-split (suc i) (false ∷ m) (a ∷ p) = kept-split i m p
+
+-- so behind the decisions d about the first steps
+pub kept-behind : {A : Type 0} (d m : Reduction) (p : List A) → kept (d ++ m) p ≡ kept d (take (length d) p) ++ kept m (drop (length d) p)
+kept-behind d m p = rw (take-append-seam d m, drop-append-seam d m) at (kept-split (length d) (d ++ m) p)
 
 -- what is left was lodged
 pub kept-lodged : {A : Type 0} {a : A} (m : Reduction) (p : List A) → List·Memᴰ a (kept m p) → List·Memᴰ a p
@@ -60,8 +78,8 @@ kept-compose (true ∷ r) (true ∷ m) (a ∷ p) = ap (λ q. a ∷ q) (kept-comp
 kept-compose (true ∷ r) (false ∷ m) (a ∷ p) = kept-compose r m p
 
 -- a valid reduction of what a reduction leaves makes a valid reduction of the lodged list
-pub compose-valid : {s : State} {goal : Assignment} (p : List Action) (r m : Reduction) → length r ≡ length p → Valid-reduction s goal (kept r p) m
-    → Valid-reduction s goal p (compose r m)
+pub compose-valid : {ends : State → Bool} {s : State} (p : List Action) (r m : Reduction) → length r ≡ length p → Valid-for ends s (kept r p) m
+    → Valid-for ends s p (compose r m)
 compose-valid p r m fits v = record { fits = compose-length r m ∙ fits; valid-left = rw kept-compose (v .valid-left) }
 
 pub count-whole : {A : Type 0} (p : List A) → count (whole p) ≡ length p
@@ -125,3 +143,12 @@ left-length m p fits = omega (arith, kept-length m p fits, strike-count (whole p
 -- and none costs more
 pub left-cost : (m : Reduction) (p : List Action) → length m ≡ length p → cost (kept m p) ≤ cost p
 left-cost m p fits = rw kept-whole at (strike-cost (whole p) m p (contains-whole m p fits))
+
+-- what two reductions have alike before an index, and from it on
+pub alike-before : (m n : Reduction) (i k : ℕ) → take i m ≡ take i n → k < i → getD m k false ≡ getD n k false
+alike-before m n i k same h = sym (getD-take i m k false h) ∙ ap (λ r. getD r k false) same ∙ getD-take i n k false h
+
+pub alike-behind : (m n : Reduction) (i k : ℕ) → drop i m ≡ drop i n → i ≤ k → getD m k false ≡ getD n k false
+alike-behind m n i k same h =
+    let here : i + (k - i) ≡ k = omega arith in
+    rw here at (sym (getD-drop i m (k - i) false) ∙ ap (λ r. getD r (k - i) false) same ∙ getD-drop i n (k - i) false)

@@ -1,238 +1,226 @@
--- The search returns what `exact` computes, and so the exact reduction of a plan, whatever sound flags it is given. By list induction on the rest of the plan:
--- both turns leave the lower of the best and what is found of the rest, since a cut leaves out only what is not valid or not lower. Assumes nothing.
-use Prim.Native.Nat.{ℕ, suc, _+_}
+-- The search returns what `minimal` computes, and so the minimal reduction of a list that is valid, whatever sound tests it is told. By induction on the
+-- steps left: both turns update the best with what is found of the rest, since a cut leaves out only what has no chance. Assumes nothing.
+use Prim.Native.Nat.{ℕ, zero, suc, _+_, _<_}
+use native.Mathlib.Numerals.{add-one}
 use native.Mathlib.Omega.{arith}
 use mathlib.Core.Path.{_≡_, refl, sym, _∙_, ap}
-use mathlib.Core.Logic.{inl, inr}
-use mathlib.Core.Bool.{Bool, true, false, cond, not, _&&_, true≢false, false≢true, and-eq-true-iff}
+use mathlib.Core.Bool.{Bool, true, false, cond, true≢false, false≢true}
 use mathlib.Core.Option.{Option, none, some, Option·map, Option·getD}
-use mathlib.Core.List.{List, [], _∷_, _++_}
-use lib.ListN.{length, set, length-append}
-use lib.Seq.{append-snoc, set-at}
-use borrow.Author.Tests.{not-true, not-false}
-use Rattle.sas.specs.Task.{Assignment, State, Action}
-use Rattle.sas.specs.Plan.{holds, satisfies, applicable, apply, cost}
-use Rattle.reduction.specs.Reduction.{Reduction, kept, whole, valid, lower, Valid-reduction, Contains}
+use mathlib.Core.List.{List, [], _∷_, _++_, append-nil}
+use lib.ListN.{length, getD, set, take, drop, length-set, drop-of-length-le}
+use lib.Seq.{length-take-le, take-all, take-suc, take-suc-set, drop-cons, drop-drop, drop-set-lt, split-at, take-at, getD-at}
+use Rattle.sas.specs.Task.{State, Action, idle}
+use Rattle.sas.specs.Plan.{applicable, apply}
+use Rattle.reduction.specs.Reduction.{Reduction, kept, whole, lower, valid-for, Valid-for}
+use Rattle.reduction.specs.Landmark.{step}
 use Rattle.reduction.specs.Elimination.{better}
-use Rattle.reduction.specs.Wanted.{wanted, landmarks}
-use Rattle.reduction.proofs.MemberLaws.{found-passes}
-use Rattle.reduction.proofs.ReductionLaws.{kept-length, kept-whole, strike-cost, strike-count}
-use Rattle.reduction.proofs.LowerLaws.{Lower, lower-true, true-lower, lower-through, lower-once}
-use Rattle.reduction.proofs.WantedLaws.{wanted-holds}
-use Rattle.reduction.proofs.LandmarksKept.{flags-kept}
 use Rattle.reduction.specs.Minimal.{Minimal, found, minimal}
-use Rattle.reduction.specs.Search.{Sound, may-strike, turn, search}
+use Rattle.reduction.specs.Search.{Visit, Tests, struck, done, handed, turn, first-visit, search}
 use Rattle.reduction.specs.Search.Turn.{strike, keep}
-use Rattle.reduction.proofs.TurnLaws.{turns, search-turns, strike-met, strike-unmet, strike-not-lower, strike-barred, strike-goes-on}
-use Rattle.reduction.proofs.TurnLaws.{keep-end, keep-stuck, keep-not-lower, keep-goes-on}
-use Rattle.reduction.proofs.WinsLaws.{not-lower, not-lower-through, lowest-whole}
-use Rattle.reduction.proofs.MinimalTheorem.{struck-valid, kept-valid, found-met, found-unmet, found-done, found-stuck, found-minimal, minimal-found}
+use Rattle.reduction.specs.Sound.{Visited, Hopeless, Sound}
+use Rattle.reduction.proofs.ReductionLaws.{kept-whole, alike-behind}
+use Rattle.reduction.proofs.WinsLaws.{lowest-whole, wins-not-lower, wins-behind}
+use Rattle.reduction.proofs.BeforeLaws.{before-first, before-struck, before-kept, completed-valid}
+use Rattle.reduction.proofs.MinimalTheorem.{struck-valid, valid-struck, kept-valid, found-met, found-unmet, found-done, found-stuck, found-minimal, valid-found, minimal-found}
+use Rattle.reduction.proofs.UpdateLaws.{not-lower-of, alike, update, update-decided, update-twice}
+use Rattle.reduction.proofs.TurnLaws.{turns, search-turns, strike-met, strike-unmet, strike-not-lower, keep-end}
+use Rattle.reduction.proofs.TurnLaws.{strike-flagged, strike-barred, strike-goes-on, keep-stuck, keep-barred, keep-goes-on}
+use Rattle.reduction.proofs.CutLaws.{follows-rest}
 
--- the lower of the best reduction and another, the best where that is not lower
-abbrev lower-of : List Action → Reduction → Reduction → Reduction
-lower-of p b m = cond (lower (kept m p) (kept b p)) m b
+-- the step of a visit, the steps behind it, and what was decided before it
+abbrev here : List Action → Visit → Action
+here p v = step p (v .index)
 
-lower-of-three : (p : List Action) (b m n : Reduction) → lower-of p (lower-of p b m) n ≡ lower-of p b (lower-of p m n)
-lower-of-three p b m n = by-case (lower (kept m p) (kept b p)) (lower (kept n p) (kept m p)) refl refl
-  where
-    by-case : (x y : Bool) → lower (kept m p) (kept b p) ≡ x → lower (kept n p) (kept m p) ≡ y → lower-of p (lower-of p b m) n ≡ lower-of p b (lower-of p m n)
-    by-case true true e f = rw (e, f, lower-through (kept n p) (kept m p) (kept b p) f (lower-once (kept m p) (kept b p) e))
-    by-case true false e f = rw (e, f, e)
-    by-case false true e f = rw (e, f)
-    by-case false false e f = rw (e, f, not-lower-through (kept n p) (kept m p) (kept b p) f e, e)
+abbrev later : List Action → Visit → List Action
+later p v = drop (v .index + 1) p
 
--- the best when a reduction of the rest of the plan, perhaps none, is found behind the decisions d
-abbrev update : List Action → Reduction → Reduction → Option Reduction → Reduction
-update p d b none = b
-update p d b (some n) = lower-of p b (d ++ n)
+abbrev decided : Visit → Reduction
+decided v = take (v .index) (v .so-far)
 
--- behind the decisions d two lists compare as what they leave of the rest
-abbrev Alike : List Action → Reduction → List Action → Type 0
-Alike p d rest = (m n : Reduction) → lower (kept (d ++ m) p) (kept (d ++ n) p) ≡ lower (kept m rest) (kept n rest)
+-- what is found behind a visit's step from the state t, with the choice made there
+abbrev chosen : (State → Bool) → List Action → Visit → Bool → State → Option Reduction
+chosen ends p v c t = Option·map (λ n. c ∷ n) (found ends t (later p v))
 
-lower-first : (a : Action) (p q : List Action) → lower (a ∷ p) (a ∷ q) ≡ lower p q
-unfolding cost
-lower-first a p q = by-case (lower p q) (lower (a ∷ p) (a ∷ q)) refl refl
-  where
-    more : Lower p q → Lower (a ∷ p) (a ∷ q)
-    more (inl less) = inl (omega arith)
-    more (inr less) = inr (omega arith)
+-- both turns at a visit update its best with what is found of the rest, behind what was decided
+abbrev Finds : Tests → List Action → Visit → Type 0
+Finds T p v = turns T p (drop (v .index) p) v ≡ update p (decided v) (v .best) (found (T .ends) (v .state) (drop (v .index) p))
 
-    fewer : Lower (a ∷ p) (a ∷ q) → Lower p q
-    fewer (inl less) = inl (omega arith)
-    fewer (inr less) = inr (omega arith)
+module _ (T : Tests) (s : State) (p : List Action) (v : Visit) (inside : v .index < length p) (visited : Visited s p (T .flags) v) where
+  steps-next : drop (v .index) p ≡ here p v ∷ later p v
+  steps-next = rw add-one (drop-cons p (v .index) idle inside)
 
-    by-case : (x y : Bool) → lower p q ≡ x → lower (a ∷ p) (a ∷ q) ≡ y → lower (a ∷ p) (a ∷ q) ≡ lower p q
-    by-case true y e f = true-lower (a ∷ p) (a ∷ q) (more (lower-true p q e)) ∙ sym e
-    by-case false true e f = f ∙ sym (true-lower p q (fewer (lower-true (a ∷ p) (a ∷ q) f)))
-    by-case false false e f = f ∙ sym e
+  decided-length : length (decided v) ≡ v .index
+  decided-length = length-take-le (v .index) (v .so-far) (omega (arith, visited .fits))
 
-module _ (p : List Action) (d : Reduction) (a : Action) (q : List Action) (alike : Alike p d (a ∷ q)) where
-  struck-alike : Alike p (d ++ (false ∷ [])) q
-  unfolding kept
-  struck-alike m n = rw (append-snoc d false m, append-snoc d false n) (alike (false ∷ m) (false ∷ n))
+  -- so far the step is kept where it is flagged
+  flag-here : getD (v .so-far) (v .index) false ≡ getD (T .flags) (v .index) false
+  flag-here = alike-behind (v .so-far) (T .flags) (v .index) (v .index) (visited .to-come) (omega arith)
 
-  kept-alike : Alike p (d ++ (true ∷ [])) q
-  unfolding kept
-  kept-alike m n = rw (append-snoc d true m, append-snoc d true n) (alike (true ∷ m) (true ∷ n) ∙ lower-first a (kept m q) (kept n q))
+  later-alike : drop (v .index + 1) (v .so-far) ≡ drop (v .index + 1) (T .flags)
+  later-alike = sym (drop-drop 1 (v .index) (v .so-far)) ∙ ap (drop 1) (visited .to-come) ∙ drop-drop 1 (v .index) (T .flags)
 
-  -- to update with the better of two is to update twice
-  update-twice : (b : Reduction) (x y : Option Reduction)
-      → update p (d ++ (true ∷ [])) (update p (d ++ (false ∷ [])) b x) y
-      ≡ update p d b (better (a ∷ q) (Option·map (λ m. false ∷ m) x) (Option·map (λ m. true ∷ m) y))
-  unfolding better
-  update-twice b none none = refl
-  update-twice b none (some n) = rw (append-snoc d true n)
-  update-twice b (some m) none = rw (append-snoc d false m)
-  update-twice b (some m) (some n) =
-      rw (append-snoc d true n, append-snoc d false m, ← alike (true ∷ n) (false ∷ m))
-      (lower-of-three p b (d ++ false ∷ m) (d ++ true ∷ n) ∙ chosen (lower (kept (d ++ true ∷ n) p) (kept (d ++ false ∷ m) p)))
+  -- one decision more
+  decides-strike : getD (T .flags) (v .index) false ≡ false → take (suc (v .index)) (v .so-far) ≡ decided v ++ (false ∷ [])
+  decides-strike down = take-suc (v .so-far) (v .index) false (omega (arith, visited .fits)) ∙ rw (flag-here, down)
+
+  decides-keep : take (suc (v .index)) (set (v .so-far) (v .index) true) ≡ decided v ++ (true ∷ [])
+  decides-keep = take-suc-set (v .so-far) (v .index) true (omega (arith, visited .fits))
+
+  struck-visited : getD (T .flags) (v .index) false ≡ false → Visited s p (T .flags) (struck v)
+  struck-visited down =
+      record {
+        fits = visited .fits;
+        reached = rw add-one (before-struck s (v .state) p (v .so-far) (v .index) (visited .reached) (visited .fits) (v .so-far) false inside (decides-strike down) refl);
+        to-come = later-alike;
+      }
+
+  done-visited : applicable (v .state) (here p v) ≡ true → Visited s p (T .flags) (done (here p v) v)
+  done-visited able =
+      record {
+        fits = length-set (v .so-far) (v .index) true ∙ visited .fits;
+        reached =
+            rw add-one
+            (before-kept s (v .state) p (v .so-far) (v .index) (visited .reached) (visited .fits) (set (v .so-far) (v .index) true) true inside decides-keep refl able);
+        to-come = drop-set-lt (v .index + 1) (v .so-far) (v .index) true (omega arith) ∙ later-alike;
+      }
+
+  -- a choice without a chance updates nothing
+  hopeless-leaves : (c : Bool) (t : State) → ((n : Reduction) → Valid-for (T .ends) t (later p v) n → Valid-for (T .ends) (v .state) (here p v ∷ later p v) (c ∷ n))
+      → Hopeless (T .ends) s p v c → v .best ≡ update p (decided v) (v .best) (chosen (T .ends) p v c t)
+  hopeless-leaves c t valid hopeless = by-case (found (T .ends) t (later p v)) refl
     where
-      chosen : (t : Bool) → lower-of p b (cond t (d ++ true ∷ n) (d ++ false ∷ m)) ≡ update p d b (cond t (some (true ∷ n)) (some (false ∷ m)))
-      chosen true = refl
-      chosen false = refl
+      by-case : (x : Option Reduction) → found (T .ends) t (later p v) ≡ x → v .best ≡ update p (decided v) (v .best) (Option·map (λ n. c ∷ n) x)
+      by-case none e = refl
+      by-case (some n) e =
+          let rest : Valid-for (T .ends) (v .state) (drop (v .index) p) (c ∷ n) = rw steps-next (valid n (found-minimal (T .ends) t (later p v) e .valid)) in
+          rw
+          (hopeless (decided v ++ c ∷ n)
+          (record {
+            valid = completed-valid s (v .state) p (v .so-far) (v .index) (visited .reached) (visited .fits) (omega arith) rest;
+            decided = take-at (decided v) (c ∷ n) (v .index) decided-length;
+            chosen = getD-at (decided v) c n false (v .index) decided-length;
+          }))
 
--- what keeps all that another reduction keeps is not lower
-contains-not-lower : (p : List Action) (m n : Reduction) → length m ≡ length p → length n ≡ length p → Contains m n → lower (kept m p) (kept n p) ≡ false
-contains-not-lower p m n fits other-fits h = not-lower (kept m p) (kept n p) never
-  where
-    never : Lower (kept m p) (kept n p) → ⊥
-    never (inl less) = omega (arith, strike-cost m n p h)
-    never (inr (same, less)) = omega (arith, strike-count m n h, kept-length m p fits, kept-length n p other-fits)
+  handed-visited : (b : Reduction) → Visited s p (T .flags) (handed v b)
+  handed-visited b = record { fits = visited .fits; reached = visited .reached; to-come = visited .to-come }
 
-module _ (s : State) (goal : Assignment) (a : Action) (q : List Action) (c : Bool) (g : Reduction) (sound : Sound s goal (a ∷ q) (c ∷ g)) where
-  struck-sound : Sound s goal q g
-  struck-sound n v i k = sound (false ∷ n) (struck-valid s goal a q v) (suc i) k
-
-  kept-sound : applicable s a ≡ true → Sound (apply s a) goal q g
-  kept-sound able n v i k = sound (true ∷ n) (kept-valid s goal a q able v) (suc i) k
-
-  -- a step that may be struck is not flagged
-  struck-unflagged : may-strike goal s a q (c ∷ g) ≡ true → c ≡ false
-  unfolding may-strike
-  struck-unflagged h = not-true c (and-eq-true-iff (not c) _ .0 h .0)
-
-  -- and where it may not be, no valid reduction strikes it: it is flagged, or a fact wanted behind it does not hold
-  unstruck : may-strike goal s a q (c ∷ g) ≡ false → (n : Reduction) → Valid-reduction s goal q n → ⊥
-  unfolding may-strike
-  unstruck h n v = by-case c (λ k. sound (false ∷ n) (struck-valid s goal a q v) 0 k) h
+  -- no valid reduction that strikes the step is lower than the best updated with what is found so
+  strike-tried : Hopeless (T .ends) s p (handed v (update p (decided v) (v .best) (chosen (T .ends) p v false (v .state)))) false
+  strike-tried r follows = not-lower-found (valid-found (T .ends) (v .state) (later p v) n rest)
     where
-      by-case : (c : Bool) → (c ≡ true → false ≡ true) → may-strike goal s a q (c ∷ g) ≡ false → ⊥
-      by-case true flagged h = false≢true (flagged refl)
-      by-case false flagged h =
-          let (f, written, passes) = found-passes (λ f. wanted goal q g f && not (holds s f)) (a .effect) (not-false _ h) in
-          let (behind, unheld) = and-eq-true-iff (wanted goal q g f) (not (holds s f)) .0 passes in
-          true≢false (sym (wanted-holds s goal q n g f (v .fits) (v .valid-left) (struck-sound n v) behind) ∙ not-true (holds s f) unheld)
+      n : Reduction
+      n = drop (v .index + 1) r
 
--- what both turns do with the rest of the plan behind the decisions d, the best being b
-abbrev Finds : Assignment → List Action → List Action → Type 0
-Finds goal p rest =
-    (i : ℕ) (d g : Reduction) (s : State) (b : Reduction) → length d ≡ i → length g ≡ length rest → Alike p d rest → Sound s goal rest g
-    → turns goal p i rest g s (d ++ g) b ≡ update p d b (found s goal rest)
+      begins : r ≡ decided v ++ false ∷ n
+      begins =
+          split-at r (v .index) false (omega (arith, follows .valid .fits))
+          ∙ rw (follows .decided, follows .chosen, add-one)
 
-module _
-    (goal : Assignment)
-    (p : List Action)
-    (a : Action)
-    (q : List Action)
-    (behind : Finds goal p q)
-    (i : ℕ)
-    (d : Reduction)
-    (c : Bool)
-    (g : Reduction)
-    (s : State)
-    (index : length d ≡ i)
-    (fits : length g ≡ length q)
-    (alike : Alike p d (a ∷ q))
-    (sound : Sound s goal (a ∷ q) (c ∷ g))
+      all : Valid-for (T .ends) (v .state) (here p v ∷ later p v) (false ∷ n)
+      all = follows-rest inside (handed-visited _) follows
+
+      rest : Valid-for (T .ends) (v .state) (later p v) n
+      rest = valid-struck (T .ends) (v .state) (here p v) (later p v) all
+
+      not-lower-found : (k : Reduction) × (found (T .ends) (v .state) (later p v) ≡ some k)
+          → lower (kept r p) (kept (update p (decided v) (v .best) (chosen (T .ends) p v false (v .state))) p) ≡ false
+      not-lower-found (k, e) =
+          let least = found-minimal (T .ends) (v .state) (later p v) e in
+          let whole-k = struck-valid (T .ends) (v .state) (here p v) (later p v) (least .valid) in
+          let high : lower (kept (false ∷ n) (here p v ∷ later p v)) (kept (false ∷ k) (here p v ∷ later p v)) ≡ false =
+          wins-not-lower (here p v ∷ later p v) (false ∷ k) (false ∷ n) (whole-k .fits) (all .fits) (wins-behind false (here p v) (later p v) k n (least .wins n rest)) in
+          rw e (not-lower-of p (v .best) (decided v ++ false ∷ k) r (rw (begins, alike p (decided v) (false ∷ n) (false ∷ k), decided-length, steps-next) high))
+
+  module _ (next : (w : Visit) → w .index ≡ v .index + 1 → Visited s p (T .flags) w → Finds T p w) where
+    strike-finds : Sound T s p → turn T p strike (drop (v .index) p) v ≡ update p (decided v) (v .best) (chosen (T .ends) p v false (v .state))
+    strike-finds sound = rw steps-next (by-case (getD (T .flags) (v .index) false) (T .may-strike v) refl refl)
+      where
+        unstruck : Hopeless (T .ends) s p v false → v .best ≡ update p (decided v) (v .best) (chosen (T .ends) p v false (v .state))
+        unstruck = hopeless-leaves false (v .state) (λ n. struck-valid (T .ends) (v .state) (here p v) (later p v))
+
+        by-case : (x y : Bool) → getD (T .flags) (v .index) false ≡ x → T .may-strike v ≡ y
+            → turn T p strike (here p v ∷ later p v) v ≡ update p (decided v) (v .best) (chosen (T .ends) p v false (v .state))
+        by-case true y e f =
+            strike-flagged T p (here p v) (later p v) v e
+            ∙ unstruck (λ r follows. absurd (true≢false (sym (sound .flagged r (follows .valid) (v .index) e) ∙ follows .chosen)))
+        by-case false false e f = strike-barred T p (here p v) (later p v) v f ∙ unstruck (sound .strikes v inside visited (λ up. absurd (false≢true up)) f)
+        by-case false true e f =
+            strike-goes-on T p (here p v) (later p v) v e f
+            ∙ next (struck v) refl (struck-visited e)
+            ∙ rw (add-one, decides-strike e) (update-decided p (decided v) false (v .best) (found (T .ends) (v .state) (drop (suc (v .index)) p)))
+
+    keep-finds : Sound T s p → Hopeless (T .ends) s p v false → applicable (v .state) (here p v) ≡ true
+        → turn T p keep (drop (v .index) p) v ≡ update p (decided v) (v .best) (chosen (T .ends) p v true (apply (v .state) (here p v)))
+    keep-finds sound tried able = rw steps-next (by-case (T .may-keep v) refl)
+      where
+        after : State
+        after = apply (v .state) (here p v)
+
+        by-case : (y : Bool) → T .may-keep v ≡ y → turn T p keep (here p v ∷ later p v) v ≡ update p (decided v) (v .best) (chosen (T .ends) p v true after)
+        by-case false f =
+            keep-barred T p (here p v) (later p v) v f
+            ∙ hopeless-leaves true after (λ n. kept-valid (T .ends) (v .state) (here p v) (later p v) able) (sound .keeps v inside visited (λ up. tried) f)
+        by-case true f =
+            keep-goes-on T p (here p v) (later p v) v able f
+            ∙ next (done (here p v) v) refl (done-visited able)
+            ∙ rw (add-one, decides-keep) (update-decided p (decided v) true (v .best) (found (T .ends) after (drop (suc (v .index)) p)))
+
+-- so both turns find what is found of the rest, where they do at the next step
+both-find : (T : Tests) (s : State) (p : List Action) → Sound T s p → (v : Visit) → v .index < length p → Visited s p (T .flags) v
+    → ((w : Visit) → w .index ≡ v .index + 1 → Visited s p (T .flags) w → Finds T p w) → Finds T p v
+both-find T s p sound v inside visited next = rw (strike-finds T s p v inside visited next sound) (by-case (applicable (v .state) (here p v)) refl)
   where
-    next : (e : Bool) → length (d ++ (e ∷ [])) ≡ i + 1
-    next e = rw (length-append d (e ∷ [])) (omega arith)
+    steps : drop (v .index) p ≡ here p v ∷ later p v
+    steps = steps-next T s p v inside visited
 
-    strike-finds : (b : Reduction) → turn goal p strike i (a ∷ q) (c ∷ g) s (d ++ c ∷ g) b ≡ update p (d ++ (false ∷ [])) b (found s goal q)
-    strike-finds b = by-case (may-strike goal s a q (c ∷ g)) refl
-      where
-        barred : (x : Option Reduction) → found s goal q ≡ x → may-strike goal s a q (c ∷ g) ≡ false → b ≡ update p (d ++ (false ∷ [])) b x
-        barred none f e = refl
-        barred (some n) f e = absurd (unstruck s goal a q c g sound e n (found-minimal s goal q f .valid))
+    tried : Reduction
+    tried = update p (decided v) (v .best) (chosen (T .ends) p v false (v .state))
 
-        by-case : (t : Bool) → may-strike goal s a q (c ∷ g) ≡ t
-            → turn goal p strike i (a ∷ q) (c ∷ g) s (d ++ c ∷ g) b ≡ update p (d ++ (false ∷ [])) b (found s goal q)
-        by-case true e =
-            strike-goes-on goal p i a q (c ∷ g) s (d ++ c ∷ g) b e
-            ∙ ap (λ m. turns goal p (i + 1) q g s m b) (ap (λ c. d ++ c ∷ g) (struck-unflagged s goal a q c g sound e) ∙ sym (append-snoc d false g))
-            ∙ behind (i + 1) (d ++ (false ∷ [])) g s b (next false) fits (struck-alike p d a q alike) (struck-sound s goal a q c g sound)
-        by-case false e = strike-barred goal p i a q (c ∷ g) s (d ++ c ∷ g) b e ∙ barred (found s goal q) refl e
+    twice : (y : Option Reduction) → update p (decided v) tried y ≡ update p (decided v) (v .best) (better (here p v ∷ later p v) (chosen (T .ends) p v false (v .state)) y)
+    twice y =
+        rw (decided-length T s p v inside visited, steps) at (update-twice p (decided v) (v .best) (chosen (T .ends) p v false (v .state)) y)
 
-    keep-finds : (b : Reduction) → applicable s a ≡ true
-        → turn goal p keep i (a ∷ q) (c ∷ g) s (d ++ c ∷ g) b ≡ update p (d ++ (true ∷ [])) b (found (apply s a) goal q)
-    keep-finds b able = by-case (lower (kept (set (d ++ c ∷ g) i true) p) (kept b p)) refl
-      where
-        -- the decisions with the step kept, and the flagged steps behind it
-        so-far : set (d ++ c ∷ g) i true ≡ d ++ (true ∷ []) ++ g
-        so-far = set-at d c g true i index ∙ sym (append-snoc d true g)
+    by-case : (t : Bool) → applicable (v .state) (here p v) ≡ t
+        → turn T p keep (drop (v .index) p) (handed v tried) ≡ update p (decided v) (v .best) (found (T .ends) (v .state) (drop (v .index) p))
+    by-case true e =
+        keep-finds T s p (handed v tried) inside (handed-visited T s p v inside visited tried) next sound (strike-tried T s p v inside visited) e
+        ∙ twice (chosen (T .ends) p v true (apply (v .state) (here p v)))
+        ∙ rw (steps, found-done (T .ends) (v .state) (here p v) (later p v) e)
+    by-case false e = rw (steps, keep-stuck T p (here p v) (later p v) (handed v tried) e, found-stuck (T .ends) (v .state) (here p v) (later p v) e) (twice none)
 
-        cut : (x : Option Reduction) → found (apply s a) goal q ≡ x → lower (kept (d ++ (true ∷ []) ++ g) p) (kept b p) ≡ false
-            → b ≡ update p (d ++ (true ∷ [])) b x
-        cut none f e = refl
-        cut (some n) f e =
-            let v : Valid-reduction (apply s a) goal q n = found-minimal (apply s a) goal q f .valid in
-            let high : lower (kept (d ++ (true ∷ []) ++ n) p) (kept (d ++ (true ∷ []) ++ g) p) ≡ false =
-            kept-alike p d a q alike n g ∙ contains-not-lower q n g (v .fits) fits (kept-sound s goal a q c g sound able n v) in
-            rw (not-lower-through _ _ (kept b p) high e)
-
-        by-case : (t : Bool) → lower (kept (set (d ++ c ∷ g) i true) p) (kept b p) ≡ t
-            → turn goal p keep i (a ∷ q) (c ∷ g) s (d ++ c ∷ g) b ≡ update p (d ++ (true ∷ [])) b (found (apply s a) goal q)
-        by-case true e =
-            keep-goes-on goal p i a q (c ∷ g) s (d ++ c ∷ g) b able e
-            ∙ ap (λ m. turns goal p (i + 1) q g (apply s a) m b) so-far
-            ∙ behind (i + 1) (d ++ (true ∷ [])) g (apply s a) b (next true) fits (kept-alike p d a q alike) (kept-sound s goal a q c g sound able)
-        by-case false e = keep-not-lower goal p i a q (c ∷ g) s (d ++ c ∷ g) b e ∙ cut (found (apply s a) goal q) refl (rw so-far at e)
-
-    both-find : (b : Reduction) → turns goal p i (a ∷ q) (c ∷ g) s (d ++ c ∷ g) b ≡ update p d b (found s goal (a ∷ q))
-    both-find b = by-case (applicable s a) refl
-      where
-        by-case : (t : Bool) → applicable s a ≡ t → turns goal p i (a ∷ q) (c ∷ g) s (d ++ c ∷ g) b ≡ update p d b (found s goal (a ∷ q))
-        by-case true e =
-            rw (strike-finds b, found-done s goal a q e)
-            (keep-finds (update p (d ++ (false ∷ [])) b (found s goal q)) e ∙ update-twice p d a q alike b (found s goal q) (found (apply s a) goal q))
-        by-case false e =
-            rw (strike-finds b, found-stuck s goal a q e)
-            (keep-stuck goal p i a q (c ∷ g) s (d ++ c ∷ g) (update p (d ++ (false ∷ [])) b (found s goal q)) e ∙ update-twice p d a q alike b (found s goal q) none)
-
-turns-find : (goal : Assignment) (p rest : List Action) → Finds goal p rest
-turns-find goal p [] i d (c ∷ g) s b index fits alike sound = absurd (omega arith)
-turns-find goal p (a ∷ q) i d [] s b index fits alike sound = absurd (omega arith)
-turns-find goal p (a ∷ q) i d (c ∷ g) s b index fits alike sound = both-find goal p a q (turns-find goal p q) i d c g s index (omega arith) alike sound b
-turns-find goal p [] i d [] s b index fits alike sound =
-    keep-end goal p i [] s (d ++ []) (turn goal p strike i [] [] s (d ++ []) b) ∙ by-case (satisfies s goal) (lower (kept (d ++ []) p) (kept b p)) refl refl
+-- and at the end of the plan
+end-finds : (T : Tests) (p : List Action) (v : Visit) → v .index ≡ length p → length (v .so-far) ≡ length p → Finds T p v
+end-finds T p v over fits =
+    rw (drop-of-length-le p {i = v .index} (omega arith), take-all (v .index) (v .so-far) (omega arith), keep-end T p (handed v (turn T p strike [] v)))
+    (by-case (T .ends (v .state)) (lower (kept (v .so-far) p) (kept (v .best) p)) refl refl)
   where
-    by-case : (x y : Bool) → satisfies s goal ≡ x → lower (kept (d ++ []) p) (kept b p) ≡ y
-        → turn goal p strike i [] [] s (d ++ []) b ≡ update p d b (found s goal [])
-    by-case true true e f = rw (found-met s goal e, f) (strike-met goal p i [] s (d ++ []) b f e)
-    by-case true false e f = rw (found-met s goal e, f) (strike-not-lower goal p i [] s (d ++ []) b f)
-    by-case false y e f = rw (found-unmet s goal e) (strike-unmet goal p i [] s (d ++ []) b e)
+    by-case : (x y : Bool) → T .ends (v .state) ≡ x → lower (kept (v .so-far) p) (kept (v .best) p) ≡ y
+        → turn T p strike [] v ≡ update p (v .so-far) (v .best) (found (T .ends) (v .state) [])
+    by-case true true e f = rw (found-met (T .ends) (v .state) e, append-nil, f) (strike-met T p v f e)
+    by-case true false e f = rw (found-met (T .ends) (v .state) e, append-nil, f) (strike-not-lower T p v f)
+    by-case false y e f = rw (found-unmet (T .ends) (v .state) e) (strike-unmet T p v e)
 
--- the search returns what `exact` computes
-pub search-finds : (s : State) (goal : Assignment) (p : List Action) (g : Reduction) → length g ≡ length p → Sound s goal p g
-    → search s goal p g ≡ minimal s goal p
+turns-find : (T : Tests) (s : State) (p : List Action) → Sound T s p → (left : ℕ) (v : Visit) → v .index + left ≡ length p → Visited s p (T .flags) v → Finds T p v
+turns-find T s p sound zero v all visited = end-finds T p v (omega arith) (visited .fits)
+turns-find T s p sound (suc left) v all visited =
+    both-find T s p sound v (omega arith) visited (λ w index. turns-find T s p sound left w (omega arith))
+
+-- the search returns what `minimal` computes
+pub search-finds : (T : Tests) (s : State) (p : List Action) → Sound T s p → search T s p ≡ minimal (T .ends) s p
 unfolding minimal
-search-finds s goal p g fits sound =
-    search-turns s goal p g ∙ turns-find goal p p 0 [] g s (whole p) refl fits (λ m n. refl) sound ∙ by-case (found s goal p) refl
+search-finds T s p sound =
+    search-turns T s p
+    ∙ turns-find T s p sound (length p) (first-visit T s p) (omega arith) (record { fits = sound .fits; reached = before-first s p (T .flags); to-come = refl })
+    ∙ by-case (found (T .ends) s p) refl
   where
     lowest : (n : Reduction) → length n ≡ length p → (t : Bool) → lower (kept n p) (kept (whole p) p) ≡ t → cond t n (whole p) ≡ n
     lowest n fits true e = refl
     lowest n fits false e = sym (lowest-whole p n fits (rw kept-whole at e))
 
-    by-case : (x : Option Reduction) → found s goal p ≡ x → update p [] (whole p) x ≡ Option·getD x (whole p)
-    by-case none f = refl
-    by-case (some n) f = lowest n (found-minimal s goal p f .valid .fits) (lower (kept n p) (kept (whole p) p)) refl
+    by-case : (x : Option Reduction) → found (T .ends) s p ≡ x → update p [] (whole p) x ≡ Option·getD x (whole p)
+    by-case none e = refl
+    by-case (some n) e = lowest n (found-minimal (T .ends) s p e .valid .fits) (lower (kept n p) (kept (whole p) p)) refl
 
--- and so the exact reduction of a plan
-pub search-minimal : (s : State) (goal : Assignment) (p : List Action) (g : Reduction) → length g ≡ length p → valid s goal p ≡ true → Sound s goal p g
-    → Minimal s goal p (search s goal p g)
-search-minimal s goal p g fits h sound = rw (search-finds s goal p g fits sound) (minimal-found s goal p h)
-
--- the landmarks are sound flags
-pub landmarks-sound : (s : State) (goal : Assignment) (p : List Action) → Sound s goal p (landmarks s goal p)
-landmarks-sound s goal p m v = flags-kept s goal p m (v .fits) (v .valid-left)
+-- and so the minimal reduction of a list that is valid
+pub search-minimal : (T : Tests) (s : State) (p : List Action) → Sound T s p → valid-for (T .ends) s p ≡ true → Minimal (Valid-for (T .ends) s p) p (search T s p)
+search-minimal T s p sound v = rw (search-finds T s p sound) (minimal-found (T .ends) s p v)

@@ -1,5 +1,5 @@
 -- The worked lists of document 01 that carry a star, as one table: what it says of each list holds of the definitions. By computing what the definitions give,
--- with `flagged-just-marked` and `minimal-found` for the marks and the exact reduction, which are told by rules. Assumes nothing.
+-- with `flagged-just-marked` and `minimal-found` for the marks and the minimal reduction, which are told by rules. Assumes nothing.
 use Prim.Native.Nat.{ℕ, zero, suc, _+_, _*_}
 use native.Mathlib.Omega.{arith}
 use mathlib.Core.Path.{_≡_, refl}
@@ -9,14 +9,15 @@ use mathlib.Core.Option.{some}
 use mathlib.Core.List.{List, [], _∷_, map}
 use lib.ListN.{length}
 use Rattle.sas.specs.Task.{Fact, Assignment, State, Action}
-use Rattle.sas.specs.Plan.{holds, first-failing, satisfies, applicable, assign, result, run, Stuck, cost}
-use Rattle.reduction.specs.Reduction.{Reduction, keeps, kept, count, valid, lower, Valid-reduction}
+use Rattle.sas.specs.Plan.{holds, first-failing, satisfies, applicable, assign, apply, written, needed, result, run, Stuck, cost}
+use Rattle.reduction.specs.Reduction.{Reduction, keeps, kept, count, valid-for, valid, lower, Valid-reduction}
 use Rattle.reduction.specs.Landmark.{step, Marked}
-use Rattle.reduction.specs.Wanted.{some-fact, same-fact, has, wanted, landmarks-behind, landmarks}
+use Rattle.reduction.specs.Wanted.{some-fact, same-fact, has, wanted}
 use Rattle.reduction.specs.Elimination.{walk, after, trial, eliminated, eliminate, better, best, rounds, greedy}
 use Rattle.reduction.proofs.LandmarkTheorem.{flagged-just-marked}
-use Rattle.reduction.specs.Minimal.{First-difference, Minimal, found, minimal}
+use Rattle.reduction.specs.Minimal.{First-difference, Minimal-reduction, found, minimal}
 use Rattle.reduction.proofs.MinimalTheorem.{minimal-found}
+use Rattle.reduction.specs.Landmarks.{landmarks-behind, landmarks}
 
 -- the positions of the kept steps, where the first stands at i
 positions : ℕ → Reduction → List ℕ
@@ -48,7 +49,7 @@ data Claim : Type 0 where
   keep : List Way → List ℕ → ℕ → Claim
   -- and its mask begins with this word
   mask : List Way → ℕ → Claim
-  -- to keep these positions is valid at this price, and loses to the exact reduction at this position
+  -- to keep these positions is valid at this price, and loses to the minimal reduction at this position
   loses : List ℕ → ℕ → ℕ → Claim
   -- the list is not valid: refusal 11 at this place
   refused : ℕ → Claim
@@ -73,12 +74,12 @@ module _ (s : State) (goal : Assignment) (p : List Action) where
   abbrev Kept : Way → Reduction → Type 0
   Kept elimination m = m ≡ eliminate s goal p
   Kept greedily m = m ≡ greedy s goal p
-  Kept minimally m = Minimal s goal p m
+  Kept minimally m = Minimal-reduction s goal p m
 
-  -- a reduction has the price and the number of steps of the exact one, and keeps the first step at which they differ, at index i
+  -- a reduction has the price and the number of steps of the minimal one, and keeps the first step at which they differ, at index i
   record Loses (m : Reduction) (i : ℕ) : Type 0 where
     winner : Reduction
-    minimal-one : Minimal s goal p winner
+    minimal-one : Minimal-reduction s goal p winner
     same-price : cost (kept winner p) ≡ cost (kept m p)
     same-steps : count winner ≡ count m
     difference : First-difference winner m i
@@ -156,7 +157,7 @@ flagged {goal} {p} s e = (landmarks s goal p, flagged-just-marked s goal p, e)
 
 -- what document 01 says of each list holds
 starred : Each (λ r. Each (Holds (r .initial) (r .goal) (r .plan)) (r .says)) table
-unfolding positions first-word landmarks eliminate greedy minimal found count kept valid lower some-fact same-fact has wanted landmarks-behind walk after trial eliminated better best rounds holds first-failing satisfies applicable assign result run cost
+unfolding positions first-word landmarks eliminate greedy minimal found count kept valid-for lower some-fact same-fact has wanted landmarks-behind walk after trial eliminated better best rounds holds first-failing satisfies applicable assign apply written needed result run cost
 starred =
     ((refl, refl) also flagged initial-P refl also tt)
     also (((_, refl, refl, refl) also (_, refl, refl, refl) also (_, minimal-found _ _ _ refl, refl, refl) also tt)

@@ -11,7 +11,7 @@ use Rattle.sas.specs.Task.{Assignment, State, Action}
 use Rattle.sas.specs.Plan.{satisfies, applicable, apply, run}
 use Rattle.sas.proofs.ActionLaws.{result-applicable, result-assigned}
 use Rattle.sas.proofs.RunLaws.{run-nothing, run-applied}
-use Rattle.reduction.specs.Reduction.{Reduction, keeps, kept, count, valid, Contains}
+use Rattle.reduction.specs.Reduction.{Reduction, keeps, kept, count, meets, valid, Contains}
 use Rattle.reduction.specs.Elimination.{walk, after, trial}
 use Rattle.reduction.proofs.ValidLaws.{runs-valid, valid-first}
 use Rattle.reduction.proofs.ReductionLaws.{strike-count, struck-count}
@@ -98,7 +98,7 @@ module _ {n : Reduction} {s : State} {goal : Assignment} {p : List Action} {m : 
   success-length = rw (t .left) (walk-length s p (set m i false) ∙ length-set m i false)
 
   pub success-valid : valid s goal (kept n p) ≡ true
-  success-valid = rw (t .left) (runs-valid s (after s p (set m i false)) goal (kept (walk s p (set m i false)) p) (walk-runs s p (set m i false)) ∙ t .met)
+  success-valid = rw (t .left) (runs-valid (meets goal) s (after s p (set m i false)) (kept (walk s p (set m i false)) p) (walk-runs s p (set m i false)) ∙ t .met)
 
   pub success-count : count n < count m
   success-count = rw (t .left) (omega (arith, struck-count m i (t .tried), strike-count (set m i false) (walk s p (set m i false)) (walk-contains s p (set m i false))))
@@ -122,7 +122,7 @@ trial-from-before s goal (a ∷ p) (false ∷ m) (suc i) fits v h =
     let rest : From-before s p m i = trial-from-before s goal p m i (omega arith) v (omega arith) in
     record { before = rest .before; reached = rest .reached; walked = ap (λ n. false ∷ n) (rest .walked); end = rest .end }
 trial-from-before s goal (a ∷ p) (true ∷ m) (suc i) fits v h =
-    let (t, done, behind) = valid-first s goal a (kept m p) v in
+    let (t, done, behind) = valid-first (meets goal) s a (kept m p) v in
     let able : applicable s a ≡ true = result-applicable s a done in
     let rest : From-before (apply s a) p m i = trial-from-before (apply s a) goal p m i (omega arith) (rw (result-assigned s a done) at behind) (omega arith) in
     record {

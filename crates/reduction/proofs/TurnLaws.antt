@@ -1,60 +1,63 @@
 -- What each turn of the search does, by its cases: at the end of the plan, where it goes no further, and where it goes on with both turns at the next step.
 -- Each by unfolding `turn` once. Assumes nothing.
-use Prim.Native.Nat.{ℕ, _+_}
 use mathlib.Core.Path.{_≡_, refl}
-use mathlib.Core.Bool.{true, false, and-false}
+use mathlib.Core.Bool.{true, false, not, and-false}
 use mathlib.Core.List.{List, [], _∷_}
-use lib.ListN.{set, drop}
-use Rattle.sas.specs.Task.{Assignment, State, Action}
-use Rattle.sas.specs.Plan.{satisfies, applicable, apply}
-use Rattle.reduction.specs.Reduction.{Reduction, kept, whole, lower}
-use Rattle.reduction.specs.Search.{may-strike, turn, search}
+use lib.ListN.{getD}
+use Rattle.sas.specs.Task.{State, Action}
+use Rattle.sas.specs.Plan.{applicable}
+use Rattle.reduction.specs.Reduction.{Reduction, kept, lower}
+use Rattle.reduction.specs.Search.{Visit, Tests, struck, done, handed, turn, first-visit, search}
 use Rattle.reduction.specs.Search.Turn.{strike, keep}
 
--- both turns at one step: the striking turn, then the keeping turn from the best that it found
-abbrev pub turns : Assignment → List Action → ℕ → List Action → Reduction → State → Reduction → Reduction → Reduction
-turns goal p i rest g s m b = turn goal p keep i rest g s m (turn goal p strike i rest g s m b)
+-- both turns at one step: the striking turn, then the keeping turn, handed the best that it found
+abbrev pub turns : Tests → List Action → List Action → Visit → Reduction
+turns T p rest v = turn T p keep rest (handed v (turn T p strike rest v))
 
-pub search-turns : (s : State) (goal : Assignment) (p : List Action) (g : Reduction) → search s goal p g ≡ turns goal p 0 p g s g (whole p)
+pub search-turns : (T : Tests) (s : State) (p : List Action) → search T s p ≡ turns T p p (first-visit T s p)
 unfolding search
-search-turns s goal p g = refl
+search-turns T s p = refl
 
-module _ (goal : Assignment) (p : List Action) (i : ℕ) (g : Reduction) (s : State) (m b : Reduction) where
-  -- at the end of the plan the striking turn takes what was decided, where that is lower and the goal holds
-  pub strike-met : lower (kept m p) (kept b p) ≡ true → satisfies s goal ≡ true → turn goal p strike i [] g s m b ≡ m
+module _ (T : Tests) (p : List Action) (v : Visit) where
+  -- at the end of the plan the striking turn takes what is kept so far, where that is lower and the state will do
+  pub strike-met : lower (kept (v .so-far) p) (kept (v .best) p) ≡ true → T .ends (v .state) ≡ true → turn T p strike [] v ≡ v .so-far
   unfolding turn
   strike-met h e = rw (h, e)
 
-  pub strike-unmet : satisfies s goal ≡ false → turn goal p strike i [] g s m b ≡ b
+  pub strike-unmet : T .ends (v .state) ≡ false → turn T p strike [] v ≡ v .best
   unfolding turn
   strike-unmet e = rw (e, and-false)
 
-  pub strike-not-lower : lower (kept m p) (kept b p) ≡ false → turn goal p strike i [] g s m b ≡ b
+  pub strike-not-lower : lower (kept (v .so-far) p) (kept (v .best) p) ≡ false → turn T p strike [] v ≡ v .best
   unfolding turn
   strike-not-lower h = rw h
 
-  pub keep-end : turn goal p keep i [] g s m b ≡ b
+  pub keep-end : turn T p keep [] v ≡ v .best
   unfolding turn
   keep-end = refl
 
-module _ (goal : Assignment) (p : List Action) (i : ℕ) (a : Action) (q : List Action) (g : Reduction) (s : State) (m b : Reduction) where
-  pub strike-barred : may-strike goal s a q g ≡ false → turn goal p strike i (a ∷ q) g s m b ≡ b
+module _ (T : Tests) (p : List Action) (a : Action) (q : List Action) (v : Visit) where
+  -- a flagged step has only the keeping turn
+  pub strike-flagged : getD (T .flags) (v .index) false ≡ true → turn T p strike (a ∷ q) v ≡ v .best
   unfolding turn
-  strike-barred h = rw (h, turn)
+  strike-flagged h = rw (h, turn)
 
-  pub strike-goes-on : may-strike goal s a q g ≡ true → turn goal p strike i (a ∷ q) g s m b ≡ turns goal p (i + 1) q (drop 1 g) s m b
+  pub strike-barred : T .may-strike v ≡ false → turn T p strike (a ∷ q) v ≡ v .best
   unfolding turn
-  strike-goes-on h = rw (h, turn)
+  strike-barred h = rw (h, and-false (not (getD (T .flags) (v .index) false)), turn)
 
-  pub keep-stuck : applicable s a ≡ false → turn goal p keep i (a ∷ q) g s m b ≡ b
+  pub strike-goes-on : getD (T .flags) (v .index) false ≡ false → T .may-strike v ≡ true → turn T p strike (a ∷ q) v ≡ turns T p q (struck v)
+  unfolding turn
+  strike-goes-on h e = rw (h, e, turn)
+
+  pub keep-stuck : applicable (v .state) a ≡ false → turn T p keep (a ∷ q) v ≡ v .best
   unfolding turn
   keep-stuck h = rw (h, turn)
 
-  pub keep-not-lower : lower (kept (set m i true) p) (kept b p) ≡ false → turn goal p keep i (a ∷ q) g s m b ≡ b
+  pub keep-barred : T .may-keep v ≡ false → turn T p keep (a ∷ q) v ≡ v .best
   unfolding turn
-  keep-not-lower h = rw (h, and-false (applicable s a), turn)
+  keep-barred h = rw (h, and-false (applicable (v .state) a), turn)
 
-  pub keep-goes-on : applicable s a ≡ true → lower (kept (set m i true) p) (kept b p) ≡ true
-      → turn goal p keep i (a ∷ q) g s m b ≡ turns goal p (i + 1) q (drop 1 g) (apply s a) (set m i true) b
+  pub keep-goes-on : applicable (v .state) a ≡ true → T .may-keep v ≡ true → turn T p keep (a ∷ q) v ≡ turns T p q (done a v)
   unfolding turn
   keep-goes-on h e = rw (h, e, turn)

@@ -4,16 +4,16 @@ use Prim.Native.Nat.{ℕ, zero, suc, _<_}
 use native.Mathlib.Omega.{arith}
 use mathlib.Core.Path.{_≡_, refl, _∙_}
 use mathlib.Core.Logic.{_⊎_, inl, inr, ⊎-elim}
-use mathlib.Core.Bool.{true, false, false≢true, not, _&&_, and-eq-true-iff, or-true}
+use mathlib.Core.Bool.{Bool, true, false, false≢true, not, _&&_, and-eq-true-iff, or-true}
 use mathlib.Core.Option.{some}
-use mathlib.Core.List.{List, [], _∷_, List·Memᴰ, List·Memᴰ·not-nil}
+use mathlib.Core.List.{List, [], _∷_, List·Memᴰ}
 use lib.ListN.{length, getD, drop}
 use borrow.Author.Tests.{not-true}
 use Rattle.sas.specs.Task.{Fact, Assignment, State, Action}
-use Rattle.sas.specs.Plan.{holds, result}
+use Rattle.sas.specs.Plan.{holds, satisfies, result, written, needed, may-write, needs}
 use Rattle.sas.proofs.FactLaws.{satisfied-holds}
-use Rattle.sas.proofs.ActionLaws.{may-write, needs, result-applicable, needed-holds, written-or-held}
-use Rattle.reduction.specs.Reduction.{Reduction, keeps, kept, valid, Contains}
+use Rattle.sas.proofs.ActionLaws.{idle-needs-nothing, result-applicable, needed-holds, written-or-held}
+use Rattle.reduction.specs.Reduction.{Reduction, keeps, kept, valid-for, Contains}
 use Rattle.reduction.specs.Landmark.{step}
 use Rattle.reduction.specs.Wanted.{has, wanted}
 use Rattle.reduction.proofs.ValidLaws.{valid-end, valid-first}
@@ -27,37 +27,39 @@ keeps-later (b ∷ m) i = refl
 pub wanted-cases : (goal : Assignment) (a : Action) (p : List Action) (m : Reduction) (f : Fact) → wanted goal (a ∷ p) m f ≡ true
     → (keeps m 0 × needs a f) ⊎ ((may-write a f → ⊥) × (wanted goal p (drop 1 m) f ≡ true))
 unfolding wanted
-wanted-cases goal a p m f h = ⊎-elim (λ x. inl (here x)) (λ x. inr (later x)) (or-cases (getD m 0 false && has (a .precondition) f) _ h)
+wanted-cases goal a p m f h = ⊎-elim (λ x. inl (here x)) (λ x. inr (later x)) (or-cases (getD m 0 false && has (needed a) f) _ h)
   where
-    here : (getD m 0 false && has (a .precondition) f) ≡ true → keeps m 0 × needs a f
-    here x = let (flagged, need) = and-eq-true-iff (getD m 0 false) (has (a .precondition) f) .0 x in (flagged, has-member (a .precondition) f need)
+    here : (getD m 0 false && has (needed a) f) ≡ true → keeps m 0 × needs a f
+    here x = let (flagged, need) = and-eq-true-iff (getD m 0 false) (has (needed a) f) .0 x in (flagged, has-member (needed a) f need)
 
-    later : (not (has (a .effect) f) && wanted goal p (drop 1 m) f) ≡ true → (may-write a f → ⊥) × (wanted goal p (drop 1 m) f ≡ true)
+    later : (not (has (written a) f) && wanted goal p (drop 1 m) f) ≡ true → (may-write a f → ⊥) × (wanted goal p (drop 1 m) f ≡ true)
     later x =
-        let (unwritten, behind) = and-eq-true-iff (not (has (a .effect) f)) (wanted goal p (drop 1 m) f) .0 x in
-        (has-no-member (a .effect) f (not-true _ unwritten), behind)
+        let (unwritten, behind) = and-eq-true-iff (not (has (written a) f)) (wanted goal p (drop 1 m) f) .0 x in
+        (has-no-member (written a) f (not-true _ unwritten), behind)
 
 -- a fact that holds after a step that may not write it held before
 held-before : {t : State} (s : State) (a : Action) → result s a ≡ some t → (f : Fact) → (may-write a f → ⊥) → holds t f ≡ true → holds s f ≡ true
 held-before s a done f unwritten h = ⊎-elim (λ written. absurd (unwritten written)) (λ held. held) (written-or-held s a done f h)
 
--- in a valid reduction that keeps the flagged steps a wanted fact holds
-pub wanted-holds : (s : State) (goal : Assignment) (p : List Action) (r m : Reduction) (f : Fact) → length r ≡ length p → valid s goal (kept r p) ≡ true
+-- in a valid reduction that keeps the flagged steps a wanted fact holds, whatever the test at the end, if goal facts hold where it passes
+pub wanted-holds : (ends : State → Bool) (goal : Assignment) → ((t : State) → ends t ≡ true → satisfies t goal ≡ true)
+    → (s : State) (p : List Action) (r m : Reduction) (f : Fact) → length r ≡ length p → valid-for ends s (kept r p) ≡ true
     → Contains r m → wanted goal p m f ≡ true → holds s f ≡ true
 unfolding kept wanted
-wanted-holds s goal [] r m f fits v c w = satisfied-holds s (valid-end s goal v) (has-member goal f w)
-wanted-holds s goal (a ∷ p) [] m f fits v c w = absurd (omega arith)
-wanted-holds s goal (a ∷ p) (false ∷ r) m f fits v c w =
+wanted-holds ends goal met s [] r m f fits v c w = satisfied-holds s (met s (valid-end ends s v)) (has-member goal f w)
+wanted-holds ends goal met s (a ∷ p) [] m f fits v c w = absurd (omega arith)
+wanted-holds ends goal met s (a ∷ p) (false ∷ r) m f fits v c w =
     ⊎-elim
     (λ (flagged, need). absurd (false≢true (c 0 flagged)))
-    (λ (unwritten, behind). wanted-holds s goal p r (drop 1 m) f (omega arith) v (λ i k. c (suc i) (rw keeps-later at k)) behind)
+    (λ (unwritten, behind). wanted-holds ends goal met s p r (drop 1 m) f (omega arith) v (λ i k. c (suc i) (rw keeps-later at k)) behind)
     (wanted-cases goal a p m f w)
-wanted-holds s goal (a ∷ p) (true ∷ r) m f fits v c w =
-    let (t, done, rest) = valid-first s goal a (kept r p) v in
+wanted-holds ends goal met s (a ∷ p) (true ∷ r) m f fits v c w =
+    let (t, done, rest) = valid-first ends s a (kept r p) v in
     ⊎-elim
     (λ (flagged, need). needed-holds s a (result-applicable s a done) need)
     (λ (unwritten, behind).
-    held-before s a done f unwritten (wanted-holds t goal p r (drop 1 m) f (omega arith) rest (λ i k. c (suc i) (rw keeps-later at k)) behind))
+    held-before s a done f unwritten
+    (wanted-holds ends goal met t p r (drop 1 m) f (omega arith) rest (λ i k. c (suc i) (rw keeps-later at k)) behind))
     (wanted-cases goal a p m f w)
 
 -- none of the steps before index n may write f
@@ -91,7 +93,7 @@ wanted-why goal (a ∷ p) m f w =
 wanted-before : (goal : Assignment) (a : Action) (p : List Action) (m : Reduction) (f : Fact) → (may-write a f → ⊥) → wanted goal p (drop 1 m) f ≡ true
     → wanted goal (a ∷ p) m f ≡ true
 unfolding wanted
-wanted-before goal a p m f unwritten h = rw (no-member-has (a .effect) f unwritten, h, or-true)
+wanted-before goal a p m f unwritten h = rw (no-member-has (written a) f unwritten, h, or-true)
 
 goal-wanted : (goal : Assignment) (p : List Action) (m : Reduction) (f : Fact) → List·Memᴰ f goal → Unwritten p (length p) f → wanted goal p m f ≡ true
 unfolding wanted
@@ -100,7 +102,7 @@ goal-wanted goal (a ∷ p) m f g u = wanted-before goal a p m f (u 0 (omega arit
 
 step-wanted : (goal : Assignment) (p : List Action) (m : Reduction) (f : Fact) (j : ℕ) → keeps m j → needs (step p j) f → Unwritten p j f → wanted goal p m f ≡ true
 unfolding wanted
-step-wanted goal [] m f j k need u = absurd (List·Memᴰ·not-nil need)
+step-wanted goal [] m f j k need u = absurd (idle-needs-nothing need)
 step-wanted goal (a ∷ p) m f zero k need u = rw (k, member-has need)
 step-wanted goal (a ∷ p) m f (suc j) k need u =
     wanted-before goal a p m f (u 0 (omega arith)) (step-wanted goal p (drop 1 m) f j (keeps-later m j ∙ k) need (λ i h. u (suc i) (omega arith)))

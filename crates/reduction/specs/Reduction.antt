@@ -1,4 +1,5 @@
--- A reduction of a plan (document 01, "Doing a step, and a valid list"; 01's list is a plan here and its price a cost). Assumes nothing.
+-- A reduction of a plan (document 01, "Doing a step, and a valid list"; 01's list is a plan here and its price a cost).
+-- Assumes nothing.
 use Prim.Native.Nat.{ℕ, suc}
 use mathlib.Core.Path.{_≡_}
 use mathlib.Core.Bool.{Bool, true, false, _&&_, _||_}
@@ -9,7 +10,8 @@ use lib.Dec.{ltb, eqb}
 use Rattle.sas.specs.Task.{Assignment, State, Action}
 use Rattle.sas.specs.Plan.{satisfies, run, cost}
 
--- "A reduction, or striking, strikes none, some or all of its steps and keeps the order of the rest": one Boolean for each lodged step, true where it is kept
+-- "A reduction, or striking, strikes none, some or all of its steps and keeps the order of the rest": one Boolean for
+-- each lodged step, true where it is kept
 abbrev pub Reduction : Type 0
 Reduction = List Bool
 
@@ -34,14 +36,26 @@ count (false ∷ m) = count m
 abbrev pub whole : {A : Type 0} → List A → Reduction
 whole p = replicate (length p) true
 
+-- a list is valid for a test at the end: each step can be done in turn from s, and the state after the last passes
+unfoldable pub valid-for : (State → Bool) → State → List Action → Bool
+valid-for ends s p = elim (run s p) [ none ↦ false | some t ↦ ends t ]
+
+-- a reduction is valid for a test at the end when the list it leaves is
+pub record Valid-for (ends : State → Bool) (s : State) (p : List Action) (m : Reduction) : Type 0 where
+  pub fits : length m ≡ length p
+  pub valid-left : valid-for ends s (kept m p) ≡ true
+
+-- document 01's test at the end: all goal facts hold
+abbrev pub meets : Assignment → State → Bool
+meets goal t = satisfies t goal
+
 -- "A list is valid when each step can be done in turn from the starting values and all goal facts hold after the last."
-unfoldable pub valid : State → Assignment → List Action → Bool
-valid s goal p = elim (run s p) [ none ↦ false | some t ↦ satisfies t goal ]
+abbrev pub valid : State → Assignment → List Action → Bool
+valid s goal p = valid-for (meets goal) s p
 
 -- "A reduction is valid when the list it leaves is."
-pub record Valid-reduction (s : State) (goal : Assignment) (p : List Action) (m : Reduction) : Type 0 where
-  pub fits : length m ≡ length p
-  pub valid-left : valid s goal (kept m p) ≡ true
+abbrev pub Valid-reduction : State → Assignment → List Action → Reduction → Type 0
+Valid-reduction s goal p m = Valid-for (meets goal) s p m
 
 -- of two lists the first has the lower price, or the same price and fewer steps
 unfoldable pub lower : List Action → List Action → Bool

@@ -1,1 +1,2 @@
-// Reductions of a plan, landmarks and action elimination: definitions and theorems alone, in specs/ and proofs/. No code.
+// Reductions of a plan, landmarks and action elimination: definitions and theorems alone, in specs/ and proofs/. No
+// code.

@@ -1,7 +1,7 @@
 -- The laws of the search for the first place, by the cases of a loop from i to end: nothing is left, the place is here, it is further on;
 -- and what a search that found nothing says of every number it passed. Assumes nothing.
 use Prim.Native.Nat.{ℕ, zero, suc, _+_, _-_, _≤_, _<_}
-use mathlib.Core.Path.{_≡_, refl, sym, _∙_}
+use mathlib.Core.Path.{_≡_, refl, sym, _∙_, ap}
 use mathlib.Core.Bool.{Bool, true, false}
 use lib.Dec.{eqb}
 use borrow.Author.Tests.{eqb-true, eqb-false}
@@ -83,3 +83,18 @@ first-of-nowhere f i end = nowhere-among f end i end (omega arith)
 pub first-nowhere : (t : ℕ → Bool) (i end : ℕ) → first t i end ≡ Nowhere → (k : ℕ) → i ≤ k → k < end → t k ≡ false
 unfolding first
 first-nowhere t i end h k low high = when-nowhere (t k) k (first-of-nowhere _ i end h k low high)
+
+-- where f finds no place at any of the n numbers from i on, the search finds none
+none-among : (f : ℕ → Place) (i n : ℕ) → ((k : ℕ) → i ≤ k → k < i + n → f k ≡ Nowhere) → first-of-next f i n ≡ Nowhere
+unfolding first-of-next
+none-among f i zero none = refl
+none-among f i (suc n) none = rw (none i (omega arith) (omega arith), first-of-next) (none-among f (i + 1) n (λ k low high. none k (omega arith) (omega arith)))
+
+pub first-of-none : (f : ℕ → Place) (end : ℕ) → ((k : ℕ) → k < end → f k ≡ Nowhere) → first-of f 0 end ≡ Nowhere
+unfolding first-of
+first-of-none f end none = none-among f 0 (end - 0) (λ k low high. none k (omega arith))
+
+-- nor is there one where a test is false at every number
+pub no-first : (t : ℕ → Bool) (end : ℕ) → ((k : ℕ) → k < end → t k ≡ false) → first t 0 end ≡ Nowhere
+unfolding first
+no-first t end none = first-of-none _ end (λ k h. ap (λ b. when b k) (none k h))

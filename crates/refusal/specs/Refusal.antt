@@ -2,7 +2,9 @@
 use Prim.Native.Nat.{ℕ}
 use mathlib.Core.Option.{Option, none, some}
 use Rattle.refusal.specs.declared.Refusal.{Refusal}
-use Rattle.refusal.specs.declared.Refusal.the-variants.{Length, Edition, Counts, Pair, Variable, Fact, Cost, PlanLength, UnknownAction, ShortOutput, NotAPlan, Unmarked}
+use Rattle.refusal.specs.declared.Refusal.the-variants.{Length, Edition, Counts, Pair, Variable, Fact, Cost}
+use Rattle.refusal.specs.declared.Refusal.the-variants.{PlanLength, UnknownAction, ShortOutput, NotAPlan}
+use Rattle.refusal.specs.declared.Refusal.the-variants.{Unmarked}
 use Rattle.refusal.specs.declared.Verdict.{Verdict}
 use Rattle.refusal.specs.declared.Verdict.the-variants.{Passed, Refused}
 

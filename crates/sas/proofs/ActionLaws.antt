@@ -1,23 +1,19 @@
 -- What theorems about plans use of an action, and all that they use: the facts that it may write and those that it needs, and what holds between a
--- state and its result. For another kind of action these laws are proved again, with those of domains and of padding, which look into its effect too.
--- That the facts of a satisfied goal hold is `satisfied-holds`. By the laws of `assign`. Assumes nothing.
+-- state and its result. For another kind of action these laws are proved again, with those of domains, which look into its effect too. That the facts of a
+-- satisfied goal hold is `satisfied-holds`. By the laws of `assign`. Assumes nothing.
 use mathlib.Core.Path.{_≡_, refl, sym, _∙_}
-use mathlib.Core.Logic.{_⊎_, ⊎-elim}
+use Prim.Native.Nat.{ℕ, _<_}
+use mathlib.Core.Logic.{_⊎_, ⊎-elim, _≢_}
 use mathlib.Core.Bool.{Bool, true, false, true≢false}
 use mathlib.Core.Option.{none, some, Option·some-ne-none}
-use mathlib.Core.List.{List·Memᴰ}
-use Rattle.sas.specs.Task.{Fact, State, Action}
-use Rattle.sas.specs.Plan.{holds, applicable, apply, result}
+use mathlib.Core.List.{List, List·Memᴰ·not-nil}
+use lib.ListN.{length, getD}
+use Rattle.sas.specs.Task.{Fact, State, Action, idle}
+use Rattle.sas.specs.Plan.{holds, satisfies, applicable, apply, result, written, needed, may-write, needs}
+use Rattle.sas.specs.WellFormed.{Known, Action-formed}
 use Rattle.sas.proofs.FactLaws.{satisfied-holds}
-use Rattle.sas.proofs.AssignLaws.{assigned-or-held}
-
--- a fact that an action may make true: one of its effect
-abbrev pub may-write : Action → Fact → Type 0
-may-write a f = List·Memᴰ f (a .effect)
-
--- a fact that must hold where an action is applied: one of its precondition
-abbrev pub needs : Action → Fact → Type 0
-needs a f = List·Memᴰ f (a .precondition)
+use Rattle.sas.proofs.WellFormedLaws.{rising-known}
+use Rattle.sas.proofs.AssignLaws.{assign-length, assign-other, assigned-holds, assigned-or-held}
 
 pub result-applied : (s : State) (a : Action) → applicable s a ≡ true → result s a ≡ some (apply s a)
 unfolding result
@@ -47,13 +43,52 @@ no-result-inapplicable s a h = by-case (applicable s a) refl
 pub result-assigned : {t : State} (s : State) (a : Action) → result s a ≡ some t → t ≡ apply s a
 result-assigned s a h = cc (result-applied s a (result-applicable s a h))
 
+-- an action is applicable just where what it needs is satisfied
+pub applicable-needed : (s : State) (a : Action) → applicable s a ≡ satisfies s (needed a)
+unfolding applicable needed
+applicable-needed s a = refl
+
 -- what an action needs holds where it is applicable
 pub needed-holds : {f : Fact} (s : State) (a : Action) → applicable s a ≡ true → needs a f → holds s f ≡ true
-unfolding applicable
+unfolding applicable needed
 needed-holds s a h m = satisfied-holds s h m
+
+pub idle-writes-nothing : {f : Fact} → may-write idle f → ⊥
+unfolding written
+idle-writes-nothing w = List·Memᴰ·not-nil w
+
+pub idle-needs-nothing : {f : Fact} → needs idle f → ⊥
+unfolding needed
+idle-needs-nothing n = List·Memᴰ·not-nil n
+
+-- what an action does keeps the number of variables
+pub apply-length : (s : State) (a : Action) → length (apply s a) ≡ length s
+unfolding apply
+apply-length s a = assign-length s (a .effect)
+
+-- and every variable that it may not write
+pub apply-other : (s : State) (a : Action) (v : ℕ) → ((f : Fact) → may-write a f → f .variable ≢ v) → getD (apply s a) v 0 ≡ getD s v 0
+unfolding apply written
+apply-other s a v h = assign-other s (a .effect) v h
+
+module _ {domains : List ℕ} {f : Fact} (a : Action) (formed : Action-formed domains a) where
+  -- what an action over the domains writes holds after it
+  pub apply-holds : (s : State) → may-write a f → f .variable < length s → holds (apply s a) f ≡ true
+  unfolding apply written
+  apply-holds s w below = assigned-holds s (formed .effect) w below
+
+  -- and is known, as is what it needs
+  pub written-known : may-write a f → Known domains f
+  unfolding written
+  written-known w = rising-known (formed .effect) w
+
+  pub needed-known : needs a f → Known domains f
+  unfolding needed
+  needed-known n = rising-known (formed .precondition) n
 
 module _ {t : State} (s : State) (a : Action) (applied : result s a ≡ some t) where
   pub written-or-held : (f : Fact) → holds t f ≡ true → may-write a f ⊎ (holds s f ≡ true)
+  unfolding apply written
   written-or-held f h = assigned-or-held s (a .effect) f (rw (result-assigned s a applied) at h)
 
   -- a false fact stays false under an action that may not write it

@@ -3,6 +3,7 @@
 use Prim.Native.Nat.{_≤_, _<_}
 use mathlib.Core.Path.{_≡_, refl, sym, _∙_}
 use mathlib.Core.Bool.{Bool, true, false, true≢false, and-eq-true-iff}
+use mathlib.Core.Option.{none, some}
 use mathlib.Core.List.{[], _∷_, List·Memᴰ, List·Memᴰ·head, List·Memᴰ·tail}
 use lib.ListN.{length, getD}
 use lib.Dec.{ltb, eqb}
@@ -34,9 +35,28 @@ pub holds-unknown : (s : State) (f : Fact) → length s ≤ f .variable → hold
 unfolding holds
 holds-unknown s f h = rw (le-ltb (f .variable) (length s) h)
 
-pub satisfies-nothing : (s : State) → satisfies s [] ≡ true
-unfolding satisfies first-failing
-satisfies-nothing s = refl
+pub first-failing-nothing : (s : State) → first-failing s [] ≡ none
+unfolding first-failing
+first-failing-nothing s = refl
+
+-- a fact that holds is passed
+pub first-failing-more : (s : State) (f : Fact) (q : Assignment) → holds s f ≡ true → first-failing s (f ∷ q) ≡ first-failing s q
+unfolding first-failing
+first-failing-more s f q h = rw (h, first-failing)
+
+-- one that does not is the first
+pub first-failing-here : (s : State) (f : Fact) (q : Assignment) → holds s f ≡ false → first-failing s (f ∷ q) ≡ some f
+unfolding first-failing
+first-failing-here s f q h = rw (h, first-failing)
+
+-- an assignment is satisfied just where no fact fails
+pub none-failing : (s : State) (q : Assignment) → first-failing s q ≡ none → satisfies s q ≡ true
+unfolding satisfies
+none-failing s q h = rw (h, satisfies)
+
+pub one-failing : {f : Fact} (s : State) (q : Assignment) → first-failing s q ≡ some f → satisfies s q ≡ false
+unfolding satisfies
+one-failing s q h = rw (h, satisfies)
 
 pub satisfies-more : (s : State) (f : Fact) (q : Assignment) → holds s f ≡ true → satisfies s (f ∷ q) ≡ satisfies s q
 unfolding satisfies first-failing

@@ -8,7 +8,5 @@ pub mod AssignLaws
 pub mod ActionLaws
 -- RunLaws: what a sequence of actions does, and that it keeps within the domains.
 pub mod RunLaws
--- PadLaws: zeros at the end of a state change nothing.
-pub mod PadLaws
 -- Faults: a sequence that reaches no state is stuck at one position.
 pub mod Faults

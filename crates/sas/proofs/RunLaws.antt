@@ -2,14 +2,14 @@
 -- domains, by list induction. Assumes nothing.
 use Prim.Native.Nat.{ℕ}
 use mathlib.Core.Path.{_≡_, refl, sym, _∙_, ap}
-use mathlib.Core.Bool.{true, false}
+use mathlib.Core.Bool.{true}
 use mathlib.Core.Option.{Option, none, some, Option·some-ne-none}
 use mathlib.Core.List.{List, [], _∷_, _++_, List·Memᴰ, List·Memᴰ·head, List·Memᴰ·tail}
 use Rattle.sas.specs.Task.{State, Action, Task}
 use Rattle.sas.specs.Plan.{applicable, apply, result, run}
 use Rattle.sas.specs.WellFormed.{Within, Action-formed, Well-formed}
 use Rattle.sas.proofs.WellFormedLaws.{Actions-formed, assign-within}
-use Rattle.sas.proofs.ActionLaws.{result-applied, result-stuck, result-assigned}
+use Rattle.sas.proofs.ActionLaws.{result-applied, result-assigned}
 
 pub run-nothing : (s : State) → run s [] ≡ some s
 unfolding run
@@ -30,9 +30,6 @@ run-no-result s a p h = rw (h, run)
 pub run-applied : (s : State) (a : Action) (p : List Action) → applicable s a ≡ true → run s (a ∷ p) ≡ run (apply s a) p
 run-applied s a p h = run-result s (apply s a) a p (result-applied s a h)
 
-pub run-stuck : (s : State) (a : Action) (p : List Action) → applicable s a ≡ false → run s (a ∷ p) ≡ none
-run-stuck s a p h = run-no-result s a p (result-stuck s a h)
-
 -- the first action of a sequence that runs has a result, from which the rest runs
 pub run-first : {u : State} (s : State) (a : Action) (p : List Action) → run s (a ∷ p) ≡ some u
     → (t : State) × (result s a ≡ some t) × (run t p ≡ some u)
@@ -48,6 +45,7 @@ run-append s t (a ∷ p) q h = let (u, first, rest) = run-first s a p h in run-r
 
 -- an action over the domains keeps a state within them
 pub result-within : {domains : List ℕ} {s t : State} (a : Action) → Action-formed domains a → Within domains s → result s a ≡ some t → Within domains t
+unfolding apply
 result-within {s} a formed within h = rw (result-assigned s a h) (assign-within (formed .effect) within)
 
 run-stays-within : {domains : List ℕ} {s t : State} (p : List Action) → Actions-formed domains p → Within domains s → run s p ≡ some t → Within domains t

@@ -12,6 +12,21 @@ use Rattle.sas.specs.Task.{Fact, Assignment, State, Action, Task}
 unfoldable pub holds : State → Fact → Bool
 holds s f = ltb (f .variable) (length s) && eqb (getD s (f .variable) 0) (f .value)
 
+-- the facts that an action may make true: those of its effect. Above this crate no definition and no theorem looks into
+-- an effect: they speak of these facts and of those needed, by the laws of proofs/ActionLaws.
+unfoldable pub written : Action → Assignment
+written a = a .effect
+
+-- the facts that must hold where an action is applied: those of its precondition
+unfoldable pub needed : Action → Assignment
+needed a = a .precondition
+
+abbrev pub may-write : Action → Fact → Type 0
+may-write a f = List·Memᴰ f (written a)
+
+abbrev pub needs : Action → Fact → Type 0
+needs a f = List·Memᴰ f (needed a)
+
 -- the first fact of an assignment that does not hold in a state
 unfoldable pub first-failing : State → Assignment → Option Fact
 first-failing s [] = none
@@ -31,7 +46,7 @@ assign s [] = s
 assign s (f ∷ e) = assign (set s (f .variable) (f .value)) e
 
 -- the state that an action makes of a state: its effect is assigned
-abbrev pub apply : State → Action → State
+unfoldable pub apply : State → Action → State
 apply s a = assign s (a .effect)
 
 -- γ(s, a), the result of an action: undefined where the action is not applicable

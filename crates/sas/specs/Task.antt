@@ -1,6 +1,6 @@
 -- A planning task in SAS+. Nothing here knows how a task is written down. Assumes nothing.
 use Prim.Native.Nat.{ℕ}
-use mathlib.Core.List.{List}
+use mathlib.Core.List.{List, []}
 
 -- an assignment of one variable, or fact: the variable, and the value it has
 pub record Fact : Type 0 where
@@ -20,6 +20,10 @@ pub record Action : Type 0 where
   pub precondition : Assignment
   pub effect : Assignment
   pub cost : ℕ
+
+-- an action that needs nothing and does nothing, at no cost
+abbrev pub idle : Action
+idle = record { precondition = []; effect = []; cost = 0 }
 
 -- a planning task (V, A, I, G): variable v has the values below its domain size, at index v
 pub record Task : Type 0 where

@@ -1,4 +1,5 @@
--- A well-formed task: its facts are of known variables and values, and each assignment names a variable once. Assumes nothing.
+-- A well-formed task: its facts are of known variables and values, and each assignment names a variable once. Assumes
+-- nothing.
 use Prim.Native.Nat.{ℕ, suc, _≤_, _<_}
 use mathlib.Core.Path.{_≡_}
 use mathlib.Core.List.{List, [], _∷_, List·Memᴰ}
@@ -13,7 +14,8 @@ pub record Known (domains : List ℕ) (f : Fact) : Type 0 where
 -- an assignment of known facts whose variables rise strictly, the first being `from` or above
 pub data Rising (domains : List ℕ) : ℕ → Assignment → Type 0 where
   empty : {from : ℕ} → Rising domains from []
-  fact : {from : ℕ} {f : Fact} {q : Assignment} → Known domains f → from ≤ f .variable → Rising domains (suc (f .variable)) q → Rising domains from (f ∷ q)
+  fact : {from : ℕ} {f : Fact} {q : Assignment} → Known domains f → from ≤ f .variable
+      → Rising domains (suc (f .variable)) q → Rising domains from (f ∷ q)
 
 -- a state within the domains: it has just the task's variables, each at a value of its domain
 pub record Within (domains : List ℕ) (s : State) : Type 0 where

@@ -1,24 +1,29 @@
--- The search from the starting values: it begins with the flagged steps kept and the lodged plan as the best, and so finds what the search of `exact` finds.
--- What the code calls is a variable here, with what is known of it as a premise. Assumes nothing.
-use Prim.Native.Nat.{ℕ, _≤_, _<_}
+-- The search from the starting values: what the code tests is sound, by the laws of its cuts, and it begins with the flagged steps kept and the lodged plan as
+-- the best. So it finds the minimal reduction. What the code calls is a variable here, with what is known of it as a premise. Assumes nothing.
+use Prim.Native.Nat.{ℕ, _<_}
 use native.Mathlib.Omega.{arith}
 use mathlib.Core.Path.{_≡_, refl, sym, _∙_}
 use mathlib.Core.Bool.{true}
 use mathlib.Core.List.{List, []}
 use lib.ListN.{length, length-replicate, length-map}
-use Rattle.sas.specs.Task.{State}
-use Rattle.reduction.specs.Reduction.{Reduction, whole}
-use Rattle.reduction.specs.Search.Turn.{strike, keep}
+use Rattle.reduction.specs.Reduction.{Reduction, whole, meets}
+use Rattle.reduction.specs.Sound.{Flags-kept, Sound}
 use Rattle.reduction.proofs.TurnLaws.{search-turns}
-use Rattle.sheet.specs.Decode.{goal, action}
+use Rattle.reduction.proofs.CutLaws.{bound-cut, wanted-cut}
+use Rattle.reduction.proofs.SearchTheorem.{search-finds}
+use Rattle.sheet.specs.Decode.{initial, goal, action}
+use Rattle.step.specs.State.{front, in-array}
+use Rattle.step.proofs.StateLaws.{front-initial}
 use Rattle.plan.specs.Limits.{most-steps}
-use Rattle.plan.specs.Valid.{steps}
-use Rattle.cuts.specs.Bits.{bits-walked, goal-table}
-use Rattle.service.specs.declared.finish.Kept.{Kept}
-use Rattle.service.specs.Held.{start, mask, held, Leaves}
-use Rattle.service.proofs.HeldLaws.{leaves}
-use Rattle.search.specs.Told.{Tells, Ready, Turns, Finds}
 use Rattle.plan.specs.Readable.{Readable}
+use Rattle.plan.specs.Valid.{steps}
+use Rattle.cuts.specs.Bits.{Told-wanted}
+use Rattle.cuts.proofs.BitTheorem.{wanted-bars}
+use Rattle.service.specs.declared.finish.Kept.{Kept}
+use Rattle.service.specs.Held.{mask, held, Leaves}
+use Rattle.service.proofs.HeldLaws.{leaves}
+use Rattle.search.specs.Told.{Tells, code-tests, Ready, Finds}
+use Rattle.search.proofs.TurnsLaws.{Both-told}
 
 -- the flags of the lodged plan
 pub lodged-leaves : (l : List ℕ) (flags : Reduction) → flags ≡ held l (whole l) → Leaves l (whole l) flags
@@ -33,15 +38,26 @@ module _ (w l : List ℕ) (k : Kept) where
       → Tells w l (whole l) k
   lodged-told flags is told readable = let left : Leaves l (whole l) flags = lodged-leaves l flags is in rw (left .same) at (told readable (left .fits))
 
-pub finds : (w l : List ℕ) (g : Reduction) (bits : List ℕ) (s : State) (kept lodged first after : Kept) → (length l ≤ most-steps → bits ≡ bits-walked w (goal-table w) l g)
-    → (Readable w l → length g ≡ length l → Tells w l g kept) → (Readable w l → Tells w l (whole l) lodged) → s ≡ start w
-    → Turns w l g bits strike 0 s kept lodged first → Turns w l g bits keep 0 s kept first after → Finds w l g after
-finds w l g bits s kept lodged first after packs told whole-told starts strikes keeps =
+-- what the code tests is sound
+pub code-sound : (w l : List ℕ) (flags : Reduction) (bits : List ℕ) → Readable w l → length flags ≡ length l → Told-wanted w l flags bits
+    → Flags-kept (meets (goal w)) (initial w) (steps w l) flags → Sound (code-tests w l flags bits) (initial w) (steps w l)
+code-sound w l flags bits readable fits told flagged =
     record {
-      tells = λ readable fits.
-          let ready : Ready w l g bits = record { readable = readable; fits = fits; packed = packs (readable .few) } in
-          let g-told : Tells w l g kept = told readable fits in
+      fits = fits ∙ sym (length-map l (action w));
+      flagged = flagged;
+      strikes = wanted-cut flagged (goal w) _ (λ t e. e) (λ v inside visited. wanted-bars w l flags readable bits told v (rw length-map at inside));
+      keeps = bound-cut flagged;
+    }
+
+pub finds : (w l : List ℕ) (flags : Reduction) (bits values : List ℕ) (kept lodged after : Kept) → Told-wanted w l flags bits
+    → (Readable w l → length flags ≡ length l → Tells w l flags kept) → (Readable w l → Tells w l (whole l) lodged) → values ≡ in-array (initial w)
+    → Both-told w l flags bits 0 (front w values) kept lodged after → Finds w l flags after
+finds w l flags bits values kept lodged after packs told whole-told starts both =
+    record {
+      tells = λ readable fits flagged.
+          let ready : Ready w l flags = record { readable = readable; fits = fits } in
           let whole-steps : whole (steps w l) ≡ whole l = rw length-map in
-          rw (search-turns (start w) (goal w) (steps w l) g, whole-steps, ← starts)
-          (keeps .tells ready g _ g-told refl (strikes .tells ready g (whole l) g-told refl (whole-told readable)));
+          let begins : front w values ≡ initial w = rw starts (front-initial w (readable .accepted)) in
+          rw (← search-finds (code-tests w l flags bits) (initial w) (steps w l) (code-sound w l flags bits readable fits packs flagged), search-turns, whole-steps, ← begins)
+          (both .tells ready flags (whole l) (told readable fits) refl (whole-told readable));
     }

@@ -2,5 +2,5 @@
 pub mod SoFarLaws
 -- TurnsLaws: what each way through the two turns makes of the reduction so far and the best.
 pub mod TurnsLaws
--- BestLaws: the search from the starting values.
+-- BestLaws: what the code tests is sound, and so its search from the starting values finds the minimal reduction.
 pub mod BestLaws

@@ -84,14 +84,14 @@ tally-more w l m i c readable fits h down price =
     let (cheap, few) = left-bounded w l (set m i true) readable long in
     counted (tally-left w l m) c (omega (arith, kept-count w l (set m i true) readable long)) (omega arith) ∙ same-tally _ _ (omega arith) (omega arith)
 
-module _ (w l : List ℕ) (g : Reduction) (i : ℕ) (k : Kept) (up : Bool) (read : up ≡ getD g i false) where
+module _ (w l : List ℕ) (flags : Reduction) (i : ℕ) (k : Kept) (up : Bool) (read : up ≡ getD flags i false) where
   -- a flagged step is kept already
-  pub kept-already : up ≡ true → Keeps-step w l g i k k
+  pub kept-already : up ≡ true → Keeps-step w l flags i k k
   kept-already e = record { tells = λ readable h m tells same. let here : set m i true ≡ m = rw (same ∙ sym read ∙ e) at (set-getD m i false) in rw here tells }
 
   -- another is added
   pub kept-more : (a c : ℕ) (t : Tally) (words : List ℕ) → up ≡ false → a ≡ getD l i 0 → c ≡ cost-word w a → t ≡ one-more (k .tally) c → words ≡ with-bit (k .mask .words) i
-      → Keeps-step w l g i k (record { tally = t; mask = record { words = words } })
+      → Keeps-step w l flags i k (record { tally = t; mask = record { words = words } })
   kept-more a c t words e action price adds raises =
       record {
         tells = λ readable h m tells same.

@@ -1,144 +1,191 @@
--- What each way through the two turns makes of the reduction so far and the best, by the laws of the turns of `exact`: the code's tests are theirs, and what
--- it calls at the next step is theirs there. What the code calls is a variable here, with what is known of it as a premise. Assumes nothing.
-use Prim.Native.Nat.{ℕ, _+_, _≤_, _<_}
-use native.Mathlib.Nat.{add-zero}
+-- What each way through the two turns makes of the reduction so far and the best, by the laws of the turns of the search: the code's tests are theirs, and
+-- what it calls at the next step is theirs there. What the code calls is a variable here, with what is known of it as a premise. Assumes nothing.
+use Prim.Native.Nat.{ℕ, zero, suc, _+_, _≤_, _<_}
 use native.Mathlib.Omega.{arith}
-use mathlib.Core.Path.{_≡_, sym, _∙_, ap}
-use mathlib.Core.Bool.{Bool, true, false}
-use mathlib.Core.List.{List, [], _∷_}
-use lib.ListN.{length, getD, set, drop, drop-of-length-le}
-use lib.Seq.{getD-drop, drop-drop, drop-set-lt}
-use Rattle.sas.specs.Task.{State, Action}
+use mathlib.Core.Path.{_≡_, refl, sym, _∙_, ap}
+use mathlib.Core.Bool.{Bool, true, false, false≢true}
+use mathlib.Core.List.{List, [], _∷_, _++_}
+use lib.ListN.{length, getD, set, take, drop, drop-of-length-le, List·getD-eq-default}
+use lib.Seq.{drop-drop, drop-set-lt}
+use lib.Dec.{ltb}
+use borrow.Author.Tests.{ltb-true, ltb-false}
+use Rattle.sas.specs.Task.{State}
 use Rattle.sas.specs.Plan.{satisfies, applicable, apply}
+use Rattle.sas.proofs.ActionLaws.{apply-length}
 use Rattle.reduction.specs.Reduction.{Reduction, kept, lower}
-use Rattle.reduction.specs.Search.{may-strike}
+use Rattle.reduction.specs.Search.{Tests, bound}
 use Rattle.reduction.specs.Search.Turn.{strike, keep}
-use Rattle.reduction.proofs.TurnLaws.{strike-met, strike-unmet, strike-not-lower, keep-end, strike-barred, strike-goes-on, keep-stuck, keep-not-lower, keep-goes-on}
+use Rattle.reduction.proofs.ReductionLaws.{alike-behind}
+use Rattle.reduction.proofs.TurnLaws.{turns, strike-met, strike-unmet, strike-not-lower, keep-end}
+use Rattle.reduction.proofs.TurnLaws.{strike-flagged, strike-barred, strike-goes-on, keep-stuck, keep-barred, keep-goes-on}
 use Rattle.tally.specs.Tally.{comparison}
 use Rattle.sheet.specs.Decode.{goal, action}
 use Rattle.step.specs.Advance.{Advances}
+use Rattle.step.specs.State.{state-size, front}
 use Rattle.plan.specs.Valid.{steps}
 use Rattle.plan.proofs.FaultLaws.{drop-next}
 use Rattle.cuts.specs.Bits.{strikes}
-use Rattle.cuts.proofs.BitTheorem.{strikes-right}
 use Rattle.service.specs.declared.finish.Kept.{Kept}
 use Rattle.service.specs.Tallied.{is-less}
-use Rattle.search.specs.Told.{Tells, Keeps-step, Ready, Turns}
+use Rattle.search.specs.Told.{Tells, Keeps-step, code-tests, visit, Ready, Turn-told}
 use Rattle.search.proofs.SoFarLaws.{tells-lower}
 
--- what two reductions have from index i on alike they have from the next on, and at i
+-- what two reductions have from index i on alike they have from the next on
 alike-later : (m g : Reduction) (i : ℕ) → drop i m ≡ drop i g → drop (i + 1) m ≡ drop (i + 1) g
 alike-later m g i same = sym (drop-drop 1 i m) ∙ ap (drop 1) same ∙ drop-drop 1 i g
 
-alike-here : (m g : Reduction) (i : ℕ) → drop i m ≡ drop i g → getD m i false ≡ getD g i false
-alike-here m g i same =
-    let first : (r : Reduction) → getD (drop i r) 0 false ≡ getD r i false = λ r. rw add-zero at (getD-drop i r 0 false) in
-    sym (first m) ∙ ap (λ r. getD r 0 false) same ∙ first g
+-- as many values laid over the front of others are the front
+front-laid : (n : ℕ) (s t : List ℕ) → length t ≡ length (take n s) → take n (t ++ drop n s) ≡ t
+front-laid zero s [] h = refl
+front-laid zero s (x ∷ t) h = absurd (omega arith)
+front-laid (suc n) [] [] h = refl
+front-laid (suc n) [] (x ∷ t) h = absurd (omega arith)
+front-laid (suc n) (y ∷ s) [] h = absurd (omega arith)
+front-laid (suc n) (y ∷ s) (x ∷ t) h = ap (λ r. x ∷ r) (front-laid n s t (omega arith))
 
-module _ (w l : List ℕ) (g : Reduction) (bits : List ℕ) (i : ℕ) (s : State) (k best : Kept) where
+-- the part of an array that a turn lends is the state that the array holds
+pub lent-front : (w values copy lent : List ℕ) (n : ℕ) → copy ≡ values → n ≡ state-size w → lent ≡ take n copy → lent ≡ front w values
+lent-front w values copy lent n copies fits part = part ∙ rw (copies, fits)
+
+-- a flag that is read as down
+pub unflagged : (up flag : Bool) → up ≡ flag → up ≡ false → flag ≡ false
+unflagged up flag read e = sym read ∙ e
+
+-- a flag that is up is that of a step
+up-inside : (flags : Reduction) (i : ℕ) → getD flags i false ≡ true → i < length flags
+up-inside flags i up = by-case (ltb i (length flags)) refl
+  where
+    by-case : (b : Bool) → ltb i (length flags) ≡ b → i < length flags
+    by-case true e = ltb-true i (length flags) e
+    by-case false e = absurd (false≢true (sym (List·getD-eq-default flags false {n = i} (ltb-false i (length flags) e)) ∙ up))
+
+-- the step at index i comes next
+steps-next : (w l : List ℕ) (i : ℕ) → i < length l → steps w (drop i l) ≡ action w (getD l i 0) ∷ steps w (drop (i + 1) l)
+steps-next w l i h = rw (drop-next l i h)
+
+-- both turns at index i, as `Turn-told` has one of them
+pub record Both-told (w l : List ℕ) (flags : Reduction) (bits : List ℕ) (i : ℕ) (s : State) (so-far best after : Kept) : Type 0 where
+  pub tells : Ready w l flags → (m b : Reduction) → Tells w l m so-far → drop i m ≡ drop i flags → Tells w l b best
+      → Tells w l (turns (code-tests w l flags bits) (steps w l) (steps w (drop i l)) (visit i s m b)) after
+
+module _ (w l : List ℕ) (flags : Reduction) (bits : List ℕ) (i : ℕ) (s : State) (k best : Kept) where
+  abbrev T : Tests
+  T = code-tests w l flags bits
+
+  -- a flagged step has only the keeping turn
+  pub flagged-told : (up : Bool) (after : Kept) → up ≡ getD flags i false → up ≡ true → Turn-told w l flags bits keep i s k best after
+      → Both-told w l flags bits i s k best after
+  flagged-told up after read e keeps =
+      record {
+        tells = λ ready m b tells same told.
+            let inside : i < length l = omega (arith, up-inside flags i (sym read ∙ e), ready .fits) in
+            rw (steps-next w l i inside, strike-flagged T (steps w l) _ _ (visit i s m b) (sym read ∙ e)) (rw (steps-next w l i inside) at (keeps .tells ready m b tells same told));
+      }
+
+  pub both-told : (first after : Kept) → Turn-told w l flags bits strike i s k best first → Turn-told w l flags bits keep i s k first after
+      → Both-told w l flags bits i s k best after
+  both-told first after strikes-first then-keeps =
+      record { tells = λ ready m b tells same told. then-keeps .tells ready m _ tells same (strikes-first .tells ready m b tells same told) }
+
   -- no step is left
   module _ (over : length l ≤ i) where
     none-left : steps w (drop i l) ≡ []
     none-left = rw (drop-of-length-le l over)
 
-    pub kept-to-end : Turns w l g bits keep i s k best best
-    kept-to-end = record { tells = λ ready m b tells same told. rw (none-left, keep-end (goal w) (steps w l) i (drop i g) s m b) told }
+    pub kept-to-end : Turn-told w l flags bits keep i s k best best
+    kept-to-end = record { tells = λ ready m b tells same told. rw (none-left, keep-end T (steps w l) (visit i s m b)) told }
 
     module _ (low : Bool) (compared : low ≡ is-less (comparison (k .tally) (best .tally))) where
-      pub not-lower-at-end : low ≡ false → Turns w l g bits strike i s k best best
+      lower-told : Ready w l flags → (m b : Reduction) → Tells w l m k → Tells w l b best → lower (kept m (steps w l)) (kept b (steps w l)) ≡ low
+      lower-told ready m b tells told = sym (tells-lower w l m b k best (ready .readable) tells told) ∙ sym compared
+
+      pub not-lower-at-end : low ≡ false → Turn-told w l flags bits strike i s k best best
       not-lower-at-end e =
           record {
             tells = λ ready m b tells same told.
-                let not-lower : lower (kept m (steps w l)) (kept b (steps w l)) ≡ false = sym (tells-lower w l m b k best (ready .readable) tells told) ∙ sym compared ∙ e in
-                rw (none-left, strike-not-lower (goal w) (steps w l) i (drop i g) s m b not-lower) told;
+                rw (none-left, strike-not-lower T (steps w l) (visit i s m b) (lower-told ready m b tells told ∙ e)) told;
           }
 
-      module _ (is-lower : low ≡ true) (met : Bool) (goal-met : met ≡ satisfies s (goal w)) where
-        pub unmet-at-end : met ≡ false → Turns w l g bits strike i s k best best
+      module _ (is-lower : low ≡ true) (met : Bool) (lent : State) (fronts : lent ≡ s) (goal-met : met ≡ satisfies lent (goal w)) where
+        pub unmet-at-end : met ≡ false → Turn-told w l flags bits strike i s k best best
         unmet-at-end e =
-            record { tells = λ ready m b tells same told. rw (none-left, strike-unmet (goal w) (steps w l) i (drop i g) s m b (sym goal-met ∙ e)) told }
+            record {
+              tells = λ ready m b tells same told. rw (none-left, strike-unmet T (steps w l) (visit i s m b) (rw fronts at (sym goal-met ∙ e))) told;
+            }
 
-        pub met-at-end : met ≡ true → Turns w l g bits strike i s k best k
+        pub met-at-end : met ≡ true → Turn-told w l flags bits strike i s k best k
         met-at-end e =
             record {
               tells = λ ready m b tells same told.
-                  let lower-yet : lower (kept m (steps w l)) (kept b (steps w l)) ≡ true = sym (tells-lower w l m b k best (ready .readable) tells told) ∙ sym compared ∙ is-lower in
-                  rw (none-left, strike-met (goal w) (steps w l) i (drop i g) s m b lower-yet (sym goal-met ∙ e)) tells;
+                  rw (none-left, strike-met T (steps w l) (visit i s m b) (lower-told ready m b tells told ∙ is-lower) (rw fronts at (sym goal-met ∙ e))) tells;
             }
 
-  -- the step at index i comes next
+  -- the step at index i is left
   module _ (h : i < length l) where
-    abbrev here : Action
-    here = action w (getD l i 0)
-
-    abbrev behind : List Action
-    behind = steps w (drop (i + 1) l)
-
-    steps-next : steps w (drop i l) ≡ here ∷ behind
-    steps-next = rw (drop-next l i h)
-
-    flags-next : drop 1 (drop i g) ≡ drop (i + 1) g
-    flags-next = drop-drop 1 i g
-
     -- a striking turn
-    module _ (may : Bool) (tested : may ≡ strikes w l g bits s i) where
-      test-right : Ready w l g bits → may-strike (goal w) s here behind (drop i g) ≡ may
-      test-right ready = sym (strikes-right w l g s i (ready .readable .accepted) (ready .readable .known) h) ∙ rw (← ready .packed) (sym tested)
-
-      pub not-struck : may ≡ false → Turns w l g bits strike i s k best best
+    module _ (may : Bool) (lent : State) (fronts : lent ≡ s) (tested : may ≡ strikes w l bits i lent) where
+      pub not-struck : may ≡ false → Turn-told w l flags bits strike i s k best best
       not-struck e =
-          record { tells = λ ready m b tells same told. rw (steps-next, strike-barred (goal w) (steps w l) i here behind (drop i g) s m b (test-right ready ∙ e)) told }
+          record {
+            tells = λ ready m b tells same told. rw (steps-next w l i h, strike-barred T (steps w l) _ _ (visit i s m b) (rw fronts at (sym tested ∙ e))) told;
+          }
 
-      pub struck : (first after : Kept) → may ≡ true → Turns w l g bits strike (i + 1) s k best first → Turns w l g bits keep (i + 1) s k first after
-          → Turns w l g bits strike i s k best after
-      struck first after e strikes-first then-keeps =
+      pub struck : (after : Kept) → getD flags i false ≡ false → may ≡ true → Both-told w l flags bits (i + 1) s k best after
+          → Turn-told w l flags bits strike i s k best after
+      struck after down e both =
           record {
             tells = λ ready m b tells same told.
-                let later : drop (i + 1) m ≡ drop (i + 1) g = alike-later m g i same in
-                rw (steps-next, strike-goes-on (goal w) (steps w l) i here behind (drop i g) s m b (test-right ready ∙ e), flags-next)
-                (then-keeps .tells ready m _ tells later (strikes-first .tells ready m b tells later told));
+                rw (steps-next w l i h, strike-goes-on T (steps w l) _ _ (visit i s m b) down (rw fronts at (sym tested ∙ e)))
+                (both .tells ready m b tells (alike-later m flags i same) told);
           }
 
     -- a keeping turn
-    module _ (with : Kept) (low : Bool) (keeps : Keeps-step w l g i k with) (compared : low ≡ is-less (comparison (with .tally) (best .tally))) where
-      module _ (ready : Ready w l g bits) (m b : Reduction) (tells : Tells w l m k) (same : drop i m ≡ drop i g) (told : Tells w l b best) where
+    module _ (with : Kept) (low : Bool) (keeps : Keeps-step w l flags i k with) (compared : low ≡ is-less (comparison (with .tally) (best .tally))) where
+      abbrev bound-at : Reduction → Reduction → Bool
+      bound-at m b = bound (steps w l) (visit i s m b)
+
+      module _ (ready : Ready w l flags) (m b : Reduction) (tells : Tells w l m k) (same : drop i m ≡ drop i flags) (told : Tells w l b best) where
         with-told : Tells w l (set m i true) with
-        with-told = keeps .tells (ready .readable) h m tells (alike-here m g i same)
+        with-told = keeps .tells (ready .readable) h m tells (alike-behind m flags i i same (omega arith))
 
-        lower-right : lower (kept (set m i true) (steps w l)) (kept b (steps w l)) ≡ low
-        lower-right = sym (tells-lower w l (set m i true) b with best (ready .readable) with-told told) ∙ sym compared
+        lower-with : bound-at m b ≡ low
+        unfolding bound
+        lower-with = sym (tells-lower w l (set m i true) b with best (ready .readable) with-told told) ∙ sym compared
 
-        later-alike : drop (i + 1) (set m i true) ≡ drop (i + 1) g
-        later-alike = drop-set-lt (i + 1) m i true (omega arith) ∙ alike-later m g i same
+        later-alike : drop (i + 1) (set m i true) ≡ drop (i + 1) flags
+        later-alike = drop-set-lt (i + 1) m i true (omega arith) ∙ alike-later m flags i same
 
-      pub not-lower-kept : low ≡ false → Turns w l g bits keep i s k best best
+      pub not-lower-kept : low ≡ false → Turn-told w l flags bits keep i s k best best
       not-lower-kept e =
           record {
             tells = λ ready m b tells same told.
-                rw (steps-next, keep-not-lower (goal w) (steps w l) i here behind (drop i g) s m b (lower-right ready m b tells same told ∙ e)) told;
+                rw (steps-next w l i h, keep-barred T (steps w l) _ _ (visit i s m b) (lower-with ready m b tells same told ∙ e)) told;
           }
 
-      module _ (is-lower : low ≡ true) (a : ℕ) (done : Bool) (copy next : State) (copies : copy ≡ s) (read : a ≡ getD l i 0) (advances : Advances w copy a done next) where
-        applied : done ≡ applicable s here
-        applied = advances .applied ∙ rw (read, copies)
+      module _ (is-lower : low ≡ true) (a : ℕ) (done : Bool) (lent left : State) (fronts : lent ≡ s) (read : a ≡ getD l i 0) (advances : Advances w lent a done left) where
+        applied : done ≡ applicable s (action w (getD l i 0))
+        applied = advances .applied ∙ rw (read, fronts)
 
-        pub not-done : done ≡ false → Turns w l g bits keep i s k best best
+        pub not-done : done ≡ false → Turn-told w l flags bits keep i s k best best
         not-done e =
-            record { tells = λ ready m b tells same told. rw (steps-next, keep-stuck (goal w) (steps w l) i here behind (drop i g) s m b (sym applied ∙ e)) told }
-
-        pub kept-on : (first after : Kept) → done ≡ true → Turns w l g bits strike (i + 1) next with best first → Turns w l g bits keep (i + 1) next with first after
-            → Turns w l g bits keep i s k best after
-        kept-on first after e strikes-first then-keeps =
-            let reached : next ≡ apply s here = rw e at (advances .state) ∙ rw (read, copies) in
             record {
               tells = λ ready m b tells same told.
-                  let with-tells : Tells w l (set m i true) with = with-told ready m b tells same told in
-                  let later : drop (i + 1) (set m i true) ≡ drop (i + 1) g = later-alike ready m b tells same told in
+                  rw (steps-next w l i h, keep-stuck T (steps w l) _ _ (visit i s m b) (sym applied ∙ e)) told;
+            }
+
+        -- the step was done at the front of a copy of the values
+        pub kept-on : (n : ℕ) (copy : List ℕ) (after : Kept) → done ≡ true → n ≡ state-size w → lent ≡ take n copy
+            → Both-told w l flags bits (i + 1) (front w (left ++ drop n copy)) with best after → Turn-told w l flags bits keep i s k best after
+        kept-on n copy after e fits part both =
+            let applied-there : left ≡ apply lent (action w a) = rw e at (advances .state) in
+            let laid : front w (left ++ drop n copy) ≡ left = rw (← fits) (front-laid n copy left (rw (applied-there, apply-length) (ap length part))) in
+            let applies : front w (left ++ drop n copy) ≡ apply s (action w (getD l i 0)) = laid ∙ applied-there ∙ rw (read, fronts) in
+            record {
+              tells = λ ready m b tells same told.
                   rw (
-                    steps-next,
-                    keep-goes-on (goal w) (steps w l) i here behind (drop i g) s m b (sym applied ∙ e) (lower-right ready m b tells same told ∙ is-lower),
-                    flags-next,
-                    ← reached,
+                    steps-next w l i h,
+                    keep-goes-on T (steps w l) _ _ (visit i s m b) (sym applied ∙ e) (lower-with ready m b tells same told ∙ is-lower),
+                    ← applies,
                   )
-                  (then-keeps .tells ready (set m i true) _ with-tells later (strikes-first .tells ready (set m i true) b with-tells later told));
+                  (both .tells ready (set m i true) b (with-told ready m b tells same told) (later-alike ready m b tells same told) told);
             }

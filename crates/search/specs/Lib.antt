@@ -1,3 +1,2 @@
--- Told: what the functions of the search hand to each other, in terms of the turns of `exact`. Not to be believed: the laws tie it to what the service
--- promises.
+-- Told: what the functions of the search hand to each other, in terms of the search of `reduction`.
 pub mod Told

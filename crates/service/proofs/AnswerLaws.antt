@@ -3,16 +3,16 @@
 use Prim.Native.Nat.{ℕ, _≤_}
 use native.Mathlib.Omega.{arith}
 use mathlib.Core.Path.{_≡_, sym, _∙_, ap}
+use mathlib.Core.Option.{none}
 use mathlib.Core.List.{List}
 use lib.ListN.{length, replicate}
 use lib.Seq.{sets}
 use Rattle.refusal.specs.declared.Refusal.{Refusal}
-use Rattle.refusal.specs.declared.Verdict.{Verdict}
-use Rattle.refusal.specs.declared.Verdict.the-variants.{Passed, Refused as Refused-verdict}
-use Rattle.refusal.specs.Refusal.{told}
 use Rattle.refusal.specs.Check.{Check, answer}
 use Rattle.tally.specs.declared.Tally.{Tally}
+use Rattle.plan.specs.declared.check.Answer.{Answer}
 use Rattle.plan.specs.declared.check.Answer.the-variants.{Valid, Refused}
+use Rattle.plan.specs.Checked.{told-answer}
 use Rattle.reduction.specs.Reduction.{Reduction}
 use Rattle.mask.specs.Mask.{mask-length, mask-bits, mask-words, ones-of, kept-by-words}
 use Rattle.mask.proofs.MaskTheorem.{ones-are-kept, mask-keeps}
@@ -32,18 +32,18 @@ keeps w l m before after words tally ones readable fits told-by counts counted w
       written = writes ∙ rw (told-by, mask-keeps m l few fits);
     }
 
-module _ (checks : List Check) (w l : List ℕ) (m : Reduction) (before : List ℕ) (v : Verdict) (checked : told v ≡ answer checks) where
+module _ (checks : List Check) (w l : List ℕ) (m : Reduction) (before : List ℕ) (given : Answer) (checked : told-answer given ≡ answer checks) where
   -- a service refuses, with zeros, and touches nothing
-  pub answers-refused : (r : Refusal) → v ≡ Refused-verdict r → Answers checks w l m before (Refused r) (replicate mask-length 0) before
+  pub answers-refused : (r : Refusal) → given ≡ Refused r → Answers checks w l m before (Refused r) (replicate mask-length 0) before
   answers-refused r refuses =
-      let refused : told (Refused-verdict r) ≡ answer checks = sym (ap told refuses) ∙ checked in
+      let refused : told-answer (Refused r) ≡ answer checks = sym (ap told-answer refuses) ∙ checked in
       record { refusal = refused; tally = rw (← refused); told-by = rw (← refused); output = rw (← refused) }
 
   -- or hands on what is told and written of its reduction
-  pub answers-kept : (left : Reduction) (after words : List ℕ) (tally : Tally) → v ≡ Passed → left ≡ m → Keeps w l left before tally words after
+  pub answers-kept : (lodged : Tally) (left : Reduction) (after words : List ℕ) (tally : Tally) → given ≡ Valid lodged → left ≡ m → Keeps w l left before tally words after
       → Answers checks w l m before (Valid tally) words after
-  answers-kept left after words tally passes same keeps =
-      let passed : told Passed ≡ answer checks = sym (ap told passes) ∙ checked in
+  answers-kept lodged left after words tally passes same keeps =
+      let passed : none ≡ answer checks = sym (ap told-answer passes) ∙ checked in
       record {
         refusal = passed;
         tally = rw (← passed, ← same) (keeps .counted);

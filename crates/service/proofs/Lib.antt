@@ -4,7 +4,7 @@ pub mod HeldLaws
 pub mod TalliedLaws
 -- LessLaws: the lower of two tallies, in numbers, and flags past the end of a plan.
 pub mod LessLaws
--- ChecksLaws: what the checks of a service answer, and what holds of a list that passes.
-pub mod ChecksLaws
+-- LodgedLaws: what holds of a list that passes the checks of a service.
+pub mod LodgedLaws
 -- AnswerLaws: what is told and written of a reduction, and what a service answers with it.
 pub mod AnswerLaws

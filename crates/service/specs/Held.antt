@@ -1,18 +1,12 @@
--- A reduction as the code holds it: flags for the most steps that a plan may have, none up past the plan's last. Assumes nothing.
+-- A reduction as the code holds it: flags for the most steps that a plan may have, none up past the plan's last.
+-- Assumes nothing.
 use Prim.Native.Nat.{ℕ, _-_, _≤_}
 use mathlib.Core.Path.{_≡_}
 use mathlib.Core.Bool.{false}
 use mathlib.Core.List.{List, _++_}
 use lib.ListN.{length, take, replicate}
-use lib.Seq.{sets}
-use Rattle.sheet.specs.Limits.{limits}
-use Rattle.sheet.specs.Decode.{initial}
 use Rattle.plan.specs.Limits.{most-steps}
 use Rattle.reduction.specs.Reduction.{Reduction}
-
--- the starting values as a state of 64
-abbrev pub start : List ℕ → List ℕ
-start w = sets (replicate (limits .variables) 0) 0 (initial w)
 
 -- the reduction of the plan l that flags are
 abbrev pub mask : List ℕ → Reduction → Reduction

@@ -19,7 +19,8 @@ pub struct Kept {
 pub fn finish(words: &[u32], plan: &[u32], flags: &[bool], out: &mut [u32]) -> Kept
     requires { ⌜ Readable (now words) (now plan) ⌝ }
     requires { ⌜ length (now flags) ≡ length (now plan) ⌝ }
-    ensures { λ r. ⌜ Keeps (now (words .entry)) (now (plan .entry)) (now (flags .entry)) (now (out .entry)) (r .tally) (r .mask .words) (now (out .exit)) ⌝ }
+    ensures { λ r. ⌜ Keeps (now (words .entry)) (now (plan .entry)) (now (flags .entry))
+        (now (out .entry)) (r .tally) (r .mask .words) (now (out .exit)) ⌝ }
 {
     let mask = mask_of(flags);
     let tally = tally_of(words, plan, flags);

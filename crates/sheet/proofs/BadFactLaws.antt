@@ -1,24 +1,36 @@
--- The place of cause 6: in the first group that has a bad fact. Assumes nothing.
+-- The place of cause 6: in the first group that has a bad fact. What the code calls is a variable here, with what is known of it as a premise. Assumes nothing.
 use Prim.Native.Nat.{ℕ}
-use mathlib.Core.Path.{_≡_}
+use mathlib.Core.Path.{_≡_, _∙_}
 use mathlib.Core.List.{List}
+use Rattle.refusal.specs.declared.place.Place.{Place}
 use Rattle.refusal.specs.declared.place.Place.the-variants.{Nowhere, At}
 use Rattle.refusal.specs.Place.{first-of}
-use Rattle.sheet.specs.Layout.{actions, goal-start, goal-end, precondition-start, effect-start, effect-end}
+use Rattle.sheet.specs.declared.group.Group.{Group}
+use Rattle.sheet.specs.Layout.{actions}
+use Rattle.sheet.specs.Group.{goal-group, needed-group, written-group}
 use Rattle.sheet.specs.Causes.{group-place, action-place, fact-place}
 
-pub in-precondition : (w : List ℕ) (a i : ℕ) → group-place w (precondition-start w a) (effect-start w a) ≡ At i → action-place w a ≡ At i
-unfolding action-place
-in-precondition w a i e = rw e
+-- the place p is that of the first bad fact of a group
+abbrev pub Bad-in : List ℕ → Group → Place → Type 0
+Bad-in w g p = p ≡ group-place w (g .at) (g .end)
 
-pub not-in-precondition : (w : List ℕ) (a : ℕ) → group-place w (precondition-start w a) (effect-start w a) ≡ Nowhere → action-place w a ≡ group-place w (effect-start w a) (effect-end w a)
-unfolding action-place
-not-in-precondition w a e = rw e
+module _ (w : List ℕ) (a : ℕ) (g : Group) (p : Place) (group : g ≡ needed-group w a) (found : Bad-in w g p) where
+  pub in-precondition : (i : ℕ) → p ≡ At i → At i ≡ action-place w a
+  unfolding action-place
+  in-precondition i e = let there : Bad-in w (needed-group w a) p = rw group at found in rw (← there, e)
 
-pub in-goal : (w : List ℕ) (i : ℕ) → group-place w (goal-start w) (goal-end w) ≡ At i → fact-place w ≡ At i
-unfolding fact-place
-in-goal w i e = rw e
+  pub not-in-precondition : (h : Group) (q : Place) → p ≡ Nowhere → h ≡ written-group w a → Bad-in w h q → q ≡ action-place w a
+  unfolding action-place
+  not-in-precondition h q e group′ found′ =
+      let there : Bad-in w (needed-group w a) p = rw group at found in
+      let behind : Bad-in w (written-group w a) q = rw group′ at found′ in
+      behind ∙ rw (← there, e)
 
-pub not-in-goal : (w : List ℕ) → group-place w (goal-start w) (goal-end w) ≡ Nowhere → fact-place w ≡ first-of (action-place w) 0 (actions w)
-unfolding fact-place
-not-in-goal w e = rw e
+module _ (w : List ℕ) (g : Group) (p : Place) (group : g ≡ goal-group w) (found : Bad-in w g p) where
+  pub in-goal : (i : ℕ) → p ≡ At i → At i ≡ fact-place w
+  unfolding fact-place
+  in-goal i e = let there : Bad-in w (goal-group w) p = rw group at found in rw (← there, e)
+
+  pub not-in-goal : (q : Place) → p ≡ Nowhere → q ≡ first-of (action-place w) 0 (actions w) → q ≡ fact-place w
+  unfolding fact-place
+  not-in-goal q e behind = let there : Bad-in w (goal-group w) p = rw group at found in behind ∙ rw (← there, e)

@@ -1,6 +1,6 @@
 -- Words of edition 1 are accepted where their parts are laid out as the pairs say and they mean a task that can be written: what `Parts` and `Accepted` say
 -- of accepted words, the other way round, check by check. Assumes nothing.
-use Prim.Native.Nat.{ℕ, zero, suc, _+_, _-_, _≤_, _<_}
+use Prim.Native.Nat.{ℕ, _+_, _-_, _≤_, _<_}
 use native.Mathlib.Omega.{arith}
 use mathlib.Core.Path.{_≡_, refl, sym, _∙_, ap}
 use mathlib.Core.Bool.{Bool, true, false, not, _&&_, _||_}
@@ -8,10 +8,9 @@ use mathlib.Core.List.{List, [], _∷_}
 use lib.ListN.{length, getD}
 use lib.Dec.{ltb, leb, eqb}
 use borrow.Author.Tests.{le-ltb, lt-leb, eq-eqb, ltb-true, leb-true, eqb-true}
-use Rattle.refusal.specs.declared.place.Place.{Place}
 use Rattle.refusal.specs.declared.place.Place.the-variants.{Nowhere}
-use Rattle.refusal.specs.Place.{when, first-of-next, first-of, first}
-use Rattle.refusal.proofs.PlaceLaws.{first-over, first-more}
+use Rattle.refusal.specs.Place.{when, first}
+use Rattle.refusal.proofs.PlaceLaws.{first-of-none, no-first, first-over, first-more}
 use Rattle.refusal.proofs.CheckLaws.{answer-passes, answer-nothing}
 use Rattle.sas.specs.Task.{Fact, Assignment}
 use Rattle.sas.specs.WellFormed.{Known, Rising, Action-formed}
@@ -28,21 +27,6 @@ use Rattle.sheet.proofs.Parts.{Measured}
 use Rattle.sheet.proofs.Accepted.{domains-length, domains-at, action-known}
 use Rattle.sheet.proofs.LaidLaws.{Part, Laid, laid-length}
 use Rattle.sheet.proofs.LaidLaws.Laid.{over, then}
-
--- where f finds no place at any of the n numbers from i on, the search finds none
-none-among : (f : ℕ → Place) (i n : ℕ) → ((k : ℕ) → i ≤ k → k < i + n → f k ≡ Nowhere) → first-of-next f i n ≡ Nowhere
-unfolding first-of-next
-none-among f i zero none = refl
-none-among f i (suc n) none = rw (none i (omega arith) (omega arith), first-of-next) (none-among f (i + 1) n (λ k low high. none k (omega arith) (omega arith)))
-
-first-of-none : (f : ℕ → Place) (end : ℕ) → ((k : ℕ) → k < end → f k ≡ Nowhere) → first-of f 0 end ≡ Nowhere
-unfolding first-of
-first-of-none f end none = none-among f 0 (end - 0) (λ k low high. none k (omega arith))
-
--- nor is there one where a test is false at every number
-first-none : (t : ℕ → Bool) (end : ℕ) → ((k : ℕ) → k < end → t k ≡ false) → first t 0 end ≡ Nowhere
-unfolding first
-first-none t end none = first-of-none _ end (λ k h. ap (λ b. when b k) (none k h))
 
 -- of two tests, the second of which fails where the first holds, not both hold
 not-both-hold : (a b : Bool) → (a ≡ true → b ≡ false) → (a && b) ≡ false
@@ -177,7 +161,7 @@ module _ (w : List ℕ) (writable : Encodable (task w)) where
 
   variables-clear : variable-place w ≡ Nowhere
   unfolding variable-place
-  variables-clear = first-none (bad-variable w) (variables w) variable-clear
+  variables-clear = no-first (bad-variable w) (variables w) variable-clear
 
   action-clear : (a : ℕ) → a < actions w → action-place w a ≡ Nowhere
   unfolding action-place task action
@@ -191,7 +175,7 @@ module _ (w : List ℕ) (writable : Encodable (task w)) where
 
   costs-clear : cost-place w ≡ Nowhere
   unfolding cost-place action
-  costs-clear = first-none _ (actions w) (λ a h. le-ltb _ _ (writable .costs (action w a) (action-known w a h)))
+  costs-clear = no-first _ (actions w) (λ a h. le-ltb _ _ (writable .costs (action w a) (action-known w a h)))
 
   pub passes : edition w ≡ 1 → Measured w → pair-place w ≡ Nowhere → Accepted w
   passes first measured pairs =

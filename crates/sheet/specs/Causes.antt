@@ -10,7 +10,9 @@ use Rattle.refusal.specs.declared.place.Place.{Place}
 use Rattle.refusal.specs.Place.{when, or-else, first-of, first}
 use Rattle.refusal.specs.Check.{Check, answer}
 use Rattle.sheet.specs.Limits.{limits}
-use Rattle.sheet.specs.Layout.{word, edition, variables, actions, stated-length, pairs, pairs-end, offset, size, part-end, domain, start, goal-start, goal-end, cost-word, precondition-start, effect-start, effect-end}
+use Rattle.sheet.specs.Layout.{word, edition, variables, actions, stated-length, pairs, pairs-end, offset, size}
+use Rattle.sheet.specs.Layout.{part-end, domain, start, goal-start, goal-end, cost-word, precondition-start}
+use Rattle.sheet.specs.Layout.{effect-start, effect-end}
 use Rattle.sheet.specs.Decode.{fact-of}
 
 -- 1: under 4 or over 8,192 words, or N differs from the length
@@ -55,7 +57,8 @@ bad-variable w v = ltb (domain w v) 1 || (ltb (limits .values) (domain w v) || l
 unfoldable pub variable-place : List ℕ → Place
 variable-place w = first (bad-variable w) 0 (variables w)
 
--- the fact at word i has an unknown variable or value, or, in a group of facts that begins at word `from`, a variable not above that of the fact before it
+-- the fact at word i has an unknown variable or value, or, in a group of facts that begins at word `from`, a variable
+-- not above that of the fact before it
 unfoldable pub bad-fact : List ℕ → ℕ → ℕ → Bool
 bad-fact w from i =
     leb (variables w) (fact-of (word w i) .variable)
@@ -68,7 +71,10 @@ group-place w from end = first (bad-fact w from) from end
 
 -- the first bad fact of action a
 unfoldable pub action-place : List ℕ → ℕ → Place
-action-place w a = or-else (group-place w (precondition-start w a) (effect-start w a)) (group-place w (effect-start w a) (effect-end w a))
+action-place w a =
+    or-else
+    (group-place w (precondition-start w a) (effect-start w a))
+    (group-place w (effect-start w a) (effect-end w a))
 
 -- 6: the word of the first bad fact, in the order of the words
 unfoldable pub fact-place : List ℕ → Place

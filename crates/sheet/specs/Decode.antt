@@ -3,7 +3,8 @@ use Prim.Native.Nat.{ℕ, zero, suc, _+_, _-_, _/_, _%_}
 use mathlib.Core.List.{List, [], _∷_}
 use Rattle.sas.specs.Task.{Fact, Assignment, State, Action, Task}
 use Rattle.sheet.specs.Limits.{limits}
-use Rattle.sheet.specs.Layout.{word, variables, actions, domain, start, goal-start, goal-end, cost-word, precondition-start, effect-start, effect-end}
+use Rattle.sheet.specs.Layout.{word, variables, actions, domain, start, goal-start, goal-end, cost-word}
+use Rattle.sheet.specs.Layout.{precondition-start, effect-start, effect-end}
 
 -- what f gives at the n numbers from i on
 unfoldable pub table {ℓ} : {A : Type ℓ} → (ℕ → A) → ℕ → ℕ → List A
@@ -28,7 +29,12 @@ unfoldable pub goal : List ℕ → Assignment
 goal w = facts w (goal-start w) (goal-end w)
 
 unfoldable pub action : List ℕ → ℕ → Action
-action w a = record { precondition = facts w (precondition-start w a) (effect-start w a); effect = facts w (effect-start w a) (effect-end w a); cost = cost-word w a }
+action w a =
+    record {
+      precondition = facts w (precondition-start w a) (effect-start w a);
+      effect = facts w (effect-start w a) (effect-end w a);
+      cost = cost-word w a;
+    }
 
 unfoldable pub task : List ℕ → Task
 task w = record { domains = domains w; actions = table (action w) 0 (actions w); initial = initial w; goal = goal w }

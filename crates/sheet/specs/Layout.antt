@@ -1,5 +1,5 @@
--- Where the parts of a task stand among its words (document 01, "The job sheet"). A word past the end reads as 0; in an accepted task none is read.
--- Assumes nothing.
+-- Where the parts of a task stand among its words (document 01, "The job sheet"). A word past the end reads as 0; in an
+-- accepted task none is read. Assumes nothing.
 use Prim.Native.Nat.{ℕ, _+_, _*_}
 use mathlib.Core.List.{List}
 use lib.ListN.{getD}
@@ -58,7 +58,8 @@ goal-start w = offset w 2
 abbrev pub goal-end : List ℕ → ℕ
 goal-end w = part-end w 2
 
--- pair 3 + a: the part of action a is its cost, its number of precondition facts, those facts, and its effect facts up to the end
+-- pair 3 + a: the part of action a is its cost, its number of precondition facts, those facts, and its effect facts up
+-- to the end
 abbrev pub cost-word : List ℕ → ℕ → ℕ
 cost-word w a = word w (offset w (3 + a))
 

@@ -1,4 +1,5 @@
--- The limits of a task (document 01, "The job sheet"), stated here and nowhere else in the definitions. Assumes nothing.
+-- The limits of a task (document 01, "The job sheet"), stated here and nowhere else in the definitions. Assumes
+-- nothing.
 use Rattle.sheet.specs.declared.limits.Limits.{Limits}
 
 abbrev pub limits : Limits

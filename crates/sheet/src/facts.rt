@@ -1,12 +1,9 @@
 // Cause 6: a fact with an unknown variable or value, or variables that do not rise.
-use crate::layout::GOAL;
-use crate::layout::action_end;
+use crate::group::Group;
+use crate::group::facts_of;
+use crate::group::goal;
 use crate::layout::actions;
-use crate::layout::effect_at;
 use crate::layout::number;
-use crate::layout::offset;
-use crate::layout::precondition_at;
-use crate::layout::size;
 use crate::layout::variables;
 use crate::limits::Sheet;
 use crate::variables::domain;
@@ -37,9 +34,11 @@ fn bad_fact(w: &[u32], from: usize, i: usize) -> bool
 }
 
 // The first bad fact of a group.
-fn bad_in_group(w: &[u32], from: usize, end: usize) -> Place
-    ensures { λ r. ⌜ r ≡ group-place (now (w .entry)) from end ⌝ }
+fn bad_in_group(w: &[u32], group: Group) -> Place
+    ensures { λ r. ⌜ r ≡ group-place (now (w .entry)) (group .at) (group .end) ⌝ }
 {
+    let from = group.at;
+    let end = group.end;
     let mut i = from;
     while i < end {
         if bad_fact(w, from, i) {
@@ -54,13 +53,11 @@ fn bad_in_group(w: &[u32], from: usize, end: usize) -> Place
 fn bad_in_action(w: &[u32], a: u32) -> Place
     ensures { λ r. ⌜ r ≡ action-place (now (w .entry)) a ⌝ }
 {
-    let precondition = precondition_at(w, a);
-    let effect = effect_at(w, a);
-    let end = action_end(w, a);
-    let found = bad_in_group(w, precondition, effect);
+    let facts = facts_of(w, a);
+    let found = bad_in_group(w, facts.precondition);
     match found {
         Place::At(i) => Place::At(i),
-        Place::Nowhere => bad_in_group(w, effect, end),
+        Place::Nowhere => bad_in_group(w, facts.effect),
     }
 }
 
@@ -84,8 +81,7 @@ fn bad_in_actions(w: &[u32]) -> Place
 pub(crate) fn bad_fact_place(w: &[u32]) -> Place
     ensures { λ r. ⌜ r ≡ fact-place (now (w .entry)) ⌝ }
 {
-    let from = offset(w, GOAL);
-    let found = bad_in_group(w, from, from + size(w, GOAL));
+    let found = bad_in_group(w, goal(w));
     match found {
         Place::At(i) => Place::At(i),
         Place::Nowhere => bad_in_actions(w),

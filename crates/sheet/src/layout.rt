@@ -2,7 +2,8 @@
 use access::word;
 ghost use mathlib.Core.Path.{_≡_};
 ghost use Prim.Native.Nat.{_<_, _≤_, _^_};
-ghost use Rattle.sheet.specs.Layout.{word as word-at, variables as variables-of, actions as actions-of, offset as offset-of, size as size-of, goal-start, goal-end as goal-end-of, cost-word, precondition-start, effect-start, effect-end};
+ghost use Rattle.sheet.specs.Layout.{word as word-at, variables as variables-of, actions as actions-of};
+ghost use Rattle.sheet.specs.Layout.{offset as offset-of, size as size-of, cost-word};
 
 // The words of the header, and the pair where the actions begin.
 pub(crate) const EDITION_AT: usize = 0;
@@ -71,67 +72,9 @@ pub fn start_at(w: &[u32]) -> usize
     offset(w, INITIAL)
 }
 
-// Where the goal begins.
-pub fn goal_at(w: &[u32]) -> usize
-    ensures { λ r. ⌜ (r ≡ goal-start (now (w .entry))) × (r < 2 ^ 32) ⌝ }
-{
-    offset(w, GOAL)
-}
-
-// Where the goal ends.
-pub fn goal_end(w: &[u32]) -> usize
-    ensures { λ r. ⌜ (r ≡ goal-end-of (now (w .entry))) × (r < 2 ^ 33) ⌝ }
-{
-    offset(w, GOAL) + size(w, GOAL)
-}
-
 // The cost of action a.
 pub fn cost(w: &[u32], a: u32) -> u32
     ensures { λ r. ⌜ (r ≡ cost-word (now (w .entry)) a) × (r < 2 ^ 32) ⌝ }
 {
     word(w, offset(w, FIRST_ACTION + a as usize))
-}
-
-// Where the precondition of an action begins, where its effect does, and where both end.
-pub struct ActionParts {
-    pub precondition: usize,
-    pub effect: usize,
-    pub end: usize,
-}
-
-// The parts of action a, from one reading of its pair.
-pub fn parts_of(w: &[u32], a: u32) -> ActionParts
-    ensures { λ r. ⌜ (r .precondition ≡ precondition-start (now (w .entry)) a) × ((r .effect ≡ effect-start (now (w .entry)) a) × (r .end ≡ effect-end (now (w .entry)) a)) ⌝ }
-{
-    let k = FIRST_ACTION + a as usize;
-    let from = offset(w, k);
-    let precondition = from + ACTION_HEADER;
-    ActionParts {
-        precondition,
-        effect: precondition + number(w, from + 1),
-        end: from + size(w, k),
-    }
-}
-
-// Where the precondition of action a begins.
-pub fn precondition_at(w: &[u32], a: u32) -> usize
-    ensures { λ r. ⌜ (r ≡ precondition-start (now (w .entry)) a) × (r < 2 ^ 33) ⌝ }
-{
-    offset(w, FIRST_ACTION + a as usize) + ACTION_HEADER
-}
-
-// Where the precondition of action a ends and its effect begins.
-pub fn effect_at(w: &[u32], a: u32) -> usize
-    ensures { λ r. ⌜ (r ≡ effect-start (now (w .entry)) a) × (r < 2 ^ 34) ⌝ }
-{
-    let part = offset(w, FIRST_ACTION + a as usize);
-    part + ACTION_HEADER + number(w, part + 1)
-}
-
-// Where the part of action a ends.
-pub fn action_end(w: &[u32], a: u32) -> usize
-    ensures { λ r. ⌜ (r ≡ effect-end (now (w .entry)) a) × (r < 2 ^ 33) ⌝ }
-{
-    let k = FIRST_ACTION + a as usize;
-    offset(w, k) + size(w, k)
 }

@@ -1,16 +1,15 @@
 // What the program prints of an input whose plan is shortened.
-use crate::shortened::Shortened;
 use access::front;
 use access::word;
 use mask::Mask;
-use program::frame::Frame;
+use minimal::within::Minimised;
 use program::framing::WORDS;
-use program::framing::frame;
+use program::opened::Opened;
+use program::opened::open_input;
 use program::output::print_line;
 use program::output::print_one;
 use program::output::print_three;
 use program::parts::plan_part;
-use program::unpack::unpack;
 use sheet::layout::cost;
 use tally::Tally;
 
@@ -32,16 +31,15 @@ fn print_tally(word: &[u8], tally: Tally) {
 }
 
 // Prints what is told of the plan in the bytes of the input.
-pub(crate) fn print_shortened(bytes: &[u8], shortened: Shortened, kept: Tally) {
+pub(crate) fn print_shortened(bytes: &[u8], shortened: Minimised, kept: Tally) {
     let lodged = shortened.lodged;
     let mask = shortened.mask;
     print_tally(b"lodged", lodged);
     print_one(b"marked", shortened.marked as u64);
     print_tally(b"kept", kept);
-    let mut space = [0u32; WORDS];
-    unpack(bytes, &mut space);
-    let words = &space[..];
-    if let Frame::Whole { task, plan } = frame(bytes) {
-        print_steps(front(words, task), plan_part(words, task, plan), mask);
+    let mut words = [0u32; WORDS];
+    let opened = open_input(bytes, 0, &mut words);
+    if let Opened::Lodged { task, plan } = opened {
+        print_steps(front(&words, task), plan_part(&words, task, plan), mask);
     }
 }

@@ -1,42 +1,71 @@
--- An action is done just where none of its precondition facts is found to fail, and the goal holds just where none of its facts is. What the code calls is
--- a variable here, with what is known of it as a premise. Assumes nothing.
-use Prim.Native.Nat.{ℕ}
+-- An action is done just where none of its precondition facts fails, and the goal holds just where none of its facts does. What the code calls is a variable
+-- here, with what is known of it as a premise. Assumes nothing.
+use Prim.Native.Nat.{ℕ, _≤_, _<_}
+use native.Mathlib.Omega.{arith}
 use mathlib.Core.Path.{_≡_, refl, sym, _∙_, ap}
-use mathlib.Core.Bool.{true, false}
-use mathlib.Core.List.{List}
-use Rattle.refusal.specs.declared.place.Place.{Place}
-use Rattle.refusal.specs.declared.place.Place.the-variants.{Nowhere, At}
-use Rattle.sas.specs.Plan.{satisfies, applicable, assign}
-use Rattle.sheet.specs.Layout.{goal-start, goal-end, precondition-start, effect-start, effect-end}
-use Rattle.sheet.specs.Decode.{facts, goal, action}
-use Rattle.step.specs.Failing.{failing-place}
+use mathlib.Core.Bool.{Bool, true, false}
+use mathlib.Core.List.{List, _++_}
+use lib.ListN.{length, take, drop}
+use lib.Seq.{length-take-le, take-all}
+use Rattle.sas.specs.Plan.{first-failing, satisfies, assign}
+use Rattle.sas.proofs.FactLaws.{none-failing, one-failing}
+use Rattle.sas.proofs.ActionLaws.{apply-length, applicable-needed}
+use Rattle.sheet.specs.declared.group.Group.{Group}
+use Rattle.sheet.specs.Decode.{fact-of, goal, action}
+use Rattle.sheet.specs.Group.{goal-group, needed-group, written-group, facts-in}
+use Rattle.sheet.proofs.GroupLaws.{goal-facts, needed-facts, group-applied}
+use Rattle.step.specs.declared.facts.Failing.{Failing}
+use Rattle.step.specs.declared.facts.Failing.the-variants.{Nothing, Fact}
+use Rattle.step.specs.State.{state-size, front}
+use Rattle.step.specs.Failing.{failing}
 use Rattle.step.specs.Advance.{Advances}
-use Rattle.step.proofs.FailingLaws.{nowhere, satisfied}
+use Rattle.step.proofs.StateLaws.{front-laid}
 
--- an action can be done just where none of its precondition facts is found to fail
-applicable-place : (w s : List ℕ) (a from to : ℕ) (p : Place) → from ≡ precondition-start w a → to ≡ effect-start w a → p ≡ failing-place w s from to → applicable s (action w a) ≡ nowhere p
-unfolding applicable action
-applicable-place w s a from to p e e′ found = satisfied w s (precondition-start w a) (effect-start w a) ∙ rw (← e′, ← e, ← found)
+module _ (w s : List ℕ) (a : ℕ) (g : Group) (f : Failing) (group : g ≡ needed-group w a) (found : failing f ≡ first-failing s (facts-in w g)) where
+  pub advances-not : (x : ℕ) → f ≡ Fact x → Advances w s a false s
+  advances-not x e =
+      record {
+        applied = sym (applicable-needed s (action w a) ∙ one-failing {f = fact-of x} s _ (rw (← needed-facts w a, ← group, ← found, e) refl));
+        state = refl;
+      }
 
-pub advances-not : (w s : List ℕ) (a from to k : ℕ) (p : Place) → from ≡ precondition-start w a → to ≡ effect-start w a → p ≡ failing-place w s from to → p ≡ At k
-    → Advances w s a false s
-advances-not w s a from to k p e e′ found is = record { applied = sym (applicable-place w s a from to p e e′ found ∙ ap nowhere is); state = refl }
+  pub advances-done : (h : Group) (after : List ℕ) → f ≡ Nothing → h ≡ written-group w a → after ≡ assign s (facts-in w h) → Advances w s a true after
+  advances-done h after e effect writes =
+      record {
+        applied = sym (applicable-needed s (action w a) ∙ none-failing s _ (rw (← needed-facts w a, ← group, ← found, e) refl));
+        state = writes ∙ rw effect (sym (group-applied w s a));
+      }
 
-pub advances-done : (w s after : List ℕ) (a from to end : ℕ) (p : Place) → from ≡ precondition-start w a → to ≡ effect-start w a → end ≡ effect-end w a
-    → p ≡ failing-place w s from to → p ≡ Nowhere → after ≡ assign s (facts w to end) → Advances w s a true after
-unfolding action
-advances-done w s after a from to end p e e′ e″ found is written =
-    record { applied = sym (applicable-place w s a from to p e e′ found ∙ ap nowhere is); state = rw (← e′, ← e″) written }
+module _ (w s : List ℕ) (g : Group) (f : Failing) (group : g ≡ goal-group w) (found : failing f ≡ first-failing s (facts-in w g)) where
+  pub goal-unmet : (x : ℕ) → f ≡ Fact x → false ≡ satisfies s (goal w)
+  goal-unmet x e = sym (one-failing {f = fact-of x} s _ (rw (← goal-facts w, ← group, ← found, e) refl))
 
--- the goal holds just where none of its facts is found to fail
-goal-place : (w s : List ℕ) (from to : ℕ) (p : Place) → from ≡ goal-start w → to ≡ goal-end w → p ≡ failing-place w s from to → satisfies s (goal w) ≡ nowhere p
-unfolding goal
-goal-place w s from to p e e′ found = satisfied w s (goal-start w) (goal-end w) ∙ rw (← e′, ← e, ← found)
+  pub goal-met : f ≡ Nothing → true ≡ satisfies s (goal w)
+  goal-met e = sym (none-failing s _ (rw (← goal-facts w, ← group, ← found, e) refl))
 
-pub goal-unmet : (w s : List ℕ) (from to k : ℕ) (p : Place) → from ≡ goal-start w → to ≡ goal-end w → p ≡ failing-place w s from to → p ≡ At k
-    → false ≡ satisfies s (goal w)
-goal-unmet w s from to k p e e′ found is = sym (goal-place w s from to p e e′ found ∙ ap nowhere is)
+-- an action keeps the number of values, done or not
+advances-length : (w s after : List ℕ) (a : ℕ) (done : Bool) → Advances w s a done after → length after ≡ length s
+advances-length w s after a true advances = ap length (advances .state) ∙ apply-length s (action w a)
+advances-length w s after a false advances = ap length (advances .state)
 
-pub goal-met : (w s : List ℕ) (from to : ℕ) (p : Place) → from ≡ goal-start w → to ≡ goal-end w → p ≡ failing-place w s from to → p ≡ Nowhere
-    → true ≡ satisfies s (goal w)
-goal-met w s from to p e e′ found is = sym (goal-place w s from to p e e′ found ∙ ap nowhere is)
+pub part-length : (values : List ℕ) (n : ℕ) → n < length values → n ≡ length (take n values)
+part-length values n h = sym (length-take-le n values (omega arith))
+
+-- the state at the front of an array, lent as a part, or as the whole of what is no longer
+module _ (w values : List ℕ) (n : ℕ) (fits : n ≡ state-size w) where
+  module _ (part : n < length values) where
+    pub advances-part : (a : ℕ) (done : Bool) (after : List ℕ) → Advances w (take n values) a done after
+        → Advances w (front w values) a done (front w (after ++ drop n values))
+    advances-part a done after advances =
+        let kept : length after ≡ n = advances-length w (take n values) after a done advances ∙ sym (part-length values n part) in
+        rw (front-laid w values after n fits kept, ← fits) advances
+
+  module _ (whole : length values ≤ n) where
+    all-front : (s : List ℕ) → length s ≡ length values → front w s ≡ s
+    all-front s same = take-all (state-size w) s (omega arith)
+
+    pub advances-whole : (a : ℕ) (done : Bool) (after : List ℕ) → Advances w values a done after → Advances w (front w values) a done (front w after)
+    advances-whole a done after advances = rw (all-front values refl, all-front after (advances-length w values after a done advances)) advances
+
+    pub goal-whole : (met : Bool) → met ≡ satisfies values (goal w) → met ≡ satisfies (front w values) (goal w)
+    goal-whole met test = test ∙ rw (all-front values refl)

@@ -1,12 +1,12 @@
 -- The state after one step, in document 01's words ("Doing a step, and a valid list") and not the code's: a refused step leaves it; a step that is done gives each
 -- variable in its effect the value named and keeps the others. A step that is done is one of an accepted task, whose effects name a variable once and are of known
--- variables; the rest is the laws of `assign`. Assumes nothing.
+-- variables; the rest is the laws of actions. Assumes nothing.
 use Prim.Native.Nat.{ℕ, _≤_, _<_}
 use native.Mathlib.Omega.{arith}
 use mathlib.Core.Path.{_≡_, refl, sym, _∙_, ap}
 use mathlib.Core.Logic.{_≢_}
 use mathlib.Core.Option.{Option, none, some}
-use mathlib.Core.List.{List, List·Memᴰ}
+use mathlib.Core.List.{List}
 use lib.ListN.{length, getD}
 use borrow.Author.Tests.{leb-false}
 use Rattle.refusal.specs.Refusal.{Told}
@@ -14,11 +14,10 @@ use Rattle.refusal.specs.Check.{answer}
 use Rattle.refusal.proofs.PlaceLaws.{when-nowhere}
 use Rattle.refusal.proofs.CheckLaws.{none-fires, answer-second, first-none}
 use Rattle.sas.specs.Task.{Fact}
-use Rattle.sas.specs.Plan.{assign}
-use Rattle.sas.specs.WellFormed.{Rising}
+use Rattle.sas.specs.Plan.{apply, may-write}
+use Rattle.sas.specs.WellFormed.{Action-formed}
 use Rattle.sas.proofs.FactLaws.{holds-value}
-use Rattle.sas.proofs.WellFormedLaws.{rising-known}
-use Rattle.sas.proofs.AssignLaws.{assign-length, assign-other, assigned-holds}
+use Rattle.sas.proofs.ActionLaws.{apply-length, apply-other, apply-holds, written-known}
 use Rattle.sheet.specs.Layout.{variables, actions}
 use Rattle.sheet.specs.Decode.{domains, action, task}
 use Rattle.sheet.specs.Causes.{sheet-checks, Accepted}
@@ -30,9 +29,10 @@ pub record After (w s : List ℕ) (a : ℕ) : Type 0 where
   -- a refused step leaves the state, all its values
   pub refused : (t : Told) → answer (step-checks w s a) ≡ some t → state-after w s a ≡ s
   -- a step that is done gives each variable in its effect the value named
-  pub named : answer (step-checks w s a) ≡ none → (f : Fact) → List·Memᴰ f (action w a .effect) → f .variable < length s → getD (state-after w s a) (f .variable) 0 ≡ f .value
+  pub named : answer (step-checks w s a) ≡ none → (f : Fact) → may-write (action w a) f → f .variable < length s → getD (state-after w s a) (f .variable) 0 ≡ f .value
   -- done or refused, a step keeps the others
-  pub others : (v : ℕ) → ((f : Fact) → List·Memᴰ f (action w a .effect) → f .variable ≢ v) → getD (state-after w s a) v 0 ≡ getD s v 0
+  pub others : (v : ℕ) → ((f : Fact) → may-write (action w a) f → f .variable ≢ v)
+      → getD (state-after w s a) v 0 ≡ getD s v 0
   -- among them those past the task's variables
   pub past : (v : ℕ) → variables w ≤ v → getD (state-after w s a) v 0 ≡ getD s v 0
   -- and no value is added or lost
@@ -43,7 +43,7 @@ module _ (w s : List ℕ) (a : ℕ) where
   unfolding state-after
   refused-state t e = rw (e, state-after)
 
-  done-state : answer (step-checks w s a) ≡ none → state-after w s a ≡ assign s (action w a .effect)
+  done-state : answer (step-checks w s a) ≡ none → state-after w s a ≡ apply s (action w a)
   unfolding state-after
   done-state e = rw (e, state-after)
 
@@ -57,26 +57,26 @@ module _ (w s : List ℕ) (a : ℕ) where
   unfolding step-checks own-checks
   done-known e = leb-false _ _ (when-nowhere _ 1 (none-fires _ _ (sym (answer-second (sheet-checks w) (own-checks w s a) (done-accepted e)) ∙ e) .0))
 
-  done-rising : answer (step-checks w s a) ≡ none → Rising (domains w) 0 (action w a .effect)
+  done-formed : answer (step-checks w s a) ≡ none → Action-formed (domains w) (action w a)
   unfolding task
-  done-rising e = accepted-well-formed w (done-accepted e) .actions (action w a) (action-known w a (done-known e)) .effect
+  done-formed e = accepted-well-formed w (done-accepted e) .actions (action w a) (action-known w a (done-known e))
 
-  other-kept : (v : ℕ) (t : Option Told) → answer (step-checks w s a) ≡ t → (answer (step-checks w s a) ≡ none → (f : Fact) → List·Memᴰ f (action w a .effect) → f .variable ≢ v)
+  other-kept : (v : ℕ) (t : Option Told) → answer (step-checks w s a) ≡ t → (answer (step-checks w s a) ≡ none → (f : Fact) → may-write (action w a) f → f .variable ≢ v)
       → getD (state-after w s a) v 0 ≡ getD s v 0
-  other-kept v none e h = rw (done-state e) (assign-other s (action w a .effect) v (h e))
+  other-kept v none e h = rw (done-state e) (apply-other s (action w a) v (h e))
   other-kept v (some t) e h = rw (refused-state t e)
 
-  past-unnamed : (v : ℕ) → variables w ≤ v → answer (step-checks w s a) ≡ none → (f : Fact) → List·Memᴰ f (action w a .effect) → f .variable ≢ v
-  past-unnamed v h e f m same = omega (arith, domains-length w, rising-known (done-rising e) m .variable)
+  past-unnamed : (v : ℕ) → variables w ≤ v → answer (step-checks w s a) ≡ none → (f : Fact) → may-write (action w a) f → f .variable ≢ v
+  past-unnamed v h e f m same = omega (arith, domains-length w, written-known (action w a) (done-formed e) m .variable)
 
   length-kept : (t : Option Told) → answer (step-checks w s a) ≡ t → length (state-after w s a) ≡ length s
-  length-kept none e = ap length (done-state e) ∙ assign-length s (action w a .effect)
+  length-kept none e = ap length (done-state e) ∙ apply-length s (action w a)
   length-kept (some t) e = ap length (refused-state t e)
 
 pub step-theorem : (w s : List ℕ) (a : ℕ) → After w s a
 step-theorem w s a = record {
   refused = refused-state w s a;
-  named = λ e f m below. rw (done-state w s a e) (holds-value _ f (assigned-holds s (done-rising w s a e) m below));
+  named = λ e f m below. rw (done-state w s a e) (holds-value _ f (apply-holds (action w a) (done-formed w s a e) s m below));
   others = λ v h. other-kept w s a v _ refl (λ e. h);
   past = λ v h. other-kept w s a v _ refl (past-unnamed w s a v h);
   complete = length-kept w s a _ refl;

@@ -1,13 +1,10 @@
--- The first failing fact of an assignment, told by its word. Assumes nothing.
-use Prim.Native.Nat.{ℕ}
-use mathlib.Core.Bool.{not}
-use mathlib.Core.List.{List}
-use Rattle.refusal.specs.declared.place.Place.{Place}
-use Rattle.refusal.specs.Place.{first}
-use Rattle.sas.specs.Plan.{holds}
-use Rattle.sheet.specs.Layout.{word}
+-- The first failing fact of an assignment as the code tells it: by its word. Assumes nothing.
+use mathlib.Core.Option.{Option, none, some}
+use Rattle.sas.specs.Task.{Fact}
 use Rattle.sheet.specs.Decode.{fact-of}
+use Rattle.step.specs.declared.facts.Failing.{Failing}
+use Rattle.step.specs.declared.facts.Failing.the-variants.{Nothing, Fact as Fact-word}
 
--- the word of the first fact, from word i up to end, that does not hold in the state
-unfoldable pub failing-place : List ℕ → List ℕ → ℕ → ℕ → Place
-failing-place w s i end = first (λ j. not (holds s (fact-of (word w j)))) i end
+abbrev pub failing : Failing → Option Fact
+failing Nothing = none
+failing (Fact-word x) = some (fact-of x)

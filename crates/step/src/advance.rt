@@ -1,25 +1,26 @@
 // One action in a lent state, and the goal there: what every walk along a plan is made of.
+use crate::facts::Failing;
 use crate::facts::first_failing;
 use crate::facts::write_facts;
-use refusal::place::Place;
-use sheet::layout::goal_at;
-use sheet::layout::goal_end;
-use sheet::layout::parts_of;
+use crate::state::size;
+use sheet::group::facts_of;
+use sheet::group::goal;
 ghost use mathlib.Core.Path.{_≡_};
 ghost use Rattle.sas.specs.Plan.{satisfies};
-ghost use Rattle.sheet.specs.Decode.{goal};
+ghost use Rattle.sheet.specs.Decode.{goal as goal-of};
+ghost use Rattle.step.specs.State.{front};
 ghost use Rattle.step.specs.Advance.{Advances};
 
 // Does an action where it is applicable, and leaves the state where it is not; says which.
 pub fn advance(words: &[u32], state: &mut [u32], action: u32) -> bool
     ensures { λ r. ⌜ Advances (now (words .entry)) (now (state .entry)) action r (now (state .exit)) ⌝ }
 {
-    let parts = parts_of(words, action);
-    let failing = first_failing(words, state, parts.precondition, parts.effect);
+    let facts = facts_of(words, action);
+    let failing = first_failing(words, state, facts.precondition);
     match failing {
-        Place::At(_) => false,
-        Place::Nowhere => {
-            write_facts(words, state, parts.effect, parts.end);
+        Failing::Fact(_) => false,
+        Failing::Nothing => {
+            write_facts(words, state, facts.effect);
             true
         }
     }
@@ -27,11 +28,34 @@ pub fn advance(words: &[u32], state: &mut [u32], action: u32) -> bool
 
 // Whether the goal holds in a state.
 pub fn goal_holds(words: &[u32], state: &[u32]) -> bool
-    ensures { λ r. ⌜ r ≡ satisfies (now (state .entry)) (goal (now (words .entry))) ⌝ }
+    ensures { λ r. ⌜ r ≡ satisfies (now (state .entry)) (goal-of (now (words .entry))) ⌝ }
 {
-    let failing = first_failing(words, state, goal_at(words), goal_end(words));
+    let failing = first_failing(words, state, goal(words));
     match failing {
-        Place::At(_) => false,
-        Place::Nowhere => true,
+        Failing::Fact(_) => false,
+        Failing::Nothing => true,
     }
+}
+
+// The same in the state that is the front of an array.
+pub fn advance_in(words: &[u32], values: &mut [u32], action: u32) -> bool
+    ensures { λ r. ⌜ Advances (now (words .entry)) (front (now (words .entry)) (now (values .entry))) action r
+        (front (now (words .entry)) (now (values .exit))) ⌝ }
+{
+    let n = size(words);
+    if n < values.len() {
+        return advance(words, &mut values[..n], action);
+    }
+    advance(words, values, action)
+}
+
+// Whether the goal holds in such a state.
+pub fn goal_in(words: &[u32], values: &[u32]) -> bool
+    ensures { λ r. ⌜ r ≡ satisfies (front (now (words .entry)) (now (values .entry))) (goal-of (now (words .entry))) ⌝ }
+{
+    let n = size(words);
+    if n < values.len() {
+        return goal_holds(words, &values[..n]);
+    }
+    goal_holds(words, values)
 }

@@ -1,13 +1,13 @@
-// The test whether an assignment holds, and the writes of an effect, over the facts that stand among a task's words.
-// Every service that does a step goes through these two.
+// The test whether an assignment holds, and the writes of an effect, over a group of facts. Every service that does a
+// step goes through these two.
 use access::put;
-use access::word;
-use refusal::place::Place;
+use sheet::group::Group;
 use sheet::limits::Sheet;
 ghost use mathlib.Core.Path.{_≡_};
-ghost use Rattle.sas.specs.Plan.{holds as holds-in, assign};
-ghost use Rattle.sheet.specs.Decode.{fact-of, facts};
-ghost use Rattle.step.specs.Failing.{failing-place};
+ghost use Rattle.sas.specs.Plan.{holds as holds-in, first-failing, assign};
+ghost use Rattle.sheet.specs.Decode.{fact-of};
+ghost use Rattle.sheet.specs.Group.{facts-in};
+ghost use Rattle.step.specs.Failing.{failing};
 
 // Whether the fact that a word is holds in the state.
 pub fn holds(state: &[u32], fact: u32) -> bool
@@ -22,34 +22,40 @@ pub fn holds(state: &[u32], fact: u32) -> bool
     }
 }
 
-// The word of the first fact that fails, of those from word i up to end.
-pub fn first_failing(words: &[u32], state: &[u32], i: usize, end: usize) -> Place
-    ensures { λ r. ⌜ r ≡ failing-place (now (words .entry)) (now (state .entry)) i end ⌝ }
-{
-    let mut at = i;
-    while at < end {
-        let fact = word(words, at);
-        if holds(state, fact) {
-            at += 1;
-        } else {
-            return Place::At(at);
-        }
-    }
-    Place::Nowhere
+// The first fact of an assignment that fails, by its word, or none.
+pub enum Failing {
+    Nothing,
+    Fact(u32),
 }
 
-// Writes the facts from word i up to end into the state.
-pub fn write_facts(words: &[u32], state: &mut [u32], i: usize, end: usize)
-    ensures { λ _. ⌜ now (state .exit) ≡ assign (now (state .entry)) (facts (now (words .entry)) i end) ⌝ }
+// The first fact of a group that fails in the state.
+pub fn first_failing(words: &[u32], state: &[u32], group: Group) -> Failing
+    ensures { λ r. ⌜ failing r ≡ first-failing (now (state .entry)) (facts-in (now (words .entry)) group) ⌝ }
 {
-    let mut at = i;
-    while at < end {
-        let fact = word(words, at);
+    let mut rest = group;
+    while rest.at < rest.end {
+        let fact = rest.first(words);
+        if holds(state, fact) {
+            rest = rest.rest(words);
+        } else {
+            return Failing::Fact(fact);
+        }
+    }
+    Failing::Nothing
+}
+
+// Writes the facts of a group into the state.
+pub fn write_facts(words: &[u32], state: &mut [u32], group: Group)
+    ensures { λ _. ⌜ now (state .exit) ≡ assign (now (state .entry)) (facts-in (now (words .entry)) group) ⌝ }
+{
+    let mut rest = group;
+    while rest.at < rest.end {
+        let fact = rest.first(words);
         put(
             state,
             fact as usize / Sheet::VALUES,
             fact % Sheet::VALUES as u32,
         );
-        at += 1;
+        rest = rest.rest(words);
     }
 }

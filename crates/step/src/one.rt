@@ -1,16 +1,11 @@
 // One step as a service: by value, and on a lent state.
 use crate::advance::advance;
+use crate::state::State;
 use refusal::Refusal;
 use refusal::Verdict;
 use sheet::check::check_sheet;
 use sheet::layout::actions;
-use sheet::limits::Sheet;
 ghost use Rattle.step.specs.Step.{Tries, Steps};
-
-// A state (document 01: site state). It may hold any values; those past the task's variables stay as they are.
-pub struct State {
-    pub values: [u32; Sheet::VARIABLES],
-}
 
 // A step's answer, and the state after it.
 pub struct Stepped {

@@ -7,7 +7,7 @@ use mathlib.Core.List.{List, [], _∷_, _++_, append-assoc, append-nil}
 use lib.ListN.{length, take, getD, set, length-set}
 use lib.Seq.{take-suc, take-suc-set}
 use Rattle.program.specs.Form.{word-bytes, byte-values}
-use Rattle.text.specs.Pack.{bytes-of, packed}
+use Rattle.text.specs.Pack.{bytes-of, all-bytes}
 
 -- one byte is stored behind those that are there
 pub stored-next : (l l′ : List ℕ) (i j b : ℕ) → i < length l → j ≡ i + 1 → l′ ≡ set l i b → take j l′ ≡ take i l ++ (b ∷ [])
@@ -27,25 +27,25 @@ four-stored l l₁ l₂ l₃ l₄ i x room first second third fourth =
     let at₃ : take (i + 3) l₃ ≡ take (i + 2) l₂ ++ (x / byte-values / byte-values % byte-values ∷ []) = stored-next l₂ l₃ (i + 2) (i + 3) _ (omega arith) (omega arith) third in
     stored-next l₃ l₄ (i + 3) (i + 4) _ (omega arith) (omega arith) fourth ∙ rw (at₃, at₂, at₁) (simp append-assoc)
 
-packed-append : (xs ys : List ℕ) → packed (xs ++ ys) ≡ packed xs ++ packed ys
-unfolding packed
-packed-append [] ys = refl
-packed-append (x ∷ xs) ys = ap (λ l. bytes-of word-bytes x ++ l) (packed-append xs ys) ∙ sym (append-assoc (bytes-of word-bytes x) (packed xs) (packed ys))
+bytes-append : (xs ys : List ℕ) → all-bytes (xs ++ ys) ≡ all-bytes xs ++ all-bytes ys
+unfolding all-bytes
+bytes-append [] ys = refl
+bytes-append (x ∷ xs) ys = ap (λ l. bytes-of word-bytes x ++ l) (bytes-append xs ys) ∙ sym (append-assoc (bytes-of word-bytes x) (all-bytes xs) (all-bytes ys))
 
 -- no word, and one word more
-pub packed-nothing : (bytes : List ℕ) → take (word-bytes * 0) bytes ≡ packed []
-unfolding packed
-packed-nothing bytes = refl
+pub bytes-nothing : (bytes : List ℕ) → take (word-bytes * 0) bytes ≡ all-bytes []
+unfolding all-bytes
+bytes-nothing bytes = refl
 
-pub packed-next : (words bytes bytes′ : List ℕ) (i : ℕ) → i < length words → take (word-bytes * i) bytes ≡ packed (take i words)
-    → take (word-bytes * i + word-bytes) bytes′ ≡ take (word-bytes * i) bytes ++ bytes-of word-bytes (getD words i 0) → take (word-bytes * (i + 1)) bytes′ ≡ packed (take (i + 1) words)
-unfolding packed
-packed-next words bytes bytes′ i low there put =
+pub bytes-next : (words bytes bytes′ : List ℕ) (i : ℕ) → i < length words → take (word-bytes * i) bytes ≡ all-bytes (take i words)
+    → take (word-bytes * i + word-bytes) bytes′ ≡ take (word-bytes * i) bytes ++ bytes-of word-bytes (getD words i 0) → take (word-bytes * (i + 1)) bytes′ ≡ all-bytes (take (i + 1) words)
+unfolding all-bytes
+bytes-next words bytes bytes′ i low there put =
     let one-more : take (i + 1) words ≡ take i words ++ (getD words i 0 ∷ []) = rw add-one (take-suc words i 0 low) in
     let next : word-bytes * (i + 1) ≡ word-bytes * i + word-bytes = omega arith in
     ap (λ n. take n bytes′) next
     ∙ put
     ∙ ap (λ l. l ++ bytes-of word-bytes (getD words i 0)) there
-    ∙ ap (λ l. packed (take i words) ++ l) (sym (append-nil (bytes-of word-bytes (getD words i 0))))
-    ∙ sym (packed-append (take i words) (getD words i 0 ∷ []))
-    ∙ ap packed (sym one-more)
+    ∙ ap (λ l. all-bytes (take i words) ++ l) (sym (append-nil (bytes-of word-bytes (getD words i 0))))
+    ∙ sym (bytes-append (take i words) (getD words i 0 ∷ []))
+    ∙ ap all-bytes (sym one-more)

@@ -16,15 +16,15 @@ use Rattle.refusal.proofs.PlaceLaws.{one-fewer, none-left}
 use Rattle.text.specs.declared.reader.Mode.{Mode}
 use Rattle.text.specs.declared.reader.Mode.the-variants as mode
 use Rattle.text.specs.declared.reader.Reader.{Reader}
-use Rattle.text.specs.Text.{digit-zero, digit-nine, ends-line, begins-comment, blank, cut, filled, fields, Field, fields-from, all-digits, decimal-from, word-from, Reading, Words, NoWord, NoRoom, before, read, words-of}
-use Rattle.text.specs.Reading.{ends-field, after-blank, field-left, after-field, read-field, behind, still, Reads, Starts, Stores}
+use Rattle.text.specs.Text.{ascii-zero, ascii-nine, ends-line, begins-comment, blank, split, not-empty, fields, Field, fields-from, all-digits, decimal-from, word-from, Reading, Words, NoWord, NoRoom, in-front, read, reading}
+use Rattle.text.specs.Reading.{ends-field, after-blank, field-left, after-field, read-field, all-in-front, still, at-blank, at-comment, at-word, Reads, Starts, Stores}
 use Rattle.text.proofs.TextLaws.{none-left-of-field, blank-at-line-end, comment-at-line-end, comment-on, blank-at-comment, blank-at-blank, field-at-other, after-field-at-other, blank-at-other, field-ends, goes-on}
 
 -- more digits make no smaller number
 decimal-grows : (v : ℕ) (bs : List ℕ) → v ≤ decimal-from v bs
 unfolding decimal-from
 decimal-grows v [] = omega arith
-decimal-grows v (b ∷ bs) = omega (arith, decimal-grows (10 * v + (b - digit-zero)) bs)
+decimal-grows v (b ∷ bs) = omega (arith, decimal-grows (10 * v + (b - ascii-zero)) bs)
 
 -- the word that bytes stand for, by the first of them
 no-word : (v : ℕ) (bs : List ℕ) → all-digits bs ≡ false → word-from v bs ≡ none
@@ -32,30 +32,30 @@ unfolding word-from
 no-word v bs e = rw e
 
 module _ (v b : ℕ) (bs : List ℕ) where
-  low-no-word : b < digit-zero → word-from v (b ∷ bs) ≡ none
+  low-no-word : b < ascii-zero → word-from v (b ∷ bs) ≡ none
   unfolding all-digits
-  low-no-word low = no-word v (b ∷ bs) (rw (lt-leb digit-zero b low))
+  low-no-word low = no-word v (b ∷ bs) (rw (lt-leb ascii-zero b low))
 
-  high-no-word : digit-nine < b → word-from v (b ∷ bs) ≡ none
+  high-no-word : ascii-nine < b → word-from v (b ∷ bs) ≡ none
   unfolding all-digits
-  high-no-word high = no-word v (b ∷ bs) (by-case (leb digit-zero b))
+  high-no-word high = no-word v (b ∷ bs) (by-case (leb ascii-zero b))
     where
-      by-case : (t : Bool) → (t && leb b digit-nine && all-digits bs) ≡ false
-      by-case true = rw (lt-leb b digit-nine high)
+      by-case : (t : Bool) → (t && leb b ascii-nine && all-digits bs) ≡ false
+      by-case true = rw (lt-leb b ascii-nine high)
       by-case false = refl
 
-  large-no-word : 2 ^ 32 ≤ 10 * v + (b - digit-zero) → word-from v (b ∷ bs) ≡ none
+  large-no-word : 2 ^ 32 ≤ 10 * v + (b - ascii-zero) → word-from v (b ∷ bs) ≡ none
   unfolding word-from decimal-from
-  large-no-word large = let past : 2 ^ 32 ≤ decimal-from (10 * v + (b - digit-zero)) bs = omega (arith, decimal-grows (10 * v + (b - digit-zero)) bs) in by-case (all-digits (b ∷ bs)) past
+  large-no-word large = let past : 2 ^ 32 ≤ decimal-from (10 * v + (b - ascii-zero)) bs = omega (arith, decimal-grows (10 * v + (b - ascii-zero)) bs) in by-case (all-digits (b ∷ bs)) past
     where
-      by-case : (t : Bool) → 2 ^ 32 ≤ decimal-from (10 * v + (b - digit-zero)) bs
-          → cond (t && ltb (decimal-from (10 * v + (b - digit-zero)) bs) (2 ^ 32)) (some (decimal-from (10 * v + (b - digit-zero)) bs)) none ≡ none
-      by-case true past = rw (le-ltb (decimal-from (10 * v + (b - digit-zero)) bs) (2 ^ 32) past)
+      by-case : (t : Bool) → 2 ^ 32 ≤ decimal-from (10 * v + (b - ascii-zero)) bs
+          → cond (t && ltb (decimal-from (10 * v + (b - ascii-zero)) bs) (2 ^ 32)) (some (decimal-from (10 * v + (b - ascii-zero)) bs)) none ≡ none
+      by-case true past = rw (le-ltb (decimal-from (10 * v + (b - ascii-zero)) bs) (2 ^ 32) past)
       by-case false past = refl
 
-  grown-word : digit-zero ≤ b → b ≤ digit-nine → word-from v (b ∷ bs) ≡ word-from (10 * v + (b - digit-zero)) bs
+  grown-word : ascii-zero ≤ b → b ≤ ascii-nine → word-from v (b ∷ bs) ≡ word-from (10 * v + (b - ascii-zero)) bs
   unfolding word-from decimal-from all-digits
-  grown-word low high = rw (le-leb digit-zero b low, le-leb b digit-nine high)
+  grown-word low high = rw (le-leb ascii-zero b low, le-leb b ascii-nine high)
 
 -- digits alone are a word where their value is
 pub whole-word : (v : ℕ) → v < 2 ^ 32 → word-from v [] ≡ some v
@@ -67,43 +67,34 @@ pub read-next : (room n : ℕ) (bs : List ℕ) (fs : List Field) → read room (
 unfolding read read-field
 read-next room n bs fs = by-case room (word-from 0 bs)
   where
-    by-case : (k : ℕ) (o : Option ℕ) → elim o [ none ↦ NoWord n | some x ↦ elim k [ zero ↦ NoRoom n | suc m ↦ before x (read m fs) ] ] ≡ read-field k n o fs
+    by-case : (k : ℕ) (o : Option ℕ) → elim o [ none ↦ NoWord n | some x ↦ elim k [ zero ↦ NoRoom n | suc m ↦ in-front x (read m fs) ] ] ≡ read-field k n o fs
     by-case k none = refl
     by-case zero (some x) = refl
     by-case (suc m) (some x) = refl
 
 -- words in front change nothing where the reading found none
-behind-no-word : (xs : List ℕ) (n : ℕ) → behind xs (NoWord n) ≡ NoWord n
-unfolding behind
-behind-no-word [] n = refl
-behind-no-word (x ∷ xs) n = ap (before x) (behind-no-word xs n)
+all-in-front-no-word : (xs : List ℕ) (n : ℕ) → all-in-front xs (NoWord n) ≡ NoWord n
+unfolding all-in-front
+all-in-front-no-word [] n = refl
+all-in-front-no-word (x ∷ xs) n = ap (in-front x) (all-in-front-no-word xs n)
 
-behind-no-room : (xs : List ℕ) (n : ℕ) → behind xs (NoRoom n) ≡ NoRoom n
-unfolding behind
-behind-no-room [] n = refl
-behind-no-room (x ∷ xs) n = ap (before x) (behind-no-room xs n)
+all-in-front-no-room : (xs : List ℕ) (n : ℕ) → all-in-front xs (NoRoom n) ≡ NoRoom n
+unfolding all-in-front
+all-in-front-no-room [] n = refl
+all-in-front-no-room (x ∷ xs) n = ap (in-front x) (all-in-front-no-room xs n)
 
 -- and otherwise stand in front of its words
-pub behind-words : (xs ys : List ℕ) → behind xs (Words ys) ≡ Words (xs ++ ys)
-unfolding behind
-behind-words [] ys = refl
-behind-words (x ∷ xs) ys = ap (before x) (behind-words xs ys)
+pub all-in-front-words : (xs ys : List ℕ) → all-in-front xs (Words ys) ≡ Words (xs ++ ys)
+unfolding all-in-front
+all-in-front-words [] ys = refl
+all-in-front-words (x ∷ xs) ys = ap (in-front x) (all-in-front-words xs ys)
 
-behind-one-more : (xs : List ℕ) (x : ℕ) (r : Reading) → behind xs (before x r) ≡ behind (xs ++ (x ∷ [])) r
-unfolding behind
-behind-one-more [] x r = refl
-behind-one-more (y ∷ xs) x r = ap (before y) (behind-one-more xs x r)
+all-in-front-one-more : (xs : List ℕ) (x : ℕ) (r : Reading) → all-in-front xs (in-front x r) ≡ all-in-front (xs ++ (x ∷ [])) r
+unfolding all-in-front
+all-in-front-one-more [] x r = refl
+all-in-front-one-more (y ∷ xs) x r = ap (in-front y) (all-in-front-one-more xs x r)
 
--- a reader in white space, in a comment, behind digits
-abbrev at-blank : ℕ → ℕ → Reader
-at-blank n k = record { mode = mode.Blank; line = n; count = k }
-
-abbrev at-comment : ℕ → ℕ → Reader
-at-comment n k = record { mode = mode.Comment; line = n; count = k }
-
-abbrev at-word : ℕ → ℕ → ℕ → Reader
-at-word v n k = record { mode = mode.Word v; line = n; count = k }
-
+-- a reader at a field that is no word, or for which there is no room
 abbrev at-no-word : ℕ → ℕ → Reader
 at-no-word n k = record { mode = mode.NoWord; line = n; count = k }
 
@@ -124,56 +115,56 @@ reads-both {r} {xs = xs} ys first second =
 module _ (n k b : ℕ) (ws : List ℕ) where
   pub skips-line-end : ends-line b ≡ true → Reads (at-blank n k) ws (b ∷ []) (at-blank (n + 1) k) ws
   unfolding still
-  skips-line-end e = record { same = λ rest. ap (λ fs. behind (take k ws) (read (length ws - k) fs)) (sym (blank-at-line-end n b rest e)); lines = omega arith }
+  skips-line-end e = record { same = λ rest. ap (λ fs. all-in-front (take k ws) (read (length ws - k) fs)) (sym (blank-at-line-end n b rest e)); lines = omega arith }
 
   pub skips-comment : ends-line b ≡ false → begins-comment b ≡ true → Reads (at-blank n k) ws (b ∷ []) (at-comment n k) ws
   unfolding still
-  skips-comment on e = record { same = λ rest. ap (λ fs. behind (take k ws) (read (length ws - k) fs)) (sym (blank-at-comment n b rest on e)); lines = omega arith }
+  skips-comment on e = record { same = λ rest. ap (λ fs. all-in-front (take k ws) (read (length ws - k) fs)) (sym (blank-at-comment n b rest on e)); lines = omega arith }
 
   pub skips-blank : ends-line b ≡ false → begins-comment b ≡ false → blank b ≡ true → Reads (at-blank n k) ws (b ∷ []) (at-blank n k) ws
   unfolding still
-  skips-blank on is e = record { same = λ rest. ap (λ fs. behind (take k ws) (read (length ws - k) fs)) (sym (blank-at-blank n b rest on is e)); lines = omega arith }
+  skips-blank on is e = record { same = λ rest. ap (λ fs. all-in-front (take k ws) (read (length ws - k) fs)) (sym (blank-at-blank n b rest on is e)); lines = omega arith }
 
   pub passes-line-end : ends-line b ≡ true → Reads (at-comment n k) ws (b ∷ []) (at-blank (n + 1) k) ws
   unfolding still
-  passes-line-end e = record { same = λ rest. ap (λ fs. behind (take k ws) (read (length ws - k) fs)) (sym (comment-at-line-end n b rest e)); lines = omega arith }
+  passes-line-end e = record { same = λ rest. ap (λ fs. all-in-front (take k ws) (read (length ws - k) fs)) (sym (comment-at-line-end n b rest e)); lines = omega arith }
 
   pub passes-on : ends-line b ≡ false → Reads (at-comment n k) ws (b ∷ []) (at-comment n k) ws
   unfolding still
-  passes-on on = record { same = λ rest. ap (λ fs. behind (take k ws) (read (length ws - k) fs)) (sym (comment-on n b rest on)); lines = omega arith }
+  passes-on on = record { same = λ rest. ap (λ fs. all-in-front (take k ws) (read (length ws - k) fs)) (sym (comment-on n b rest on)); lines = omega arith }
 
   module _ (more : ends-field b ≡ false) where
     -- a field that goes on, by what its first bytes are
     goes : (v : ℕ) (rest : List ℕ)
-        → still (at-word v n k) ws (b ∷ rest) ≡ behind (take k ws) (read-field (length ws - k) n (word-from v (b ∷ field-left rest)) (after-field n rest))
+        → still (at-word v n k) ws (b ∷ rest) ≡ all-in-front (take k ws) (read-field (length ws - k) n (word-from v (b ∷ field-left rest)) (after-field n rest))
     unfolding still
     goes v rest =
         let (on, (is, other)) = goes-on b more in
-        ap (λ bs. behind (take k ws) (read-field (length ws - k) n (word-from v bs) (after-field n (b ∷ rest)))) (field-at-other n b rest on is other)
-        ∙ ap (λ fs. behind (take k ws) (read-field (length ws - k) n (word-from v (b ∷ field-left rest)) fs)) (after-field-at-other n b rest on is other)
+        ap (λ bs. all-in-front (take k ws) (read-field (length ws - k) n (word-from v bs) (after-field n (b ∷ rest)))) (field-at-other n b rest on is other)
+        ∙ ap (λ fs. all-in-front (take k ws) (read-field (length ws - k) n (word-from v (b ∷ field-left rest)) fs)) (after-field-at-other n b rest on is other)
 
     grows-no-word : (v : ℕ) → ((rest : List ℕ) → word-from v (b ∷ field-left rest) ≡ none) → Reads (at-word v n k) ws (b ∷ []) (at-no-word n k) ws
     unfolding still read-field
     grows-no-word v nothing =
         record {
-          same = λ rest. sym (goes v rest ∙ ap (λ o. behind (take k ws) (read-field (length ws - k) n o (after-field n rest))) (nothing rest) ∙ behind-no-word (take k ws) n);
+          same = λ rest. sym (goes v rest ∙ ap (λ o. all-in-front (take k ws) (read-field (length ws - k) n o (after-field n rest))) (nothing rest) ∙ all-in-front-no-word (take k ws) n);
           lines = omega arith;
         }
 
-    pub grows-low : (v : ℕ) → b < digit-zero → Reads (at-word v n k) ws (b ∷ []) (at-no-word n k) ws
+    pub grows-low : (v : ℕ) → b < ascii-zero → Reads (at-word v n k) ws (b ∷ []) (at-no-word n k) ws
     grows-low v low = grows-no-word v (λ rest. low-no-word v b (field-left rest) low)
 
-    pub grows-high : (v : ℕ) → digit-nine < b → Reads (at-word v n k) ws (b ∷ []) (at-no-word n k) ws
+    pub grows-high : (v : ℕ) → ascii-nine < b → Reads (at-word v n k) ws (b ∷ []) (at-no-word n k) ws
     grows-high v high = grows-no-word v (λ rest. high-no-word v b (field-left rest) high)
 
-    pub grows-large : (v : ℕ) → 2 ^ 32 ≤ 10 * v + (b - digit-zero) → Reads (at-word v n k) ws (b ∷ []) (at-no-word n k) ws
+    pub grows-large : (v : ℕ) → 2 ^ 32 ≤ 10 * v + (b - ascii-zero) → Reads (at-word v n k) ws (b ∷ []) (at-no-word n k) ws
     grows-large v large = grows-no-word v (λ rest. large-no-word v b (field-left rest) large)
 
-    pub grows-digit : (v : ℕ) → digit-zero ≤ b → b ≤ digit-nine → Reads (at-word v n k) ws (b ∷ []) (at-word (10 * v + (b - digit-zero)) n k) ws
+    pub grows-digit : (v : ℕ) → ascii-zero ≤ b → b ≤ ascii-nine → Reads (at-word v n k) ws (b ∷ []) (at-word (10 * v + (b - ascii-zero)) n k) ws
     unfolding still
     grows-digit v low high =
         record {
-          same = λ rest. sym (goes v rest ∙ ap (λ o. behind (take k ws) (read-field (length ws - k) n o (after-field n rest))) (grown-word v b (field-left rest) low high));
+          same = λ rest. sym (goes v rest ∙ ap (λ o. all-in-front (take k ws) (read-field (length ws - k) n o (after-field n rest))) (grown-word v b (field-left rest) low high));
           lines = omega arith;
         }
 
@@ -182,8 +173,8 @@ module _ (n k b : ℕ) (ws : List ℕ) where
     unfolding still
     begins rest =
         let (on, (is, other)) = goes-on b more in
-        ap (λ fs. behind (take k ws) (read (length ws - k) fs)) (blank-at-other n b rest on is other)
-        ∙ ap (behind (take k ws)) (read-next (length ws - k) n (b ∷ field-left rest) (after-field n rest))
+        ap (λ fs. all-in-front (take k ws) (read (length ws - k) fs)) (blank-at-other n b rest on is other)
+        ∙ ap (all-in-front (take k ws)) (read-next (length ws - k) n (b ∷ field-left rest) (after-field n rest))
         ∙ sym (goes 0 rest)
 
     pub skips-into-field : (r : Reader) → Reads (at-word 0 n k) ws (b ∷ []) r ws → Reads (at-blank n k) ws (b ∷ []) r ws
@@ -191,26 +182,26 @@ module _ (n k b : ℕ) (ws : List ℕ) where
 
 -- a field that is over: its word is stored where there is room
 module _ (v n k : ℕ) (ws rest : List ℕ) (small : v < 2 ^ 32) (over : field-left rest ≡ []) where
-  closes-to : still (at-word v n k) ws rest ≡ behind (take k ws) (read-field (length ws - k) n (some v) (after-blank n rest))
+  closes-to : still (at-word v n k) ws rest ≡ all-in-front (take k ws) (read-field (length ws - k) n (some v) (after-blank n rest))
   unfolding still
   closes-to =
-      ap (λ bs. behind (take k ws) (read-field (length ws - k) n (word-from v bs) (after-field n rest))) over
-      ∙ ap (λ o. behind (take k ws) (read-field (length ws - k) n o (after-field n rest))) (whole-word v small)
-      ∙ ap (λ fs. behind (take k ws) (read-field (length ws - k) n (some v) fs)) (none-left-of-field n rest over)
+      ap (λ bs. all-in-front (take k ws) (read-field (length ws - k) n (word-from v bs) (after-field n rest))) over
+      ∙ ap (λ o. all-in-front (take k ws) (read-field (length ws - k) n o (after-field n rest))) (whole-word v small)
+      ∙ ap (λ fs. all-in-front (take k ws) (read-field (length ws - k) n (some v) fs)) (none-left-of-field n rest over)
 
   pub closes : k < length ws → still (at-blank n (k + 1)) (set ws k v) rest ≡ still (at-word v n k) ws rest
   unfolding still read-field
   closes room =
-      ap (λ xs. behind xs (read (length (set ws k v) - (k + 1)) (after-blank n rest))) (rw add-one (take-suc-set ws k v room))
-      ∙ ap (λ m. behind (take k ws ++ (v ∷ [])) (read (m - (k + 1)) (after-blank n rest))) (length-set ws k v)
-      ∙ sym (behind-one-more (take k ws) v (read (length ws - (k + 1)) (after-blank n rest)))
-      ∙ ap (λ m. behind (take k ws) (read-field m n (some v) (after-blank n rest))) (sym (one-fewer k (length ws) room))
+      ap (λ xs. all-in-front xs (read (length (set ws k v) - (k + 1)) (after-blank n rest))) (rw add-one (take-suc-set ws k v room))
+      ∙ ap (λ m. all-in-front (take k ws ++ (v ∷ [])) (read (m - (k + 1)) (after-blank n rest))) (length-set ws k v)
+      ∙ sym (all-in-front-one-more (take k ws) v (read (length ws - (k + 1)) (after-blank n rest)))
+      ∙ ap (λ m. all-in-front (take k ws) (read-field m n (some v) (after-blank n rest))) (sym (one-fewer k (length ws) room))
       ∙ sym closes-to
 
   pub closes-full : length ws ≤ k → still (at-no-room n k) ws rest ≡ still (at-word v n k) ws rest
   unfolding still read-field
   closes-full full =
-      sym (closes-to ∙ ap (λ m. behind (take k ws) (read-field m n (some v) (after-blank n rest))) (none-left k (length ws) full) ∙ behind-no-room (take k ws) n)
+      sym (closes-to ∙ ap (λ m. all-in-front (take k ws) (read-field m n (some v) (after-blank n rest))) (none-left k (length ws) full) ∙ all-in-front-no-room (take k ws) n)
 
 -- a word is stored, and the byte that ends its field is read behind it
 module _ (v n k b : ℕ) (ws ws′ : List ℕ) (room : Bool) (stores : Stores ws k v room ws′) (ends : ends-field b ≡ true) where
@@ -257,12 +248,12 @@ reads-one-more r r′ r″ ws ws′ ws″ bytes i low first second = rw (add-one
 
 -- at the end of a text
 pub ends-blank : (n k : ℕ) (ws : List ℕ) → Words (take k ws) ≡ still (at-blank n k) ws []
-unfolding still cut fields fields-from filled read
-ends-blank n k ws = sym (behind-words (take k ws) [] ∙ ap Words (append-nil (take k ws)))
+unfolding still split fields fields-from not-empty read
+ends-blank n k ws = sym (all-in-front-words (take k ws) [] ∙ ap Words (append-nil (take k ws)))
 
 pub ends-comment : (n k : ℕ) (ws : List ℕ) → Words (take k ws) ≡ still (at-comment n k) ws []
-unfolding still cut fields-from read
-ends-comment n k ws = sym (behind-words (take k ws) [] ∙ ap Words (append-nil (take k ws)))
+unfolding still split fields-from read
+ends-comment n k ws = sym (all-in-front-words (take k ws) [] ∙ ap Words (append-nil (take k ws)))
 
 pub ends-no-word : (n k : ℕ) (ws : List ℕ) → NoWord n ≡ still (at-no-word n k) ws []
 unfolding still
@@ -274,7 +265,7 @@ ends-no-room n k ws = refl
 
 module _ (v n k : ℕ) (ws ws′ : List ℕ) (room : Bool) (stores : Stores ws k v room ws′) where
   nothing-left : field-left [] ≡ []
-  unfolding cut
+  unfolding split
   nothing-left = refl
 
   pub ends-word : room ≡ true → Words (take (k + 1) ws′) ≡ still (at-word v n k) ws []
@@ -289,9 +280,9 @@ module _ (v n k : ℕ) (ws ws′ : List ℕ) (room : Bool) (stores : Stores ws k
 
 -- at its beginning
 pub starts : Starts (at-blank 1 0)
-unfolding still words-of behind
+unfolding still reading all-in-front
 starts = record { whole = λ ws text. ap (λ m. read m (after-blank 1 text)) (sub-zero (length ws)); line = refl }
 
 -- from its beginning to its end a reader reads what a text means
-pub reads-whole : (s r : Reader) (ws ws′ text : List ℕ) (found : Reading) → Starts s → Reads s ws text r ws′ → found ≡ still r ws′ [] → found ≡ words-of (length ws) text
-reads-whole s r ws ws′ text found starts reads ends = ends ∙ reads .same [] ∙ starts .whole ws (text ++ []) ∙ ap (words-of (length ws)) (append-nil text)
+pub reads-whole : (s r : Reader) (ws ws′ text : List ℕ) (found : Reading) → Starts s → Reads s ws text r ws′ → found ≡ still r ws′ [] → found ≡ reading (length ws) text
+reads-whole s r ws ws′ text found starts reads ends = ends ∙ reads .same [] ∙ starts .whole ws (text ++ []) ∙ ap (reading (length ws)) (append-nil text)

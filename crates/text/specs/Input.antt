@@ -1,4 +1,5 @@
--- The reading of a text in chunks. No contract can say which bytes a call of C reads, so these say that there is a text of which they hold. Assumes nothing.
+-- The reading of a text in chunks. No contract can say which bytes a call of C reads, so these say that there is a
+-- text of which they hold. Assumes nothing.
 use Prim.Native.Nat.{ℕ, _+_, _≤_}
 use mathlib.Core.Path.{_≡_}
 use mathlib.Core.List.{List}
@@ -9,7 +10,7 @@ use Rattle.text.specs.declared.input.Found.the-variants as found
 use Rattle.text.specs.declared.input.Turn.{Turn}
 use Rattle.text.specs.declared.input.Turn.the-variants as turn
 use Rattle.text.specs.declared.reader.Reader.{Reader}
-use Rattle.text.specs.Text.{Reading, words-of, told}
+use Rattle.text.specs.Text.{Reading, reading, reading-of}
 use Rattle.text.specs.Reading.{Reads}
 
 -- the most words of a text, one more than input that is whole has
@@ -27,16 +28,16 @@ pub record Read-on (r : Reader) (ws : List ℕ) (r′ : Reader) (ws′ : List �
   pub reads : Reads r ws bytes r′ ws′
 
 -- what a turn finds: some bytes more; or no more; where the input can't be read, nothing is said
-abbrev pub Turns : Reader → List ℕ → Turn → List ℕ → Type 0
-Turns r ws (turn.More r′) ws′ = Read-on r ws r′ ws′
-Turns r ws turn.End ws′ = ws′ ≡ ws
-Turns r ws turn.Failed ws′ = Unit
+abbrev pub Turn-finds : Reader → List ℕ → Turn → List ℕ → Type 0
+Turn-finds r ws (turn.More r′) ws′ = Read-on r ws r′ ws′
+Turn-finds r ws turn.End ws′ = ws′ ≡ ws
+Turn-finds r ws turn.Failed ws′ = Unit
 
 -- what is found of a text, with its words at the front of ws
-pub record Of-text (told-of : Reading) (ws : List ℕ) : Type 0 where
+pub record Of-text (found-of : Reading) (ws : List ℕ) : Type 0 where
   pub text : List ℕ
-  pub meant : told-of ≡ words-of (length ws) text
+  pub meant : found-of ≡ reading (length ws) text
 
-abbrev pub Tells : Found → List ℕ → Type 0
-Tells (found.Text o) ws = Of-text (told o ws) ws
-Tells found.Failed ws = Unit
+abbrev pub Input-finds : Found → List ℕ → Type 0
+Input-finds (found.Text o) ws = Of-text (reading-of o ws) ws
+Input-finds found.Failed ws = Unit

@@ -1,4 +1,5 @@
--- Words as a text: the layout that a person reads, line by line. `SpellTheorem` shows that its words are those words. Assumes nothing.
+-- Words as a text: the layout that a person reads, line by line. `SpellTheorem` shows that its words are those words.
+-- Assumes nothing.
 use Prim.Native.Nat.{ℕ, _+_, _≤_}
 use mathlib.Core.Path.{_≡_}
 use mathlib.Core.Bool.{false}

@@ -1,14 +1,16 @@
--- What a text means: the words that stand in its lines between white space, comments left out, or the line at which it is no text of words. Assumes nothing.
+-- What a text means: the words that stand in its lines between white space, comments left out, or the line at which
+-- it is no text of words. Assumes nothing.
 use Prim.Native.Nat.{ℕ, zero, suc, _+_, _-_, _*_, _^_}
 use mathlib.Core.Bool.{Bool, true, false, cond, _&&_, _||_}
 use mathlib.Core.Option.{Option, none, some}
 use mathlib.Core.List.{List, [], _∷_, _++_, map}
 use lib.ListN.{take}
 use lib.Dec.{leb, ltb, eqb}
-use Rattle.text.specs.declared.reader.Outcome.{Outcome}
-use Rattle.text.specs.declared.reader.Outcome.the-variants as outcome
+use Rattle.text.specs.declared.reader.Ending.{Ending}
+use Rattle.text.specs.declared.reader.Ending.the-variants as ending
 
--- the bytes that count in a text, as ASCII has them: a line end, the sign that begins a comment, a space, the first digit and the last
+-- the bytes that count in a text, as ASCII has them: a line end, the sign that begins a comment, a space, the first
+-- digit and the last
 abbrev pub line-end : ℕ
 line-end = 10
 
@@ -18,11 +20,11 @@ comment-sign = 35
 abbrev pub space : ℕ
 space = 32
 
-abbrev pub digit-zero : ℕ
-digit-zero = 48
+abbrev pub ascii-zero : ℕ
+ascii-zero = 48
 
-abbrev pub digit-nine : ℕ
-digit-nine = 57
+abbrev pub ascii-nine : ℕ
+ascii-nine = 57
 
 abbrev pub ends-line : ℕ → Bool
 ends-line b = eqb b line-end
@@ -34,38 +36,39 @@ begins-comment b = eqb b comment-sign
 abbrev pub blank : ℕ → Bool
 blank b = eqb b space || eqb b 9 || eqb b 13
 
-abbrev pub digit : ℕ → Bool
-digit b = leb digit-zero b && leb b digit-nine
+abbrev pub ascii-digit : ℕ → Bool
+ascii-digit b = leb ascii-zero b && leb b ascii-nine
 
--- bytes cut at each byte for which a test holds, which is left out: the bytes to the first such byte, and the other runs of bytes
-pub record Cut : Type 0 where
+-- bytes cut at each byte for which a test holds, which is left out: the bytes to the first such byte, and the other
+-- runs of bytes
+pub record Split : Type 0 where
   pub first : List ℕ
   pub others : List (List ℕ)
 
-abbrev pub runs : Cut → List (List ℕ)
+abbrev pub runs : Split → List (List ℕ)
 runs c = c .first ∷ c .others
 
-unfoldable pub cut : (ℕ → Bool) → List ℕ → Cut
-cut test [] = record { first = []; others = [] }
-cut test (b ∷ bs) =
+unfoldable pub split : (ℕ → Bool) → List ℕ → Split
+split test [] = record { first = []; others = [] }
+split test (b ∷ bs) =
     elim (test b) [
-      | true ↦ record { first = []; others = runs (cut test bs) }
-      | false ↦ record { first = b ∷ cut test bs .first; others = cut test bs .others }
+      | true ↦ record { first = []; others = runs (split test bs) }
+      | false ↦ record { first = b ∷ split test bs .first; others = split test bs .others }
     ]
 
 -- those runs that are not empty
-unfoldable pub filled : List (List ℕ) → List (List ℕ)
-filled [] = []
-filled ([] ∷ rs) = filled rs
-filled ((b ∷ bs) ∷ rs) = (b ∷ bs) ∷ filled rs
+unfoldable pub not-empty : List (List ℕ) → List (List ℕ)
+not-empty [] = []
+not-empty ([] ∷ rs) = not-empty rs
+not-empty ((b ∷ bs) ∷ rs) = (b ∷ bs) ∷ not-empty rs
 
 -- a line before its comment
 abbrev pub uncommented : List ℕ → List ℕ
-uncommented line = cut begins-comment line .first
+uncommented line = split begins-comment line .first
 
 -- what stands there between white space
 unfoldable pub fields : List ℕ → List (List ℕ)
-fields line = filled (runs (cut blank (uncommented line)))
+fields line = not-empty (runs (split blank (uncommented line)))
 
 -- a field of a text, with the number of its line
 pub record Field : Type 0 where
@@ -83,47 +86,50 @@ fields-from n (l ∷ ls) = on-line n (fields l) ++ fields-from (n + 1) ls
 -- whether all bytes are digits
 unfoldable pub all-digits : List ℕ → Bool
 all-digits [] = true
-all-digits (b ∷ bs) = digit b && all-digits bs
+all-digits (b ∷ bs) = ascii-digit b && all-digits bs
 
 -- the number that digits stand for in decimal, where those in front of them stand for v
 unfoldable pub decimal-from : ℕ → List ℕ → ℕ
 decimal-from v [] = v
-decimal-from v (b ∷ bs) = decimal-from (10 * v + (b - digit-zero)) bs
+decimal-from v (b ∷ bs) = decimal-from (10 * v + (b - ascii-zero)) bs
 
--- the word that bytes stand for behind digits that stand for v: there is one where all are digits and the number fits a word
+-- the word that bytes stand for behind digits that stand for v: there is one where all are digits and the number fits
+-- a word
 unfoldable pub word-from : ℕ → List ℕ → Option ℕ
 word-from v bs = cond (all-digits bs && ltb (decimal-from v bs) (2 ^ 32)) (some (decimal-from v bs)) none
 
 abbrev pub word-of : List ℕ → Option ℕ
 word-of bs = word-from 0 bs
 
--- what reading a text finds: its words; or the line of a field that is no word; or the line of a word for which there is no room
+-- what reading a text finds: its words; or the line of a field that is no word; or the line of a word for which there
+-- is no room
 pub data Reading : Type 0 where
   Words : List ℕ → Reading
   NoWord : ℕ → Reading
   NoRoom : ℕ → Reading
 
 -- a reading with one word in front
-abbrev pub before : ℕ → Reading → Reading
-before x (Words xs) = Words (x ∷ xs)
-before x (NoWord n) = NoWord n
-before x (NoRoom n) = NoRoom n
+abbrev pub in-front : ℕ → Reading → Reading
+in-front x (Words xs) = Words (x ∷ xs)
+in-front x (NoWord n) = NoWord n
+in-front x (NoRoom n) = NoRoom n
 
--- what reading fields in turn finds, where there is room for so many words: it ends at the first that is no word or has no room
+-- what reading fields in turn finds, where there is room for so many words: it ends at the first that is no word or
+-- has no room
 unfoldable pub read : ℕ → List Field → Reading
 read room [] = Words []
 read room (f ∷ fs) =
     elim (word-of (f .bytes)) [
       | none ↦ NoWord (f .line)
-      | some x ↦ elim room [ zero ↦ NoRoom (f .line) | suc k ↦ before x (read k fs) ]
+      | some x ↦ elim room [ zero ↦ NoRoom (f .line) | suc k ↦ in-front x (read k fs) ]
     ]
 
 -- what reading a text finds, where there is room for so many words; its lines are numbered from 1
-unfoldable pub words-of : ℕ → List ℕ → Reading
-words-of room text = read room (fields-from 1 (runs (cut ends-line text)))
+unfoldable pub reading : ℕ → List ℕ → Reading
+reading room text = read room (fields-from 1 (runs (split ends-line text)))
 
--- what an outcome tells, where the words read are stored at the front of ws
-abbrev pub told : Outcome → List ℕ → Reading
-told (outcome.Words n) ws = Words (take n ws)
-told (outcome.NoWord n) ws = NoWord n
-told (outcome.NoRoom n) ws = NoRoom n
+-- what the end of a reading tells, where the words read are stored at the front of ws
+abbrev pub reading-of : Ending → List ℕ → Reading
+reading-of (ending.Words n) ws = Words (take n ws)
+reading-of (ending.NoWord n) ws = NoWord n
+reading-of (ending.NoRoom n) ws = NoRoom n

@@ -1,5 +1,5 @@
 // The reading of a text from standard input, in chunks: there is no heap, and comments may be of any length.
-use crate::reader::Outcome;
+use crate::reader::Ending;
 use crate::reader::Reader;
 use crate::reader::feed_all;
 use crate::reader::finish;
@@ -7,14 +7,16 @@ use crate::reader::start;
 use libc::STDIN_FILENO;
 use program::framing::WORDS;
 ghost use Prim.Native.Nat.{_+_, _<_, _^_};
-ghost use Rattle.text.specs.Input.{chunk, Turns, Tells};
+ghost use Rattle.text.specs.Input.{chunk, Turn-finds, Input-finds};
 
-// The most words of a text: one more than input that is whole has, so that a program which reads them still sees that they run on.
+// The most words of a text: one more than input that is whole has, so that a program which reads them still sees that
+// they run on.
 pub const MOST: usize = WORDS + 1;
 
 const CHUNK: usize = 4096;
 
-// A proved loop has to end, and nothing says that input does. So the turns are counted down, from a number that no run uses up.
+// A proved loop has to end, and nothing says that input does. So the turns are counted down, from a number that no
+// run uses up.
 const TURNS: u64 = 1 << 50;
 
 // What one turn of reading finds: a reader that has read more, the end of the input, or input that can't be read.
@@ -26,14 +28,14 @@ pub enum Turn {
 
 // What reading the input finds.
 pub enum Found {
-    Text(Outcome),
+    Text(Ending),
     Failed,
 }
 
 // Reads a chunk.
 fn read_some(reader: Reader, words: &mut [u32]) -> Turn
     requires { ⌜ reader .line + chunk < 2 ^ 64 ⌝ }
-    ensures { λ r. ⌜ Turns reader (now (words .entry)) r (now (words .exit)) ⌝ }
+    ensures { λ r. ⌜ Turn-finds reader (now (words .entry)) r (now (words .exit)) ⌝ }
 {
     let mut bytes = [0u8; CHUNK];
     let got = libc::read(STDIN_FILENO, &mut bytes);
@@ -49,7 +51,7 @@ fn read_some(reader: Reader, words: &mut [u32]) -> Turn
 
 // Reads the whole input, and stores its words.
 pub fn read_text(words: &mut [u32]) -> Found
-    ensures { λ r. ⌜ Tells r (now (words .exit)) ⌝ }
+    ensures { λ r. ⌜ Input-finds r (now (words .exit)) ⌝ }
 {
     let mut reader = start();
     let mut turns = TURNS;

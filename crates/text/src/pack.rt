@@ -3,17 +3,15 @@ use access::put8;
 use access::word;
 use program::word::BYTE;
 use program::word::WORD;
-ghost use mathlib.Core.Path.{_≡_};
-ghost use mathlib.Core.List.{_++_};
 ghost use Prim.Native.Nat.{_+_, _*_, _≤_, _<_};
-ghost use lib.ListN.{length, take};
+ghost use lib.ListN.{length};
 ghost use Rattle.program.specs.Form.{word-bytes};
-ghost use Rattle.text.specs.Pack.{bytes-of, packed};
+ghost use Rattle.text.specs.Pack.{Puts, Packs, bytes-of};
 
 // Writes a word at index `at`, its lowest byte first.
 fn put_word(bytes: &mut [u8], at: usize, x: u32)
     requires { ⌜ at + word-bytes ≤ length (now bytes) ⌝ }
-    ensures { λ _. ⌜ take (at + word-bytes) (now (bytes .exit)) ≡ take at (now (bytes .entry)) ++ bytes-of word-bytes x ⌝ }
+    ensures { λ _. ⌜ Puts word-bytes (bytes-of word-bytes x) at (now (bytes .entry)) (now (bytes .exit)) ⌝ }
 {
     let second = x / BYTE;
     let third = second / BYTE;
@@ -27,7 +25,7 @@ fn put_word(bytes: &mut [u8], at: usize, x: u32)
 // Writes the words at the front of the bytes.
 pub fn pack(words: &[u32], bytes: &mut [u8])
     requires { ⌜ word-bytes * length (now words) ≤ length (now bytes) ⌝ }
-    ensures { λ _. ⌜ take (word-bytes * length (now (words .entry))) (now (bytes .exit)) ≡ packed (now (words .entry)) ⌝ }
+    ensures { λ _. ⌜ Packs (now (words .entry)) (now (bytes .exit)) ⌝ }
 {
     let mut i = 0;
     while i < words.len() {

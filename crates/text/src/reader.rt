@@ -5,8 +5,8 @@ ghost use mathlib.Core.Bool.{false};
 ghost use mathlib.Core.List.{List, [], _∷_};
 ghost use Prim.Native.Nat.{ℕ, _+_, _<_, _^_};
 ghost use lib.ListN.{length};
-ghost use Rattle.text.specs.Text.{blank as is-blank, words-of, told};
-ghost use Rattle.text.specs.Reading.{ends-field, still, Reads, Starts, Stores};
+ghost use Rattle.text.specs.Text.{blank as is-blank, reading, reading-of};
+ghost use Rattle.text.specs.Reading.{ends-field, still, at-blank, at-comment, at-word, Reads, Starts, Stores};
 
 // What counts in a text.
 pub(crate) const LINE_END: u8 = b'\n';
@@ -15,8 +15,8 @@ pub(crate) const SPACE: u8 = b' ';
 
 const COMMENT: u8 = b'#';
 
-// Where a reader stands: in white space, in a comment, behind the digits of a word with the value that they have so far, or where
-// it stopped, at a field that is no word or at a word for which there is no room.
+// Where a reader stands: in white space, in a comment, behind the digits of a word with the value that they have so
+// far, or where it stopped, at a field that is no word or at a word for which there is no room.
 pub enum Mode {
     Blank,
     Comment,
@@ -33,7 +33,7 @@ pub struct Reader {
 }
 
 // What reading a text finds: how many words, or the line at which it stopped.
-pub enum Outcome {
+pub enum Ending {
     Words(usize),
     NoWord(u64),
     NoRoom(u64),
@@ -68,7 +68,7 @@ fn ends_field(byte: u8) -> bool
 // Takes one more byte of a field whose digits so far have this value.
 fn grow(line: u64, count: usize, value: u32, byte: u8) -> Reader
     requires { ⌜ ends-field byte ≡ false ⌝ }
-    ensures { λ r. ⌜ ((ws : List ℕ) → Reads (record { mode = Mode.Word value; line = line; count = count }) ws (byte ∷ []) r ws) ⌝ }
+    ensures { λ r. ⌜ ((ws : List ℕ) → Reads (at-word value line count) ws (byte ∷ []) r ws) ⌝ }
 {
     if byte < b'0' {
         return Reader {
@@ -102,7 +102,7 @@ fn grow(line: u64, count: usize, value: u32, byte: u8) -> Reader
 // Takes one more byte in white space.
 fn skip(line: u64, count: usize, byte: u8) -> Reader
     requires { ⌜ line + 1 < 2 ^ 64 ⌝ }
-    ensures { λ r. ⌜ ((ws : List ℕ) → Reads (record { mode = Mode.Blank; line = line; count = count }) ws (byte ∷ []) r ws) ⌝ }
+    ensures { λ r. ⌜ ((ws : List ℕ) → Reads (at-blank line count) ws (byte ∷ []) r ws) ⌝ }
 {
     if byte == LINE_END {
         return Reader {
@@ -131,7 +131,7 @@ fn skip(line: u64, count: usize, byte: u8) -> Reader
 // Takes one more byte in a comment.
 fn pass(line: u64, count: usize, byte: u8) -> Reader
     requires { ⌜ line + 1 < 2 ^ 64 ⌝ }
-    ensures { λ r. ⌜ ((ws : List ℕ) → Reads (record { mode = Mode.Comment; line = line; count = count }) ws (byte ∷ []) r ws) ⌝ }
+    ensures { λ r. ⌜ ((ws : List ℕ) → Reads (at-comment line count) ws (byte ∷ []) r ws) ⌝ }
 {
     if byte == LINE_END {
         return Reader {
@@ -211,30 +211,30 @@ pub fn feed_all(reader: Reader, bytes: &[u8], words: &mut [u32]) -> Reader
 }
 
 // Ends the reading, at the end of the text.
-pub fn finish(reader: Reader, words: &mut [u32]) -> Outcome
-    ensures { λ r. ⌜ told r (now (words .exit)) ≡ still reader (now (words .entry)) [] ⌝ }
+pub fn finish(reader: Reader, words: &mut [u32]) -> Ending
+    ensures { λ r. ⌜ reading-of r (now (words .exit)) ≡ still reader (now (words .entry)) [] ⌝ }
 {
     let mode = reader.mode;
     let line = reader.line;
     let count = reader.count;
     match mode {
-        Mode::Blank => Outcome::Words(count),
-        Mode::Comment => Outcome::Words(count),
+        Mode::Blank => Ending::Words(count),
+        Mode::Comment => Ending::Words(count),
         Mode::Word(value) => {
             if store(words, count, value) {
-                return Outcome::Words(count + 1);
+                return Ending::Words(count + 1);
             }
-            Outcome::NoRoom(line)
+            Ending::NoRoom(line)
         }
-        Mode::NoWord => Outcome::NoWord(line),
-        Mode::NoRoom => Outcome::NoRoom(line),
+        Mode::NoWord => Ending::NoWord(line),
+        Mode::NoRoom => Ending::NoRoom(line),
     }
 }
 
 // Reads a whole text.
-pub fn read_whole(text: &[u8], words: &mut [u32]) -> Outcome
+pub fn read_whole(text: &[u8], words: &mut [u32]) -> Ending
     requires { ⌜ 1 + length (now text) < 2 ^ 64 ⌝ }
-    ensures { λ r. ⌜ told r (now (words .exit)) ≡ words-of (length (now (words .entry))) (now (text .entry)) ⌝ }
+    ensures { λ r. ⌜ reading-of r (now (words .exit)) ≡ reading (length (now (words .entry))) (now (text .entry)) ⌝ }
 {
     finish(feed_all(start(), text, words), words)
 }

@@ -3,11 +3,10 @@ use crate::reader::LINE_END;
 use crate::reader::SPACE;
 use access::put8;
 use access::word;
-ghost use mathlib.Core.Path.{_≡_};
-ghost use mathlib.Core.List.{_++_};
 ghost use Prim.Native.Nat.{_+_, _*_, _≤_, _<_};
-ghost use lib.ListN.{length, take};
+ghost use lib.ListN.{length};
 ghost use Rattle.io.specs.Counts.{Counts};
+ghost use Rattle.text.specs.Pack.{Puts};
 ghost use Rattle.text.specs.Spell.{word-room, Writes-word, Writes-line};
 
 // How many words a line has, and how many bytes it takes at most, 11 for a word with its space.
@@ -18,7 +17,7 @@ pub const LINE: usize = 11 * ROW + 1;
 // Writes bytes at index `at`.
 fn copy(from: &[u8], to: &mut [u8], at: usize)
     requires { ⌜ at + length (now from) ≤ length (now to) ⌝ }
-    ensures { λ _. ⌜ take (at + length (now (from .entry))) (now (to .exit)) ≡ take at (now (to .entry)) ++ now (from .entry) ⌝ }
+    ensures { λ _. ⌜ Puts (length (now (from .entry))) (now (from .entry)) at (now (to .entry)) (now (to .exit)) ⌝ }
 {
     let mut i = 0;
     while i < from.len() {

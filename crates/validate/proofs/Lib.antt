@@ -1,4 +1,4 @@
 -- ValidateLaws: the check of a plan tells what the program answers to it.
 pub mod ValidateLaws
--- ValidateTheorem: what it answers to the bytes that it reads is what is due to the whole input.
+-- ValidateTheorem: what it answers to the bytes that it reads is its answer to the whole input.
 pub mod ValidateTheorem

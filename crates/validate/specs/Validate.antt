@@ -3,12 +3,12 @@ use Prim.Native.Nat.{ℕ}
 use mathlib.Core.Option.{Option, some}
 use mathlib.Core.List.{List}
 use Rattle.refusal.specs.Refusal.{Told}
-use Rattle.refusal.specs.Check.{answer}
+use Rattle.refusal.specs.Check.{answer, unless-refused}
 use Rattle.tally.specs.declared.Tally.{Tally}
 use Rattle.tally.specs.Tally.{nothing}
 use Rattle.plan.specs.declared.check.Answer.{Answer}
-use Rattle.plan.specs.Checked.{plan-checks, told-answer, told-tally, tally-of}
-use Rattle.program.specs.Due.{due}
+use Rattle.plan.specs.Checked.{plan-checks, told-answer, told-tally, lodged-tally}
+use Rattle.program.specs.Reply.{reply}
 
 -- the refusal, if there is one, and the tally
 pub record Outcome : Type 0 where
@@ -25,8 +25,12 @@ refused t = record { refusal = some t; tally = nothing }
 
 -- those of the check of the plan l of the sheet w
 abbrev pub checked : List ℕ → List ℕ → Outcome
-checked w l = record { refusal = answer (plan-checks w l); tally = tally-of w l }
+checked w l =
+    record {
+      refusal = answer (plan-checks w l);
+      tally = unless-refused (answer (plan-checks w l)) (lodged-tally w l) nothing;
+    }
 
--- those due to the bytes of an input
+-- those of the program's answer to the bytes of an input
 abbrev pub outcome : List ℕ → Outcome
-outcome bytes = due refused checked bytes
+outcome bytes = reply refused checked bytes

@@ -1,6 +1,6 @@
 // What the services find of a list, as the end of a line.
 use crate::lists::LONGEST;
-use landmark::masked::marks_mask;
+use landmark::marks::marks_mask;
 use minimal::reduce::minimal_reduction;
 use plan::check::Answer;
 use plan::check::check_plan;

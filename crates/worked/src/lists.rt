@@ -23,7 +23,8 @@ fn lay(words: &mut [u32], at: usize, part: &[u32])
     }
 }
 
-// Sheet P, with drop at another cost: its header and pairs, the domains, the start, the goal, and its actions lift, drain, drop and lamp.
+// Sheet P, with drop at another cost: its header and pairs, the domains, the start, the goal, and its actions lift,
+// drain, drop and lamp.
 pub(crate) fn sheet(cost: u32) -> [u32; WORDS] {
     let mut words = [0u32; WORDS];
     lay(&mut words, 0, &[1, 3, 4, 41]);

@@ -23,7 +23,8 @@ same-length-2 : tie.Need-same-length-2
 same-length-2 c = search needs
 
 returns : tie.Need-returns
-returns c = let checks = c .before .before .before .before .before .before .before .before .before .before .before .check-plan .ensures in let written = c .before .before .before .before .before .before .write-values .ensures in (written ∙ rw (checks .end), c .before .before .write-answer .ensures ∙ rw (checks .refusal, checks .tally))
+returns c = let checks = c .before .before .before .before .before .before .before .before .before .before .before .check-plan .ensures in let written = c .before .before .before .before .before .before .write-values .ensures in
+    record { end = written ∙ rw (checks .end); answered = c .before .before .write-answer .ensures ∙ rw (checks .refusal, checks .tally) }
 
 pub hollchiku-check-plan-spec : {M : Type 1} → statement M
 hollchiku-check-plan-spec =

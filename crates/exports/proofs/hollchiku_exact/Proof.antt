@@ -1,5 +1,5 @@
 -- `hollchiku_exact` meets its contract: what is written is what the service answers. Assumes nothing.
-use mathlib.Core.Path.{_∙_}
+use Rattle.exports.proofs.LentLaws.{lent-answers}
 use borrow.Author.Needs.{needs}
 use Rattle.exports.proofs.hollchiku_exact.Statement.{statement}
 use Rattle.exports.proofs.hollchiku_exact.Tie as tie
@@ -7,14 +7,8 @@ use Rattle.exports.proofs.hollchiku_exact.Tie as tie
 minimal-reduction-requires : tie.Need-minimal-reduction-requires
 minimal-reduction-requires c κs = search needs
 
-slice-aggregate-write-wide : tie.Need-slice-aggregate-write-wide
-slice-aggregate-write-wide c = search needs
-
-write-wide-requires : tie.Need-write-wide-requires
-write-wide-requires c κs = search needs
-
-write-answer-requires : tie.Need-write-answer-requires
-write-answer-requires c κs = search needs
+write-reduced-requires : tie.Need-write-reduced-requires
+write-reduced-requires c κs = search needs
 
 same-length : tie.Need-same-length
 same-length c = search needs
@@ -26,16 +20,14 @@ same-length-3 : tie.Need-same-length-3
 same-length-3 c = search needs
 
 returns : tie.Need-returns
-returns c = let reduces = c .before .before .before .before .before .before .before .before .before .before .before .before .before .minimal-reduction .ensures .0 in record { list-left = reduces .output; told-by = c .before .before .before .before .before .before .write-wide .ensures ∙ rw (reduces .told-by); answered = c .before .before .write-answer .ensures ∙ rw (reduces .refusal, reduces .tally) }
+returns c = lent-answers _ _ _ _ _ _ _ _ _ _ _ _ (c .before .before .before .before .before .before .before .before .before .minimal-reduction .ensures .0 .answers) (c .before .before .before .before .write-reduced .ensures)
 
 pub hollchiku-exact-spec : {M : Type 1} → statement M
 hollchiku-exact-spec =
     tie.close
     (tie.spec
     minimal-reduction-requires
-    slice-aggregate-write-wide
-    write-wide-requires
-    write-answer-requires
+    write-reduced-requires
     same-length
     same-length-2
     same-length-3

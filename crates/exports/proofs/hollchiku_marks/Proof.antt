@@ -22,7 +22,7 @@ same-length-2 : tie.Need-same-length-2
 same-length-2 c = search needs
 
 returns : tie.Need-returns
-returns c = (cc, cc)
+returns c = record { told-by = cc; answered = cc }
 
 pub hollchiku-marks-spec : {M : Type 1} → statement M
 hollchiku-marks-spec =

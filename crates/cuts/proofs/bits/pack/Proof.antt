@@ -1,50 +1,49 @@
--- `pack` meets its contract. The loop's invariant: the facts from the k-th on are packed. The measure is k. Assumes nothing.
-use native.Mathlib.Omega.{arith}
+-- `pack` meets its contract. The loop's invariant: what is packed and what is left make the whole. The measure is the number of bits left. Assumes nothing.
 use borrow.Author.Needs.{needs}
-use Rattle.cuts.proofs.BitPackLaws.{Packed, packed-start, packed-more, packed-fits, packed-doubles, packed-end, inside}
+use native.Mathlib.Omega.{arith}
+use Prim.Native.Nat.{_-_}
+use Rattle.cuts.proofs.BitPackLaws.{Packing, packing-start, packing-more, packed-fits, packed-over, packed-full}
 use Rattle.cuts.proofs.bits.pack.Statement.{statement}
 use Rattle.cuts.proofs.bits.pack.Tie as tie
 
 abbrev Inv-loop : tie.InvT-loop
-Inv-loop words wanted from end bits₀ k₀ bits k = Packed wanted words from end k bits
+Inv-loop words wanted bits₀ rest₀ k₀ bits rest k = Packing wanted words rest₀ rest k bits
 
 abbrev μ-loop : tie.MeasureT-loop
-μ-loop words wanted from end bits₀ k₀ bits k = k
-
-with-bit-requires : tie.Need-with-bit-requires Inv-loop μ-loop
-with-bit-requires c κs = search needs
+μ-loop words wanted bits₀ rest₀ k₀ bits rest k = 64 - k
 
 loop-holds : tie.Need-loop-holds Inv-loop μ-loop
-loop-holds c = packed-start _ _ _ _ _ (c .with-bit .ensures)
+loop-holds c = packing-start _ _ _
 
-sub-k : tie.Need-sub-k Inv-loop μ-loop
-sub-k c = search needs
+returns : tie.Need-returns Inv-loop μ-loop
+returns c = packed-over _ _ _ _ _ _ (c .before .before .before .loop .inv) (c .if1 .taken)
 
-mul-bits : tie.Need-mul-bits Inv-loop μ-loop
-mul-bits c = let low = packed-doubles _ _ _ _ _ _ (c .loop-test .taken) (c .before .loop .inv) in omega (arith, low)
-
-add-word : tie.Need-add-word Inv-loop μ-loop
-add-word c = omega (arith, inside _ _ _ _ _ _ (c .loop-test .taken) (c .before .loop .inv), c .before .before .before .before .before .fits .end)
-
-word-requires : tie.Need-word-requires Inv-loop μ-loop
-word-requires c κs = search needs
+first-requires : tie.Need-first-requires Inv-loop μ-loop
+first-requires c κs = search needs
 
 digit-requires : tie.Need-digit-requires Inv-loop μ-loop
 digit-requires c κs = search needs
 
+shl-bits : tie.Need-shl-bits Inv-loop μ-loop
+shl-bits c = search needs
+
 add-bits : tie.Need-add-bits Inv-loop μ-loop
-add-bits c =
-    let low = packed-fits _ _ _ _ _ _ _ _ (c .before .before .loop-test .taken) (c .before .before .before .loop .inv) (c .before .word .ensures .0) (c .digit .ensures) in
-    omega (arith, low)
+add-bits c = let low = packed-fits _ _ _ _ _ _ (c .before .before .before .before .before .loop .inv) (c .before .before .if1 .left) (c .before .before .before .before .loop-test .taken) _ _ (c .before .first .ensures .0) (c .digit .ensures) in omega (arith, low)
+
+rest-requires : tie.Need-rest-requires Inv-loop μ-loop
+rest-requires c κs = search needs
+
+add-k : tie.Need-add-k Inv-loop μ-loop
+add-k c = search needs
 
 loop-less : tie.Need-loop-less Inv-loop μ-loop
 loop-less c = search needs
 
 loop-again : tie.Need-loop-again Inv-loop μ-loop
-loop-again c = packed-more _ _ _ _ _ _ _ _ (c .before .before .loop-test .taken) (c .before .before .before .loop .inv) (c .before .word .ensures .0) (c .digit .ensures)
+loop-again c = packing-more _ _ _ _ _ _ (c .before .before .before .before .before .before .loop .inv) (c .before .before .before .if1 .left) (c .before .before .before .before .before .loop-test .taken) _ _ (c .before .before .first .ensures .0) (c .before .digit .ensures) _ (c .rest .ensures)
 
-returns : tie.Need-returns Inv-loop μ-loop
-returns c = packed-end _ _ _ _ _ _ (c .loop-test .left) (c .before .loop .inv)
+returns-2 : tie.Need-returns-2 Inv-loop μ-loop
+returns-2 c = packed-full _ _ _ _ _ _ (c .before .loop .inv) (c .loop-test .left)
 
 pub pack-spec : {M : Type 1} → statement M
 pack-spec =
@@ -52,14 +51,14 @@ pack-spec =
     (tie.spec
     Inv-loop
     μ-loop
-    with-bit-requires
     loop-holds
-    sub-k
-    mul-bits
-    add-word
-    word-requires
+    returns
+    first-requires
     digit-requires
+    shl-bits
     add-bits
+    rest-requires
+    add-k
     loop-less
     loop-again
-    returns)
+    returns-2)

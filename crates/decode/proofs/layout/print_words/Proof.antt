@@ -5,7 +5,7 @@ use borrow.Author.Needs.{needs}
 use lib.ListN.{length}
 use lib.Dec.{lit<}
 use Rattle.text.specs.Spell.{row}
-use Rattle.decode.proofs.PartLaws.{part-of}
+use Rattle.decode.proofs.TakenLaws.{taken-from}
 use Rattle.decode.proofs.layout.print_words.Statement.{statement}
 use Rattle.decode.proofs.layout.print_words.Tie as tie
 
@@ -34,13 +34,13 @@ front-requires : tie.Need-front-requires Inv-loop μ-loop
 front-requires c κs = search needs
 
 print-row-requires : tie.Need-print-row-requires Inv-loop μ-loop
-print-row-requires c κs = part-of (c .before .before .before .before .before .args .words .now) _ (c .before .before .before .loop .at) row (c .before .before .loop-test .taken) (c .front .ensures) .few
+print-row-requires c κs = taken-from (c .before .before .before .before .before .args .words .now) _ (c .before .before .before .loop .at) row (c .before .before .loop-test .taken) (c .front .ensures) .few
 
 add-at : tie.Need-add-at Inv-loop μ-loop
-add-at c = omega (arith, part-of (c .before .before .before .before .before .before .args .words .now) _ (c .before .before .before .before .loop .at) row (c .before .before .before .loop-test .taken) (c .before .front .ensures) .inside)
+add-at c = omega (arith, taken-from (c .before .before .before .before .before .before .args .words .now) _ (c .before .before .before .before .loop .at) row (c .before .before .before .loop-test .taken) (c .before .front .ensures) .inside)
 
 loop-less : tie.Need-loop-less Inv-loop μ-loop
-loop-less c = let there = part-of (c .before .before .before .before .before .before .args .words .now) _ (c .before .before .before .before .loop .at) row (c .before .before .before .loop-test .taken) (c .before .front .ensures) in omega (arith, there .inside, there .some-there (lit< tt))
+loop-less c = let there = taken-from (c .before .before .before .before .before .before .args .words .now) _ (c .before .before .before .before .loop .at) row (c .before .before .before .loop-test .taken) (c .before .front .ensures) in omega (arith, there .inside, there .some-there (lit< tt))
 
 loop-again : tie.Need-loop-again Inv-loop μ-loop
 loop-again c = search needs

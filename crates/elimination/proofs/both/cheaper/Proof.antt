@@ -1,8 +1,10 @@
 -- `cheaper` meets its contract: a list that passes is valid where the eliminations begin, and each leaves what its definition says. Assumes nothing.
-use mathlib.Core.Path.{sym}
-use Rattle.service.proofs.ChecksLaws.{readable, valid-start}
-use Rattle.elimination.proofs.LeavesLaws.{elimination-leaves, greedy-leaves}
 use Rattle.elimination.proofs.ServiceLaws.{both-refused, both-kept}
+use Rattle.elimination.specs.declared.single.Elimination.the-variants.{Plain, Greedy}
+use Rattle.elimination.proofs.LeavesLaws.{left-leaves}
+use Rattle.service.proofs.LodgedLaws.{room-checked, nothing-refused, lodged-valid}
+use Rattle.plan.proofs.PlanLaws.{passed-readable}
+use mathlib.Core.Path.{sym}
 use borrow.Author.Needs.{needs}
 use Rattle.elimination.proofs.both.cheaper.Statement.{statement}
 use Rattle.elimination.proofs.both.cheaper.Tie as tie
@@ -10,11 +12,14 @@ use Rattle.elimination.proofs.both.cheaper.Tie as tie
 shorter-requires : tie.Need-shorter-requires
 shorter-requires c κs = search needs
 
-check-reduction-requires : tie.Need-check-reduction-requires
-check-reduction-requires c κs = search needs
+check-room-requires : tie.Need-check-room-requires
+check-room-requires c κs = search needs
 
-enum-known-verdict : tie.Need-enum-known-verdict
-enum-known-verdict c = search needs
+check-lodged-requires : tie.Need-check-lodged-requires
+check-lodged-requires c κs = search needs
+
+enum-known-answer : tie.Need-enum-known-answer
+enum-known-answer c = search needs
 
 new-requires : tie.Need-new-requires
 new-requires c κs = search needs
@@ -23,34 +28,50 @@ new-requires-2 : tie.Need-new-requires-2
 new-requires-2 c κs = search needs
 
 returns : tie.Need-returns
-returns c = both-refused _ _ _ _ _ _ (c .before .before .before .before .before .before .shorter .ensures) (c .before .before .before .before .before .check-reduction .ensures) _ _ _ (c .before .before .before .verdict .given .1) (c .before .new .ensures) (c .new2 .ensures)
+returns c = both-refused _ _ _ _ _ _ (c .before .before .before .before .before .before .before .shorter .ensures) (room-checked _ _ _ _ _ _ (c .before .before .before .before .before .before .check-room .ensures) (c .before .before .before .before .before .check-lodged .ensures)) _ _ _ (c .before .before .before .answer .given .1) (c .before .new .ensures) (c .new2 .ensures)
 
 enum-told : tie.Need-enum-told
 enum-told c = search needs
 
-eliminate-requires : tie.Need-eliminate-requires
-eliminate-requires c κs = let passed = c in (readable _ _ _ _ (passed .before .before .check-reduction .ensures) (passed .enum-told .given .1) .few, valid-start _ _ _ _ (passed .before .before .check-reduction .ensures) (passed .enum-told .given .1))
+flags-left-requires : tie.Need-flags-left-requires
+flags-left-requires c κs =
+    let passed = nothing-refused _ _ _ _ _ _ (c .before .before .before .check-room .ensures) (c .before .before .check-lodged .ensures) _ (c .enum-told .given .1) in
+    (passed-readable _ _ _ passed, lodged-valid _ _ _ passed)
 
 array-share-prefix-eliminated : tie.Need-array-share-prefix-eliminated
-array-share-prefix-eliminated c = let passed = c .before in elimination-leaves _ _ _ _ (passed .before .before .check-reduction .ensures) (passed .enum-told .given .1) _ (c .eliminate .ensures) .within
+array-share-prefix-eliminated c =
+    let passed = nothing-refused _ _ _ _ _ _ (c .before .before .before .before .check-room .ensures) (c .before .before .before .check-lodged .ensures) _ (c .before .enum-told .given .1) in
+    left-leaves _ _ _ passed Plain _ (c .flags-left .ensures) .within
 
 slice-aggregate-finish : tie.Need-slice-aggregate-finish
-slice-aggregate-finish c = let passed = c .before .before in sym (elimination-leaves _ _ _ _ (passed .before .before .check-reduction .ensures) (passed .enum-told .given .1) _ (c .before .eliminate .ensures) .fits)
+slice-aggregate-finish c =
+    let passed = nothing-refused _ _ _ _ _ _ (c .before .before .before .before .before .check-room .ensures) (c .before .before .before .before .check-lodged .ensures) _ (c .before .before .enum-told .given .1) in
+    sym (left-leaves _ _ _ passed Plain _ (c .before .flags-left .ensures) .fits)
 
 finish-requires : tie.Need-finish-requires
-finish-requires c κs = let passed = c .before .before .before in (readable _ _ _ _ (passed .before .before .check-reduction .ensures) (passed .enum-told .given .1), elimination-leaves _ _ _ _ (passed .before .before .check-reduction .ensures) (passed .enum-told .given .1) _ (c .before .before .eliminate .ensures) .fits)
+finish-requires c κs =
+    let passed = nothing-refused _ _ _ _ _ _ (c .before .before .before .before .before .before .check-room .ensures) (c .before .before .before .before .before .check-lodged .ensures) _ (c .before .before .before .enum-told .given .1) in
+    (passed-readable _ _ _ passed, left-leaves _ _ _ passed Plain _ (c .before .before .flags-left .ensures) .fits)
 
-greedy-requires : tie.Need-greedy-requires
-greedy-requires c κs = let passed = c .before .before .before .before .before .before in (readable _ _ _ _ (passed .before .before .check-reduction .ensures) (passed .enum-told .given .1), valid-start _ _ _ _ (passed .before .before .check-reduction .ensures) (passed .enum-told .given .1))
+flags-left-requires-2 : tie.Need-flags-left-requires-2
+flags-left-requires-2 c κs =
+    let passed = nothing-refused _ _ _ _ _ _ (c .before .before .before .before .before .before .before .before .before .check-room .ensures) (c .before .before .before .before .before .before .before .before .check-lodged .ensures) _ (c .before .before .before .before .before .before .enum-told .given .1) in
+    (passed-readable _ _ _ passed, lodged-valid _ _ _ passed)
 
 array-share-prefix-greedily : tie.Need-array-share-prefix-greedily
-array-share-prefix-greedily c = let passed = c .before .before .before .before .before .before .before in greedy-leaves _ _ _ _ (passed .before .before .check-reduction .ensures) (passed .enum-told .given .1) _ (c .greedy .ensures) .within
+array-share-prefix-greedily c =
+    let passed = nothing-refused _ _ _ _ _ _ (c .before .before .before .before .before .before .before .before .before .before .check-room .ensures) (c .before .before .before .before .before .before .before .before .before .check-lodged .ensures) _ (c .before .before .before .before .before .before .before .enum-told .given .1) in
+    left-leaves _ _ _ passed Greedy _ (c .flags-left2 .ensures) .within
 
 slice-aggregate-finish-2 : tie.Need-slice-aggregate-finish-2
-slice-aggregate-finish-2 c = let passed = c .before .before .before .before .before .before .before .before in sym (greedy-leaves _ _ _ _ (passed .before .before .check-reduction .ensures) (passed .enum-told .given .1) _ (c .before .greedy .ensures) .fits)
+slice-aggregate-finish-2 c =
+    let passed = nothing-refused _ _ _ _ _ _ (c .before .before .before .before .before .before .before .before .before .before .before .check-room .ensures) (c .before .before .before .before .before .before .before .before .before .before .check-lodged .ensures) _ (c .before .before .before .before .before .before .before .before .enum-told .given .1) in
+    sym (left-leaves _ _ _ passed Greedy _ (c .before .flags-left2 .ensures) .fits)
 
 finish-requires-2 : tie.Need-finish-requires-2
-finish-requires-2 c κs = let passed = c .before .before .before .before .before .before .before .before .before in (readable _ _ _ _ (passed .before .before .check-reduction .ensures) (passed .enum-told .given .1), greedy-leaves _ _ _ _ (passed .before .before .check-reduction .ensures) (passed .enum-told .given .1) _ (c .before .before .greedy .ensures) .fits)
+finish-requires-2 c κs =
+    let passed = nothing-refused _ _ _ _ _ _ (c .before .before .before .before .before .before .before .before .before .before .before .before .check-room .ensures) (c .before .before .before .before .before .before .before .before .before .before .before .check-lodged .ensures) _ (c .before .before .before .before .before .before .before .before .before .enum-told .given .1) in
+    (passed-readable _ _ _ passed, left-leaves _ _ _ passed Greedy _ (c .before .before .flags-left2 .ensures) .fits)
 
 same-length : tie.Need-same-length
 same-length c = search needs
@@ -59,24 +80,31 @@ same-length-2 : tie.Need-same-length-2
 same-length-2 c = search needs
 
 returns-2 : tie.Need-returns-2
-returns-2 c = let passed = c .before .before .before .before .before .before .before .before .before .before .before .before .before .before in both-kept _ _ _ _ _ _ (passed .before .before .before .shorter .ensures) (passed .before .before .check-reduction .ensures) _ _ _ _ _ _ _ _ (passed .enum-told .given .1) (elimination-leaves _ _ _ _ (passed .before .before .check-reduction .ensures) (passed .enum-told .given .1) _ (c .before .before .before .before .before .before .before .before .before .before .before .before .before .eliminate .ensures) .same) (greedy-leaves _ _ _ _ (passed .before .before .check-reduction .ensures) (passed .enum-told .given .1) _ (c .before .before .before .before .before .before .before .greedy .ensures) .same) (c .before .before .before .before .before .before .before .before .before .before .finish .ensures) (c .before .before .before .before .finish2 .ensures)
+returns-2 c =
+    let asked = c .before .before .before .before .before .before .before .before .before .before .before .before .before .before .before .before .before .check-room .ensures in
+    let checked = c .before .before .before .before .before .before .before .before .before .before .before .before .before .before .before .before .check-lodged .ensures in
+    let valid = c .before .before .before .before .before .before .before .before .before .before .before .before .before .before .enum-told .given .1 in
+    let passed = nothing-refused _ _ _ _ _ _ asked checked _ valid in
+    both-kept _ _ _ _ _ _ (c .before .before .before .before .before .before .before .before .before .before .before .before .before .before .before .before .before .before .shorter .ensures) (room-checked _ _ _ _ _ _ asked checked) _ _ _ _ _ _ _ _ _ valid (left-leaves _ _ _ passed Plain _ (c .before .before .before .before .before .before .before .before .before .before .before .before .before .flags-left .ensures) .same)
+    (left-leaves _ _ _ passed Greedy _ (c .before .before .before .before .before .before .before .flags-left2 .ensures) .same) (c .before .before .before .before .before .before .before .before .before .before .finish .ensures) (c .before .before .before .before .finish2 .ensures)
 
 pub cheaper-spec : {M : Type 1} → statement M
 cheaper-spec =
     tie.close
     (tie.spec
     shorter-requires
-    check-reduction-requires
-    enum-known-verdict
+    check-room-requires
+    check-lodged-requires
+    enum-known-answer
     new-requires
     new-requires-2
     returns
     enum-told
-    eliminate-requires
+    flags-left-requires
     array-share-prefix-eliminated
     slice-aggregate-finish
     finish-requires
-    greedy-requires
+    flags-left-requires-2
     array-share-prefix-greedily
     slice-aggregate-finish-2
     finish-requires-2

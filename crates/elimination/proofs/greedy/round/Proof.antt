@@ -6,13 +6,15 @@ use native.Mathlib.Omega.{arith}
 use mathlib.Core.Path.{_≡_, refl, _∙_}
 use Prim.Native.Nat.{_-_, _≤_}
 use lib.ListN.{length}
+use Rattle.step.specs.State.{front}
+use Rattle.step.proofs.StateLaws.{front-initial}
 use Rattle.service.specs.Held.{mask}
 use Rattle.elimination.specs.Round.{Looks}
 use Rattle.elimination.proofs.greedy.round.Statement.{statement}
 use Rattle.elimination.proofs.greedy.round.Tie as tie
 
 abbrev Inv-loop : tie.InvT-loop
-Inv-loop words plan flags values₀ best₀ i₀ values best i = (i ≤ length plan) × ((length values ≡ 64) × Looks words plan (mask plan flags) i best values)
+Inv-loop words plan flags values₀ best₀ i₀ values best i = (i ≤ length plan) × ((length values ≡ 64) × Looks words plan (mask plan flags) i best (front words values))
 
 abbrev μ-loop : tie.MeasureT-loop
 μ-loop words plan flags values₀ best₀ i₀ values best i = length plan - i
@@ -24,7 +26,9 @@ new-requires : tie.Need-new-requires Inv-loop μ-loop
 new-requires c κs = search needs
 
 loop-holds : tie.Need-loop-holds Inv-loop μ-loop
-loop-holds c = (search needs, (search needs, looks-start _ _ _ _ _ refl (c .before .initial .ensures)))
+loop-holds c =
+    let accepted = c .before .before .before .before .pre .0 .accepted in
+    (search needs, (search needs, looks-start _ _ _ _ _ refl (rw (c .before .initial .ensures) (front-initial _ accepted))))
 
 array-read-if1 : tie.Need-array-read-if1 Inv-loop μ-loop
 array-read-if1 c = omega (arith, c .before .before .before .before .before .before .pre .0 .few, c .loop-test .taken)
@@ -35,17 +39,17 @@ trial-requires c κs = (c .before .before .before .before .before .before .befor
 better-requires : tie.Need-better-requires Inv-loop μ-loop
 better-requires c κs = search needs
 
-slice-aggregate-advance : tie.Need-slice-aggregate-advance Inv-loop μ-loop
-slice-aggregate-advance c = search needs
+slice-aggregate-advance-in : tie.Need-slice-aggregate-advance-in Inv-loop μ-loop
+slice-aggregate-advance-in c = search needs
 
-mul-advance : tie.Need-mul-advance Inv-loop μ-loop
-mul-advance c = search needs
+mul-advance-in : tie.Need-mul-advance-in Inv-loop μ-loop
+mul-advance-in c = search needs
 
-shared-slice-read-advance : tie.Need-shared-slice-read-advance Inv-loop μ-loop
-shared-slice-read-advance c = search needs
+shared-slice-read-advance-in : tie.Need-shared-slice-read-advance-in Inv-loop μ-loop
+shared-slice-read-advance-in c = search needs
 
-advance-requires : tie.Need-advance-requires Inv-loop μ-loop
-advance-requires c κs = search needs
+advance-in-requires : tie.Need-advance-in-requires Inv-loop μ-loop
+advance-in-requires c κs = search needs
 
 add-i : tie.Need-add-i Inv-loop μ-loop
 add-i c = search needs
@@ -54,7 +58,7 @@ loop-less : tie.Need-loop-less Inv-loop μ-loop
 loop-less c = search needs
 
 loop-again : tie.Need-loop-again Inv-loop μ-loop
-loop-again c = let turn = c .before .before .before .before .before .before .before .before in let entry = turn .before .before .before .before .before in (search needs, (c .before .advance .kept .1 .0 ∙ turn .loop .inv .1 .0, looks-kept _ _ (entry .pre .0) _ (entry .pre .1) _ _ (c .before .before .before .before .before .before .before .loop-test .taken) (turn .loop .inv .1 .1 .before) _ _ _ _ _ (turn .loop .inv .1 .1 .picks) (c .before .before .before .before .before .trial .ensures) (c .before .before .before .before .before .before .if1 .taken) (c .before .before .before .before .better .ensures) (c .before .advance .ensures)))
+loop-again c = let turn = c .before .before .before .before .before .before .before .before in let entry = turn .before .before .before .before .before in (search needs, (c .before .advance-in .kept .1 .0 ∙ turn .loop .inv .1 .0, looks-kept _ _ (entry .pre .0) _ (entry .pre .1) _ _ (c .before .before .before .before .before .before .before .loop-test .taken) (turn .loop .inv .1 .1 .before) _ _ _ _ _ (turn .loop .inv .1 .1 .picks) (c .before .before .before .before .before .trial .ensures) (c .before .before .before .before .before .before .if1 .taken) (c .before .before .before .before .better .ensures) (c .before .advance-in .ensures)))
 
 add-i-2 : tie.Need-add-i-2 Inv-loop μ-loop
 add-i-2 c = search needs
@@ -80,10 +84,10 @@ round-spec =
     array-read-if1
     trial-requires
     better-requires
-    slice-aggregate-advance
-    mul-advance
-    shared-slice-read-advance
-    advance-requires
+    slice-aggregate-advance-in
+    mul-advance-in
+    shared-slice-read-advance-in
+    advance-in-requires
     add-i
     loop-less
     loop-again

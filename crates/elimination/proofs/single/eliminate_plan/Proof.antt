@@ -1,38 +1,52 @@
--- `eliminate_plan` meets its contract: a list that passes is valid where elimination begins, and it leaves what the definition says. Assumes nothing.
-use mathlib.Core.Path.{sym}
-use Rattle.service.proofs.ChecksLaws.{readable, valid-start}
-use Rattle.elimination.proofs.LeavesLaws.{elimination-leaves}
+-- `eliminate_plan` meets its contract: a list that passes is valid where the elimination begins, and it leaves what the definition says. Assumes nothing.
+use Rattle.elimination.proofs.LeavesLaws.{left-leaves}
 use Rattle.service.proofs.AnswerLaws.{answers-refused, answers-kept}
+use Rattle.service.proofs.LodgedLaws.{room-checked, nothing-refused, lodged-valid}
+use Rattle.plan.proofs.PlanLaws.{passed-readable}
+use mathlib.Core.Path.{sym}
 use borrow.Author.Needs.{needs}
 use Rattle.elimination.proofs.single.eliminate_plan.Statement.{statement}
 use Rattle.elimination.proofs.single.eliminate_plan.Tie as tie
 
-check-reduction-requires : tie.Need-check-reduction-requires
-check-reduction-requires c κs = search needs
+check-room-requires : tie.Need-check-room-requires
+check-room-requires c κs = search needs
 
-enum-known-verdict : tie.Need-enum-known-verdict
-enum-known-verdict c = search needs
+check-lodged-requires : tie.Need-check-lodged-requires
+check-lodged-requires c κs = search needs
+
+enum-known-answer : tie.Need-enum-known-answer
+enum-known-answer c = search needs
 
 refused-requires : tie.Need-refused-requires
 refused-requires c κs = search needs
 
 returns : tie.Need-returns
-returns c = rw (c .refused .ensures .0, c .refused .ensures .1) (answers-refused _ _ _ _ _ _ (c .before .before .before .before .check-reduction .ensures) _ (c .before .before .verdict .given .1))
+returns c =
+    rw (c .refused .ensures .0, c .refused .ensures .1)
+    (answers-refused _ _ _ _ _ _ (room-checked _ _ _ _ _ _ (c .before .before .before .before .before .check-room .ensures) (c .before .before .before .before .check-lodged .ensures)) _ (c .before .before .answer .given .1))
 
 enum-told : tie.Need-enum-told
 enum-told c = search needs
 
-eliminate-requires : tie.Need-eliminate-requires
-eliminate-requires c κs = let checked = c .before .before .check-reduction .ensures in (readable _ _ _ _ checked (c .enum-told .given .1) .few, valid-start _ _ _ _ checked (c .enum-told .given .1))
+flags-left-requires : tie.Need-flags-left-requires
+flags-left-requires c κs =
+    let passed = nothing-refused _ _ _ _ _ _ (c .before .before .before .check-room .ensures) (c .before .before .check-lodged .ensures) _ (c .enum-told .given .1) in
+    (passed-readable _ _ _ passed, lodged-valid _ _ _ passed)
 
 array-share-prefix-flags : tie.Need-array-share-prefix-flags
-array-share-prefix-flags c = let passed = c .before in elimination-leaves _ _ _ _ (passed .before .before .check-reduction .ensures) (passed .enum-told .given .1) _ (c .eliminate .ensures) .within
+array-share-prefix-flags c =
+    let passed = nothing-refused _ _ _ _ _ _ (c .before .before .before .before .check-room .ensures) (c .before .before .before .check-lodged .ensures) _ (c .before .enum-told .given .1) in
+    left-leaves _ _ _ passed (c .before .before .before .before .before .before .before .before .args .by) _ (c .flags-left .ensures) .within
 
 slice-aggregate-finish : tie.Need-slice-aggregate-finish
-slice-aggregate-finish c = let passed = c .before .before in sym (elimination-leaves _ _ _ _ (passed .before .before .check-reduction .ensures) (passed .enum-told .given .1) _ (c .before .eliminate .ensures) .fits)
+slice-aggregate-finish c =
+    let passed = nothing-refused _ _ _ _ _ _ (c .before .before .before .before .before .check-room .ensures) (c .before .before .before .before .check-lodged .ensures) _ (c .before .before .enum-told .given .1) in
+    sym (left-leaves _ _ _ passed (c .before .before .before .before .before .before .before .before .before .args .by) _ (c .before .flags-left .ensures) .fits)
 
 finish-requires : tie.Need-finish-requires
-finish-requires c κs = let passed = c .before .before .before in let checked = passed .before .before .check-reduction .ensures in (readable _ _ _ _ checked (passed .enum-told .given .1), elimination-leaves _ _ _ _ checked (passed .enum-told .given .1) _ (c .before .before .eliminate .ensures) .fits)
+finish-requires c κs =
+    let passed = nothing-refused _ _ _ _ _ _ (c .before .before .before .before .before .before .check-room .ensures) (c .before .before .before .before .before .check-lodged .ensures) _ (c .before .before .before .enum-told .given .1) in
+    (passed-readable _ _ _ passed, left-leaves _ _ _ passed (c .before .before .before .before .before .before .before .before .before .before .args .by) _ (c .before .before .flags-left .ensures) .fits)
 
 told-requires : tie.Need-told-requires
 told-requires c κs = search needs
@@ -41,18 +55,25 @@ same-length : tie.Need-same-length
 same-length c = search needs
 
 returns-2 : tie.Need-returns-2
-returns-2 c = let passed = c .before .before .before .before .before .before .before in let checked = passed .before .before .check-reduction .ensures in rw (c .told .ensures .0, c .told .ensures .1) (answers-kept _ _ _ _ _ _ checked _ _ _ _ (passed .enum-told .given .1) (elimination-leaves _ _ _ _ checked (passed .enum-told .given .1) _ (c .before .before .before .before .before .before .eliminate .ensures) .same) (c .before .before .before .finish .ensures))
+returns-2 c =
+    let asked = c .before .before .before .before .before .before .before .before .before .before .check-room .ensures in
+    let checked = c .before .before .before .before .before .before .before .before .before .check-lodged .ensures in
+    let valid = c .before .before .before .before .before .before .before .enum-told .given .1 in
+    let passed = nothing-refused _ _ _ _ _ _ asked checked _ valid in
+    rw (c .told .ensures .0, c .told .ensures .1)
+    (answers-kept _ _ _ _ _ _ (room-checked _ _ _ _ _ _ asked checked) _ _ _ _ _ valid (left-leaves _ _ _ passed (c .before .before .before .before .before .before .before .before .before .before .before .before .before .before .args .by) _ (c .before .before .before .before .before .before .flags-left .ensures) .same) (c .before .before .before .finish .ensures))
 
 pub eliminate-plan-spec : {M : Type 1} → statement M
 eliminate-plan-spec =
     tie.close
     (tie.spec
-    check-reduction-requires
-    enum-known-verdict
+    check-room-requires
+    check-lodged-requires
+    enum-known-answer
     refused-requires
     returns
     enum-told
-    eliminate-requires
+    flags-left-requires
     array-share-prefix-flags
     slice-aggregate-finish
     finish-requires

@@ -1,5 +1,6 @@
--- `landmarks` meets its contract: a plan over the limit passes no check, and for another the walks flag the landmarks. Assumes nothing.
-use Rattle.landmark.proofs.MarkLaws.{too-long, flags-told}
+-- `landmarks` meets its contract: the two walks from the tables that it fills. Assumes nothing.
+use Rattle.landmark.proofs.MarkLaws.{flags-told, too-long}
+use Rattle.step.proofs.StateLaws.{lent-length}
 use borrow.Author.Needs.{needs}
 use Rattle.landmark.proofs.flags.landmarks.Statement.{statement}
 use Rattle.landmark.proofs.flags.landmarks.Tie as tie
@@ -19,11 +20,8 @@ write-first-requires c κs = search needs
 slice-aggregate-stamp : tie.Need-slice-aggregate-stamp
 slice-aggregate-stamp c = search needs
 
-goal-at-requires : tie.Need-goal-at-requires
-goal-at-requires c κs = search needs
-
-goal-end-requires : tie.Need-goal-end-requires
-goal-end-requires c κs = search needs
+goal-requires : tie.Need-goal-requires
+goal-requires c κs = search needs
 
 stamp-requires : tie.Need-stamp-requires
 stamp-requires c κs = search needs
@@ -31,8 +29,14 @@ stamp-requires c κs = search needs
 initial-requires : tie.Need-initial-requires
 initial-requires c κs = search needs
 
+size-requires : tie.Need-size-requires
+size-requires c κs = search needs
+
+array-share-prefix-start : tie.Need-array-share-prefix-start
+array-share-prefix-start c = search needs
+
 slice-aggregate-mark-steps : tie.Need-slice-aggregate-mark-steps
-slice-aggregate-mark-steps c = search needs
+slice-aggregate-mark-steps c = lent-length _ _ _ (c .before .before .initial .ensures) (c .before .size .ensures .1)
 
 slice-aggregate-mark-steps-2 : tie.Need-slice-aggregate-mark-steps-2
 slice-aggregate-mark-steps-2 c = search needs
@@ -44,15 +48,7 @@ mark-steps-requires : tie.Need-mark-steps-requires
 mark-steps-requires c κs = search needs
 
 returns-2 : tie.Need-returns-2
-returns-2 c = λ accepted listed.
-    let goals = c .before .before .before .before .before .before .before in
-    flags-told _ _ _ _ _ _ _ _ accepted listed
-    (c .before .before .before .before .before .initial .ensures)
-    (goals .before .before .before .before .before .write-first .ensures)
-    (goals .before .before .goal-at .ensures .0)
-    (goals .before .goal-end .ensures .0)
-    (goals .stamp .ensures)
-    (c .before .mark-steps .ensures)
+returns-2 c = flags-told _ _ _ _ _ _ _ _ (c .before .before .before .before .before .before .initial .ensures) (c .before .before .before .before .before .size .ensures .0) (c .before .before .before .before .before .before .before .before .before .before .before .before .write-first .ensures) (c .before .before .before .before .before .before .before .before .before .goal .ensures) (c .before .before .before .before .before .before .before .before .stamp .ensures) (c .before .mark-steps .ensures)
 
 pub landmarks-spec : {M : Type 1} → statement M
 landmarks-spec =
@@ -63,10 +59,11 @@ landmarks-spec =
     slice-aggregate-write-first
     write-first-requires
     slice-aggregate-stamp
-    goal-at-requires
-    goal-end-requires
+    goal-requires
     stamp-requires
     initial-requires
+    size-requires
+    array-share-prefix-start
     slice-aggregate-mark-steps
     slice-aggregate-mark-steps-2
     slice-aggregate-mark-steps-3

@@ -1,60 +1,25 @@
--- `mark_step` meets its contract: by whether some fact was found that the step is to write. Assumes nothing.
-use Rattle.landmark.proofs.MarkWalkLaws.{step-marked, step-unmarked}
+-- `mark_step` meets its contract: the facts sought, then the table passed back. Assumes nothing.
+use Rattle.landmark.proofs.MarkWalkLaws.{step-marked}
 use borrow.Author.Needs.{needs}
 use Rattle.landmark.proofs.walks.mark_step.Statement.{statement}
 use Rattle.landmark.proofs.walks.mark_step.Tie as tie
 
-effect-at-requires : tie.Need-effect-at-requires
-effect-at-requires c κs = search needs
-
-action-end-requires : tie.Need-action-end-requires
-action-end-requires c κs = search needs
+facts-of-requires : tie.Need-facts-of-requires
+facts-of-requires c κs = search needs
 
 some-sought-requires : tie.Need-some-sought-requires
 some-sought-requires c κs = search needs
 
-stamp-requires : tie.Need-stamp-requires
-stamp-requires c κs = search needs
-
-precondition-at-requires : tie.Need-precondition-at-requires
-precondition-at-requires c κs = search needs
-
-stamp-requires-2 : tie.Need-stamp-requires-2
-stamp-requires-2 c κs = search needs
+pass-back-requires : tie.Need-pass-back-requires
+pass-back-requires c κs = search needs
 
 same-length : tie.Need-same-length
 same-length c = search needs
 
 returns : tie.Need-returns
-returns c =
-    let tested = c .before .before .before .before .before in
-    let asked = tested .before .before .before .before .before in
-    step-marked _ _ _ _ _ _ _ _ _ _
-    (asked .before .before .before .effect-at .ensures .0) (asked .before .before .action-end .ensures .0)
-    (asked .some-sought .ensures) (tested .before .before .before .stamp .ensures) _ _ (tested .if1 .taken)
-    (c .before .before .before .precondition-at .ensures .0) (c .before .before .stamp2 .ensures)
-
-same-length-2 : tie.Need-same-length-2
-same-length-2 c = search needs
-
-returns-2 : tie.Need-returns-2
-returns-2 c =
-    let asked = c .before .before .before .before .before in
-    step-unmarked _ _ _ _ _ _ _ _ _ _
-    (asked .before .before .before .effect-at .ensures .0) (asked .before .before .action-end .ensures .0)
-    (asked .some-sought .ensures) (c .before .before .before .stamp .ensures) (c .if1 .left)
+returns c = step-marked _ _ _ _ _ _ _ _ _ (c .before .before .before .before .before .before .facts-of .ensures .0) (c .before .before .before .before .before .before .facts-of .ensures .1) (c .before .before .before .before .some-sought .ensures) (c .before .before .pass-back .ensures)
 
 pub mark-step-spec : {M : Type 1} → statement M
 mark-step-spec =
     tie.close
-    (tie.spec
-    effect-at-requires
-    action-end-requires
-    some-sought-requires
-    stamp-requires
-    precondition-at-requires
-    stamp-requires-2
-    same-length
-    returns
-    same-length-2
-    returns-2)
+    (tie.spec facts-of-requires some-sought-requires pass-back-requires same-length returns)

@@ -1,9 +1,8 @@
--- `write_first` meets its contract. The loop's invariant: the table has the first writers among the steps from i on, and its length stays.
--- The measure is the index. Assumes nothing.
+-- `write_first` meets its contract. The loop's invariant: the table has the first writers among the steps from i on, and its length stays. The measure is the index. Assumes nothing.
+use Rattle.landmark.proofs.MarkWalkLaws.{Written-from, written-end, written-more, written-start}
+use lib.ListN.{length}
 use mathlib.Core.Path.{_≡_, refl}
 use borrow.Author.Needs.{needs}
-use lib.ListN.{length}
-use Rattle.landmark.proofs.MarkWalkLaws.{Written-from, written-end, written-more, written-start}
 use Rattle.landmark.proofs.walks.write_first.Statement.{statement}
 use Rattle.landmark.proofs.walks.write_first.Tie as tie
 
@@ -19,17 +18,14 @@ loop-holds c = (refl, written-end _ _ _)
 sub-i : tie.Need-sub-i Inv-loop μ-loop
 sub-i c = search needs
 
-mul-action : tie.Need-mul-action Inv-loop μ-loop
-mul-action c = search needs
+mul-facts-of : tie.Need-mul-facts-of Inv-loop μ-loop
+mul-facts-of c = search needs
 
-shared-slice-read-action : tie.Need-shared-slice-read-action Inv-loop μ-loop
-shared-slice-read-action c = search needs
+shared-slice-read-facts-of : tie.Need-shared-slice-read-facts-of Inv-loop μ-loop
+shared-slice-read-facts-of c = search needs
 
-effect-at-requires : tie.Need-effect-at-requires Inv-loop μ-loop
-effect-at-requires c κs = search needs
-
-action-end-requires : tie.Need-action-end-requires Inv-loop μ-loop
-action-end-requires c κs = search needs
+facts-of-requires : tie.Need-facts-of-requires Inv-loop μ-loop
+facts-of-requires c κs = search needs
 
 cast-stamp : tie.Need-cast-stamp Inv-loop μ-loop
 cast-stamp c = search needs
@@ -42,12 +38,7 @@ loop-less c = search needs
 
 loop-again : tie.Need-loop-again Inv-loop μ-loop
 loop-again c =
-    let turn = c .before .before .before .before .before .before .before in
-    let stamped = c .before .before in (
-      search needs,
-      written-more _ _ _ _ _ _ _ _ (turn .before .loop .inv .1) (turn .loop-test .taken)
-          (stamped .before .before .effect-at .ensures .0) (stamped .before .action-end .ensures .0) (stamped .stamp .ensures),
-    )
+    (search needs, written-more _ _ _ _ _ _ _ (c .before .before .before .before .before .before .before .loop .inv .1) (c .before .before .before .before .before .before .loop-test .taken) (c .before .before .before .before .facts-of .ensures .1) (c .before .before .stamp .ensures))
 
 same-length : tie.Need-same-length Inv-loop μ-loop
 same-length c = search needs
@@ -63,10 +54,9 @@ write-first-spec =
     μ-loop
     loop-holds
     sub-i
-    mul-action
-    shared-slice-read-action
-    effect-at-requires
-    action-end-requires
+    mul-facts-of
+    shared-slice-read-facts-of
+    facts-of-requires
     cast-stamp
     stamp-requires
     loop-less

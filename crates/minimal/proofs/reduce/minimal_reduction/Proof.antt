@@ -11,7 +11,7 @@ same-length : tie.Need-same-length
 same-length c = search needs
 
 returns : tie.Need-returns
-returns c = let minimises = c .before .before .reduce-within .ensures in (minimises, demand-three _ _ _ _ _ _ _ minimises)
+returns c = let minimises = c .before .before .reduce-within .ensures in (minimises, demand-three _ _ _ _ _ _ minimises)
 
 pub minimal-reduction-spec : {M : Type 1} → statement M
 minimal-reduction-spec = tie.close (tie.spec reduce-within-requires same-length returns)

@@ -1,5 +1,5 @@
 -- `read` meets its contract. The loop's invariant: what has been read lies inside the bytes that are lent, whose length does not change. The measure is how many bytes
--- may still be wanted: it falls, since a turn that goes on has read all that it wanted, and it wanted more. Assumes nothing.
+-- may still be read: it falls, since a turn that goes on has read all that it asked for, and it asked for more. Assumes nothing.
 use Prim.Native.Nat.{_≤_, _-_}
 use mathlib.Core.Path.{_≡_, refl, sym}
 use borrow.Author.Needs.{needs}
@@ -10,10 +10,19 @@ use Rattle.program.proofs.input.read.Statement.{statement}
 use Rattle.program.proofs.input.read.Tie as tie
 
 abbrev Inv-loop : tie.InvT-loop
-Inv-loop bytes₀ have₀ bytes have = (have ≤ length bytes) × (length bytes ≡ length bytes₀)
+Inv-loop bytes₀ further beyond have₀ bytes have = (have ≤ length bytes) × (length bytes ≡ length bytes₀)
 
 abbrev μ-loop : tie.MeasureT-loop
-μ-loop bytes₀ have₀ bytes have = most-bytes - have
+μ-loop bytes₀ further beyond have₀ bytes have = most-bytes further beyond - have
+
+add-if1 : tie.Need-add-if1 Inv-loop μ-loop
+add-if1 c = search needs
+
+mul-if1 : tie.Need-mul-if1 Inv-loop μ-loop
+mul-if1 c = search needs
+
+add-if1-2 : tie.Need-add-if1-2 Inv-loop μ-loop
+add-if1-2 c = search needs
 
 returns : tie.Need-returns Inv-loop μ-loop
 returns c = (search needs, refl)
@@ -21,14 +30,14 @@ returns c = (search needs, refl)
 loop-holds : tie.Need-loop-holds Inv-loop μ-loop
 loop-holds c = search needs
 
-slice-reshare-prefix-wanted : tie.Need-slice-reshare-prefix-wanted Inv-loop μ-loop
-slice-reshare-prefix-wanted c = search needs
+slice-reshare-prefix-bytes-to-read : tie.Need-slice-reshare-prefix-bytes-to-read Inv-loop μ-loop
+slice-reshare-prefix-bytes-to-read c = search needs
 
-slice-aggregate-wanted : tie.Need-slice-aggregate-wanted Inv-loop μ-loop
-slice-aggregate-wanted c = sym (length-take-le (c .before .loop .have) (c .before .loop .bytes) (c .before .loop .inv .0))
+slice-aggregate-bytes-to-read : tie.Need-slice-aggregate-bytes-to-read Inv-loop μ-loop
+slice-aggregate-bytes-to-read c = sym (length-take-le (c .before .loop .have) (c .before .loop .bytes) (c .before .loop .inv .0))
 
-wanted-requires : tie.Need-wanted-requires Inv-loop μ-loop
-wanted-requires c κs = search needs
+bytes-to-read-requires : tie.Need-bytes-to-read-requires Inv-loop μ-loop
+bytes-to-read-requires c κs = search needs
 
 same-length : tie.Need-same-length Inv-loop μ-loop
 same-length c = search needs
@@ -69,11 +78,14 @@ read-spec =
     (tie.spec
     Inv-loop
     μ-loop
+    add-if1
+    mul-if1
+    add-if1-2
     returns
     loop-holds
-    slice-reshare-prefix-wanted
-    slice-aggregate-wanted
-    wanted-requires
+    slice-reshare-prefix-bytes-to-read
+    slice-aggregate-bytes-to-read
+    bytes-to-read-requires
     same-length
     returns-2
     sub-read-full

@@ -22,8 +22,8 @@ abbrev μ-loop : tie.MeasureT-loop
 loop-holds : tie.Need-loop-holds Inv-loop μ-loop
 loop-holds c = (rw sub-zero (stores-whole _ (c .before .before .args .words .now) _ refl), refl)
 
-word-requires : tie.Need-word-requires Inv-loop μ-loop
-word-requires c κs = search needs
+word-at-requires : tie.Need-word-at-requires Inv-loop μ-loop
+word-at-requires c κs = search needs
 
 mul-words : tie.Need-mul-words Inv-loop μ-loop
 mul-words c = search needs
@@ -59,7 +59,7 @@ unpack-spec =
     Inv-loop
     μ-loop
     loop-holds
-    word-requires
+    word-at-requires
     mul-words
     slice-write-words
     add-i

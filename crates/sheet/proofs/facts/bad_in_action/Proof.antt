@@ -1,18 +1,11 @@
 -- `bad_in_action` meets its contract: a bad fact of the precondition, or else the first of the effect. Assumes nothing.
-use mathlib.Core.Path.{sym, _∙_}
 use Rattle.sheet.proofs.BadFactLaws.{in-precondition, not-in-precondition}
 use borrow.Author.Needs.{needs}
 use Rattle.sheet.proofs.facts.bad_in_action.Statement.{statement}
 use Rattle.sheet.proofs.facts.bad_in_action.Tie as tie
 
-precondition-at-requires : tie.Need-precondition-at-requires
-precondition-at-requires c κs = search needs
-
-effect-at-requires : tie.Need-effect-at-requires
-effect-at-requires c κs = search needs
-
-action-end-requires : tie.Need-action-end-requires
-action-end-requires c κs = search needs
+facts-of-requires : tie.Need-facts-of-requires
+facts-of-requires c κs = search needs
 
 bad-in-group-requires : tie.Need-bad-in-group-requires
 bad-in-group-requires c κs = search needs
@@ -27,18 +20,16 @@ bad-in-group-requires-2 : tie.Need-bad-in-group-requires-2
 bad-in-group-requires-2 c κs = search needs
 
 returns : tie.Need-returns
-returns c = let tested = c .before .before .before in sym (in-precondition _ _ _ (rw (← tested .before .before .effect-at .ensures .0, ← tested .before .before .before .precondition-at .ensures .0) (sym (tested .bad-in-group .ensures) ∙ c .before .found .given .1)))
+returns c = in-precondition _ _ _ _ (c .before .before .before .before .facts-of .ensures .0) (c .before .before .before .bad-in-group .ensures) _ (c .before .found .given .1)
 
 returns-2 : tie.Need-returns-2
-returns-2 c = let tested = c .before .before .before in c .bad-in-group2 .ensures ∙ rw (tested .before .action-end .ensures .0, tested .before .before .effect-at .ensures .0) (sym (not-in-precondition _ _ (rw (← tested .before .before .effect-at .ensures .0, ← tested .before .before .before .precondition-at .ensures .0) (sym (tested .bad-in-group .ensures) ∙ c .before .enum-told .given .1))))
+returns-2 c = not-in-precondition _ _ _ _ (c .before .before .before .before .facts-of .ensures .0) (c .before .before .before .bad-in-group .ensures) _ _ (c .before .enum-told .given .1) (c .before .before .before .before .facts-of .ensures .1) (c .bad-in-group2 .ensures)
 
 pub bad-in-action-spec : {M : Type 1} → statement M
 bad-in-action-spec =
     tie.close
     (tie.spec
-    precondition-at-requires
-    effect-at-requires
-    action-end-requires
+    facts-of-requires
     bad-in-group-requires
     enum-known-found
     enum-told

@@ -1,11 +1,11 @@
--- `advance` meets its contract: the action is done just where no precondition fact was found to fail. Assumes nothing.
+-- `advance` meets its contract: the action is done just where none of its precondition facts fails. Assumes nothing.
 use Rattle.step.proofs.AdvanceLaws.{advances-not, advances-done}
 use borrow.Author.Needs.{needs}
 use Rattle.step.proofs.advance.advance.Statement.{statement}
 use Rattle.step.proofs.advance.advance.Tie as tie
 
-parts-of-requires : tie.Need-parts-of-requires
-parts-of-requires c κs = search needs
+facts-of-requires : tie.Need-facts-of-requires
+facts-of-requires c κs = search needs
 
 first-failing-requires : tie.Need-first-failing-requires
 first-failing-requires c κs = search needs
@@ -23,19 +23,22 @@ same-length : tie.Need-same-length
 same-length c = search needs
 
 returns : tie.Need-returns
-returns c = let parts = c .before .before .before .before .parts-of .ensures in advances-not _ _ _ _ _ _ _ (parts .0) (parts .1 .0) (c .before .before .first-failing .ensures) (c .enum-told .given .1)
+returns c = advances-not _ _ _ _ _ (c .before .before .before .before .facts-of .ensures .0) (c .before .before .first-failing .ensures) _ (c .enum-told .given .1)
 
 same-length-2 : tie.Need-same-length-2
 same-length-2 c = search needs
 
 returns-2 : tie.Need-returns-2
-returns-2 c = let tested = c .before .before .before .before in let parts = tested .before .before .before .before .parts-of .ensures in advances-done _ _ _ _ _ _ _ _ (parts .0) (parts .1 .0) (parts .1 .1) (tested .before .before .first-failing .ensures) (tested .enum-told2 .given .1) (c .before .before .write-facts .ensures)
+returns-2 c =
+    let tested = c .before .before .before .before in
+    let facts = tested .before .before .before .before .facts-of .ensures in
+    advances-done _ _ _ _ _ (facts .0) (tested .before .before .first-failing .ensures) _ _ (tested .enum-told2 .given .1) (facts .1) (c .before .before .write-facts .ensures)
 
 pub advance-spec : {M : Type 1} → statement M
 advance-spec =
     tie.close
     (tie.spec
-    parts-of-requires
+    facts-of-requires
     first-failing-requires
     enum-told
     enum-told-2

@@ -45,11 +45,11 @@ use denote.Triple.Walked.{says, Stays, stay-ref, stay-none, stay-none-slice, wal
 use denote.Exit.{yes}
 use Rattle.refusal.proofs.Verdict as Vd
 use Rattle.refusal.proofs.Verdict.Laws as Vd′
-use Rattle.step.specs.declared.one.State.{State}
+use Rattle.step.specs.declared.state.State.{State}
 use Rattle.step.specs.declared.one.Stepped.{Stepped}
 use Rattle.step.specs.Step.{Steps}
-use Rattle.step.proofs.one.State as S
-use Rattle.step.proofs.one.State.Laws as S′
+use Rattle.step.proofs.state.State as S
+use Rattle.step.proofs.state.State.Laws as S′
 use Rattle.step.proofs.one.Stepped as P
 use Rattle.step.proofs.one.Stepped.Laws as P′
 use Rattle.step.proofs.one.step as step′

@@ -1,4 +1,4 @@
--- `pack` meets its contract. The loop's invariant: the words passed are packed at the front, and no length changes. The measure is the number of words left.
+-- `pack` meets its contract. The loop's invariant: the bytes of the words passed are at the front, and no length changes. The measure is the number of words left.
 -- Assumes nothing.
 use Prim.Native.Nat.{_-_, _*_, _≤_}
 use native.Mathlib.Omega.{arith}
@@ -7,19 +7,19 @@ use borrow.Author.Needs.{needs}
 use lib.ListN.{length, take}
 use lib.Seq.{take-length}
 use Rattle.program.specs.Form.{word-bytes}
-use Rattle.text.specs.Pack.{packed}
-use Rattle.text.proofs.PackLaws.{packed-nothing, packed-next}
+use Rattle.text.specs.Pack.{all-bytes}
+use Rattle.text.proofs.PackLaws.{bytes-nothing, bytes-next}
 use Rattle.text.proofs.pack.pack.Statement.{statement}
 use Rattle.text.proofs.pack.pack.Tie as tie
 
 abbrev Inv-loop : tie.InvT-loop
-Inv-loop words bytes₀ i₀ bytes i = (take (word-bytes * i) bytes ≡ packed (take i words)) × (i ≤ length words) × (length bytes ≡ length bytes₀)
+Inv-loop words bytes₀ i₀ bytes i = (take (word-bytes * i) bytes ≡ all-bytes (take i words)) × (i ≤ length words) × (length bytes ≡ length bytes₀)
 
 abbrev μ-loop : tie.MeasureT-loop
 μ-loop words bytes₀ i₀ bytes i = length words - i
 
 loop-holds : tie.Need-loop-holds Inv-loop μ-loop
-loop-holds c = (packed-nothing (c .before .before .args .bytes .now), search needs, refl)
+loop-holds c = (bytes-nothing (c .before .before .args .bytes .now), search needs, refl)
 
 mul-put-word : tie.Need-mul-put-word Inv-loop μ-loop
 mul-put-word c = search needs
@@ -39,7 +39,7 @@ loop-less c = search needs
 loop-again : tie.Need-loop-again Inv-loop μ-loop
 loop-again c =
     let turn = c .before .before .before .before .before in
-    (packed-next _ _ _ (turn .before .loop .i) (turn .loop-test .taken) (turn .before .loop .inv .0) (rw (c .before .before .before .word .ensures .0) at (c .before .before .put-word .ensures)), search needs, search needs)
+    (bytes-next _ _ _ (turn .before .loop .i) (turn .loop-test .taken) (turn .before .loop .inv .0) (rw (c .before .before .before .word .ensures .0) at (c .before .before .put-word .ensures)), search needs, search needs)
 
 same-length : tie.Need-same-length Inv-loop μ-loop
 same-length c = search needs

@@ -28,26 +28,26 @@ add-copy c = search needs
 
 copy-requires : tie.Need-copy-requires
 copy-requires c κs =
-    let told = c .before .before .before .before .before .before in
+    let reading-of = c .before .before .before .before .before .before in
     let room = c .before .before .before .before in
-    omega (arith, room-for-digits _ _ (told .decimal .last .1 .0) (told .decimal .ensures .1 .0) (small (told .before .before .before)), told .before .before .before .pre, told .decimal .ensures .0 .1, ap length (room .put8 .ensures), length-set (told .before .before .before .args .out .now) (told .before .before .before .args .at) 32)
+    omega (arith, room-for-digits _ _ (reading-of .decimal .last .1 .0) (reading-of .decimal .ensures .1 .0) (small (reading-of .before .before .before)), reading-of .before .before .before .pre, reading-of .decimal .ensures .0 .1, ap length (room .put8 .ensures), length-set (reading-of .before .before .before .args .out .now) (reading-of .before .before .before .args .at) 32)
 
 add-result : tie.Need-add-result
 add-result c = search needs
 
 add-result-2 : tie.Need-add-result-2
 add-result-2 c =
-    let told = c .before .before .before .before .before .before .before .before .before in
-    omega (arith, room-for-digits _ _ (told .decimal .last .1 .0) (told .decimal .ensures .1 .0) (small (told .before .before .before)), told .before .before .before .pre)
+    let reading-of = c .before .before .before .before .before .before .before .before .before in
+    omega (arith, room-for-digits _ _ (reading-of .decimal .last .1 .0) (reading-of .decimal .ensures .1 .0) (small (reading-of .before .before .before)), reading-of .before .before .before .pre)
 
 same-length : tie.Need-same-length
 same-length c = search needs
 
 returns : tie.Need-returns
 returns c =
-    let told = c .before .before .before .before .before .before .before .before .before in
-    let start = told .before .before .before in
-    word-written _ _ _ (told .decimal .ensures .1 .0) (small start) _ _ _ _ (start .pre) (told .decimal .ensures .0 .0) (told .decimal .ensures .1 .1) (c .before .before .before .before .before .before .before .put8 .ensures) (c .before .before .copy .ensures)
+    let reading-of = c .before .before .before .before .before .before .before .before .before in
+    let start = reading-of .before .before .before in
+    word-written _ _ _ (reading-of .decimal .ensures .1 .0) (small start) _ _ _ _ (start .pre) (reading-of .decimal .ensures .0 .0) (reading-of .decimal .ensures .1 .1) (c .before .before .before .before .before .before .before .put8 .ensures) (c .before .before .copy .ensures)
 
 pub spell-word-spec : {M : Type 1} → statement M
 spell-word-spec =

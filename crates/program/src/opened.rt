@@ -1,0 +1,34 @@
+// What a program finds of its input before it answers.
+use crate::frame::Frame;
+use crate::framing::frame_input;
+use crate::long::refuse_long;
+use crate::unpack::unpack;
+use access::front;
+use refusal::Refusal;
+ghost use mathlib.Core.Path.{_≡_};
+ghost use Prim.Native.Nat.{_+_, _≤_};
+ghost use lib.ListN.{length};
+ghost use Rattle.program.specs.Form.{unpacked, most-words};
+ghost use Rattle.program.specs.Opening.{opening, opening-of};
+
+// Its refusal, or how many words the task and the plan have.
+pub enum Opened {
+    Refused(Refusal),
+    Lodged { task: usize, plan: usize },
+}
+
+// Fills `words` with the words of an input of one record, with `further` words behind its plan, and tells what is in
+// them. The input's form goes before every other check.
+pub fn open_input(bytes: &[u8], further: u32, words: &mut [u32]) -> Opened
+    requires { ⌜ most-words + further ≤ length (now words) ⌝ }
+    ensures { λ r. ⌜ opening-of further r (now (words .exit)) ≡ opening further (now (bytes .entry)) ⌝ }
+    ensures { λ _. ⌜ now (words .exit) ≡ unpacked (now (bytes .entry)) (length (now (words .entry))) ⌝ }
+{
+    unpack(bytes, words);
+    let framed = frame_input(bytes, further);
+    match framed {
+        Frame::Broken => Opened::Refused(Refusal::Length),
+        Frame::Long { task } => Opened::Refused(refuse_long(front(words, task))),
+        Frame::Whole { task, plan, end: _ } => Opened::Lodged { task, plan },
+    }
+}

@@ -1,0 +1,77 @@
+// The groups of facts of a sheet: the goal, and each action's precondition and effect. How an action's facts lie among
+// the words is known here and to the sheet's own checks alone: every other function goes through a group, fact by fact.
+use crate::layout::ACTION_HEADER;
+use crate::layout::FIRST_ACTION;
+use crate::layout::GOAL;
+use crate::layout::number;
+use crate::layout::offset;
+use crate::layout::size;
+use access::word;
+ghost use mathlib.Core.Path.{_≡_};
+ghost use Prim.Native.Nat.{_<_, _^_};
+ghost use Rattle.sheet.specs.Group.{goal-group, needed-group, written-group, first-fact, rest-of};
+
+// A group of facts, or what is left of one: from word `at` up to, not including, word `end`.
+pub struct Group {
+    pub at: usize,
+    pub end: usize,
+}
+
+impl Group {
+    // The word of its first fact.
+    pub fn first(self, w: &[u32]) -> u32
+        ensures { λ r. ⌜ (r ≡ first-fact (now (w .entry)) self) × (r < 2 ^ 32) ⌝ }
+    {
+        word(w, self.at)
+    }
+
+    // The group without its first fact. How long a fact is, is a matter of the words: one word each in the one edition
+    // that is read.
+    pub fn rest(self, w: &[u32]) -> Group
+        requires { ⌜ self .at < self .end ⌝ }
+        ensures { λ r. ⌜ r ≡ rest-of (now (w .entry)) self ⌝ }
+    {
+        Group {
+            at: self.at + 1,
+            end: self.end,
+        }
+    }
+}
+
+// The goal.
+pub fn goal(w: &[u32]) -> Group
+    ensures { λ r. ⌜ r ≡ goal-group (now (w .entry)) ⌝ }
+{
+    let at = offset(w, GOAL);
+    Group {
+        at,
+        end: at + size(w, GOAL),
+    }
+}
+
+// What an action needs, and what it may write.
+pub struct ActionFacts {
+    pub precondition: Group,
+    pub effect: Group,
+}
+
+// The facts of action a, from one reading of its pair.
+pub fn facts_of(w: &[u32], a: u32) -> ActionFacts
+    ensures { λ r. ⌜ (r .precondition ≡ needed-group (now (w .entry)) a)
+        × (r .effect ≡ written-group (now (w .entry)) a) ⌝ }
+{
+    let k = FIRST_ACTION + a as usize;
+    let from = offset(w, k);
+    let precondition = from + ACTION_HEADER;
+    let effect = precondition + number(w, from + 1);
+    ActionFacts {
+        precondition: Group {
+            at: precondition,
+            end: effect,
+        },
+        effect: Group {
+            at: effect,
+            end: from + size(w, k),
+        },
+    }
+}
