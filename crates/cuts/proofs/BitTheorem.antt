@@ -1,6 +1,6 @@
 -- Where the test of a step's word says no, a fact that is wanted behind the step does not hold: at each known fact the table behind the step tells whether it
 -- is wanted, and a bit is one only at such a fact. How many facts have a bit is no matter. Assumes nothing.
-use Prim.Native.Nat.{ℕ, zero, suc, _+_, _<_}
+use Prim.Native.Nat.{ℕ, _+_, _<_}
 use native.Mathlib.Omega.{arith}
 use mathlib.Core.Path.{_≡_, refl, sym, _∙_}
 use mathlib.Core.Bool.{false}
@@ -23,7 +23,7 @@ use Rattle.plan.specs.Readable.{Readable}
 use Rattle.plan.specs.Valid.{steps}
 use Rattle.plan.proofs.FaultLaws.{steps-drop}
 use Rattle.plan.proofs.FaultLaws.{drop-next}
-use Rattle.plan.proofs.PlanLaws.{steps-formed}
+use Rattle.plan.proofs.PlanLaws.{rest-formed}
 use Rattle.fact_table.specs.Tables.{most-facts, has-wanted}
 use Rattle.fact_table.proofs.WantsLaws.{Wants, before-length, wants-next, goal-length, goal-wants}
 use Rattle.cuts.specs.Bits.{packed, table-before, step-bits, Told-wanted, strikes, wanted-test}
@@ -43,15 +43,9 @@ module _ (w : List ℕ) (accepted : Accepted w) where
       wants-next w accepted (action w a) (steps w l) (drop 1 flags) _ (getD flags 0 false) (table-length l (drop 1 flags)) (formed (action w a) (List·Memᴰ·head refl))
       (table-tells l (drop 1 flags) (λ b m. formed b (List·Memᴰ·tail m)))
 
--- and what holds of each action of a list holds of each of those
-dropped-formed : {domains : List ℕ} (i : ℕ) (p : List Action) → Actions-formed domains p → Actions-formed domains (drop i p)
-dropped-formed zero p formed = formed
-dropped-formed (suc i) [] formed = formed
-dropped-formed (suc i) (a ∷ p) formed = dropped-formed i p (λ b m. formed b (List·Memᴰ·tail m))
-
 module _ (w l : List ℕ) (flags : Reduction) (readable : Readable w l) where
   formed-from : (i : ℕ) → Actions-formed (domains w) (steps w (drop i l))
-  formed-from i = rw (← steps-drop w l i) at (dropped-formed i (steps w l) (steps-formed w l (readable .accepted) (readable .known)))
+  formed-from i = rest-formed w l (readable .accepted) (readable .known) i
 
   -- where the test at a visit says no, the state there lacks a fact that is wanted behind the step
   pub wanted-bars : (bits : List ℕ) → Told-wanted w l flags bits → (v : Visit) → v .index < length l → wanted-test w l bits v ≡ false

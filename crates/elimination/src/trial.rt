@@ -4,13 +4,12 @@ use access::strike;
 use plan::limits::Plan;
 use sheet::layout::cost;
 use sheet::limits::Sheet;
-use step::advance::goal_in;
-use step::state::size;
+use step::advance::goal_holds;
 use tally::Tally;
 ghost use Prim.Native.Nat.{_≤_, _<_};
 ghost use lib.ListN.{length};
 ghost use Rattle.step.specs.State.{front};
-ghost use Rattle.plan.specs.Limits.{most-steps};
+ghost use Rattle.plan.specs.Readable.{Readable};
 ghost use Rattle.elimination.specs.Trial.{Tries};
 
 // Whether a trial succeeds, what it leaves, and the tally of what it strikes.
@@ -21,6 +20,8 @@ pub(crate) struct Tried {
 }
 
 // Strikes the step at index i, walks the rest from the state before it, which `values` holds, and looks at the goal.
+// The walk is made in the whole array, whose length is known, which is faster than in the state's part of it: no action
+// of an accepted task reads past the state.
 pub(crate) fn trial(
     words: &[u32],
     plan: &[u32],
@@ -28,17 +29,17 @@ pub(crate) fn trial(
     values: [u32; Sheet::VARIABLES],
     i: usize,
 ) -> Tried
-    requires { ⌜ (length (now plan) ≤ most-steps) × (i < length (now plan)) ⌝ }
+    requires { ⌜ Readable (now words) (now plan) ⌝ }
+    requires { ⌜ i < length (now plan) ⌝ }
     ensures { λ r. ⌜ Tries (now (words .entry)) (now (plan .entry)) i flags (front (now (words .entry)) values)
         (r .succeeds) (r .flags) (r .struck) ⌝ }
 {
     let mut left = flags;
     let mut state = values;
-    let n = size(words);
     strike(&mut left, i);
     let first = Tally::new().add(cost(words, plan[i]));
-    let struck = walk_rest(words, plan, &mut left, &mut state[..n], i + 1, first);
-    let succeeds = goal_in(words, &state);
+    let struck = walk_rest(words, plan, &mut left, &mut state, i + 1, first);
+    let succeeds = goal_holds(words, &state);
     Tried {
         succeeds,
         flags: left,

@@ -5,7 +5,7 @@ use native.Mathlib.Omega.{arith}
 use mathlib.Core.Path.{_≡_, refl, sym, _∙_, ap}
 use mathlib.Core.Option.{none, some}
 use mathlib.Core.List.{List, [], _∷_, _++_, map, List·Memᴰ, List·Memᴰ·head, List·Memᴰ·tail, Memᴰ·of-map}
-use lib.ListN.{length, getD, length-map}
+use lib.ListN.{length, getD, length-map, drop}
 use borrow.Author.Tests.{ltb-false, leb-false, le-ltb, lt-leb}
 use Rattle.refusal.specs.declared.place.Place.the-variants.{Nowhere, At}
 use Rattle.refusal.specs.declared.Refusal.the-variants.{NotAPlan}
@@ -27,6 +27,7 @@ use Rattle.sheet.proofs.Accepted.{action-known, accepted-well-formed, cost-limi
 use Rattle.plan.specs.Limits.{most-steps}
 use Rattle.plan.specs.Valid.{steps, fault}
 use Rattle.plan.specs.Checked.{unknown-place, list-checks, read-checks, valid-checks, lodged-checks}
+use Rattle.plan.proofs.FaultLaws.{steps-drop}
 use Rattle.plan.specs.Readable.{Entries-known, Readable-within, Readable}
 
 -- the sum of the cost words is the cost of the actions
@@ -59,6 +60,11 @@ module _ (w : List ℕ) (accepted : Accepted w) where
   unfolding task
   goal-rising = accepted-well-formed w accepted .goal
 
+dropped-formed : {domains : List ℕ} (i : ℕ) (p : List Action) → Actions-formed domains p → Actions-formed domains (drop i p)
+dropped-formed zero p formed = formed
+dropped-formed (suc i) [] formed = formed
+dropped-formed (suc i) (a ∷ p) formed = dropped-formed i p (λ b m. formed b (List·Memᴰ·tail m))
+
 module _ (w l : List ℕ) (accepted : Accepted w) (known : Entries-known w l) where
   -- each step is one of the task's actions
   pub steps-known : (a : Action) → List·Memᴰ a (steps w l) → List·Memᴰ a (task w .actions)
@@ -67,6 +73,10 @@ module _ (w l : List ℕ) (accepted : Accepted w) (known : Entries-known w l) wh
   pub steps-formed : Actions-formed (domains w) (steps w l)
   unfolding task
   steps-formed a m = accepted-well-formed w accepted .actions a (steps-known a m)
+
+  -- and so is each step from index k on
+  pub rest-formed : (k : ℕ) → Actions-formed (domains w) (steps w (drop k l))
+  rest-formed k = rw (← steps-drop w l k) at (dropped-formed k (steps w l) steps-formed)
 
   cost-words-limit : (c : ℕ) → List·Memᴰ c (map (cost-word w) l) → c ≤ limits .cost
   unfolding action

@@ -12,6 +12,8 @@ pub mod LandmarksKept
 pub mod LandmarkTheorem
 -- TrialLaws: what a walk and a successful trial leave, and that a trial walks along the rest from the state before its step.
 pub mod TrialLaws
+-- PartWalk: a walk in the first values of a state is the walk in the state.
+pub mod PartWalk
 -- LowerLaws: the order of lists by cost, then length.
 pub mod LowerLaws
 -- GreedyChoice: what a round of greedy elimination takes.

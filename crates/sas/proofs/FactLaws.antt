@@ -58,6 +58,10 @@ pub one-failing : {f : Fact} (s : State) (q : Assignment) → first-failing s q 
 unfolding satisfies
 one-failing s q h = rw (h, satisfies)
 
+pub satisfies-nothing : (s : State) → satisfies s [] ≡ true
+unfolding satisfies first-failing
+satisfies-nothing s = refl
+
 pub satisfies-more : (s : State) (f : Fact) (q : Assignment) → holds s f ≡ true → satisfies s (f ∷ q) ≡ satisfies s q
 unfolding satisfies first-failing
 satisfies-more s f q h = rw (h, satisfies, first-failing)

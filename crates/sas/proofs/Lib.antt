@@ -8,5 +8,7 @@ pub mod AssignLaws
 pub mod ActionLaws
 -- RunLaws: what a sequence of actions does, and that it keeps within the domains.
 pub mod RunLaws
+-- PartLaws: the first values of a state do by themselves what they do in it.
+pub mod PartLaws
 -- Faults: a sequence that reaches no state is stuck at one position.
 pub mod Faults

@@ -35,13 +35,13 @@ alike-later : (m g : Reduction) (i : ℕ) → drop i m ≡ drop i g → drop (i 
 alike-later m g i same = sym (drop-drop 1 i m) ∙ ap (drop 1) same ∙ drop-drop 1 i g
 
 -- as many values laid over the front of others are the front
-front-laid : (n : ℕ) (s t : List ℕ) → length t ≡ length (take n s) → take n (t ++ drop n s) ≡ t
-front-laid zero s [] h = refl
-front-laid zero s (x ∷ t) h = absurd (omega arith)
-front-laid (suc n) [] [] h = refl
-front-laid (suc n) [] (x ∷ t) h = absurd (omega arith)
-front-laid (suc n) (y ∷ s) [] h = absurd (omega arith)
-front-laid (suc n) (y ∷ s) (x ∷ t) h = ap (λ r. x ∷ r) (front-laid n s t (omega arith))
+part-laid : (n : ℕ) (s t : List ℕ) → length t ≡ length (take n s) → take n (t ++ drop n s) ≡ t
+part-laid zero s [] h = refl
+part-laid zero s (x ∷ t) h = absurd (omega arith)
+part-laid (suc n) [] [] h = refl
+part-laid (suc n) [] (x ∷ t) h = absurd (omega arith)
+part-laid (suc n) (y ∷ s) [] h = absurd (omega arith)
+part-laid (suc n) (y ∷ s) (x ∷ t) h = ap (λ r. x ∷ r) (part-laid n s t (omega arith))
 
 -- the part of an array that a turn lends is the state that the array holds
 pub lent-front : (w values copy lent : List ℕ) (n : ℕ) → copy ≡ values → n ≡ state-size w → lent ≡ take n copy → lent ≡ front w values
@@ -178,7 +178,7 @@ module _ (w l : List ℕ) (flags : Reduction) (bits : List ℕ) (i : ℕ) (s : S
             → Both-told w l flags bits (i + 1) (front w (left ++ drop n copy)) with best after → Turn-told w l flags bits keep i s k best after
         kept-on n copy after e fits part both =
             let applied-there : left ≡ apply lent (action w a) = rw e at (advances .state) in
-            let laid : front w (left ++ drop n copy) ≡ left = rw (← fits) (front-laid n copy left (rw (applied-there, apply-length) (ap length part))) in
+            let laid : front w (left ++ drop n copy) ≡ left = rw (← fits) (part-laid n copy left (rw (applied-there, apply-length) (ap length part))) in
             let applies : front w (left ++ drop n copy) ≡ apply s (action w (getD l i 0)) = laid ∙ applied-there ∙ rw (read, fronts) in
             record {
               tells = λ ready m b tells same told.

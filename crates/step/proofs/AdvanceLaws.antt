@@ -66,6 +66,3 @@ module _ (w values : List ℕ) (n : ℕ) (fits : n ≡ state-size w) where
 
     pub advances-whole : (a : ℕ) (done : Bool) (after : List ℕ) → Advances w values a done after → Advances w (front w values) a done (front w after)
     advances-whole a done after advances = rw (all-front values refl, all-front after (advances-length w values after a done advances)) advances
-
-    pub goal-whole : (met : Bool) → met ≡ satisfies values (goal w) → met ≡ satisfies (front w values) (goal w)
-    goal-whole met test = test ∙ rw (all-front values refl)

@@ -5,7 +5,7 @@ use native.Mathlib.Nat.{sub-zero}
 use native.Mathlib.Omega.{arith}
 use mathlib.Core.Path.{_≡_, sym, _∙_}
 use mathlib.Core.List.{List, _++_}
-use lib.ListN.{length, set, take, drop, length-take, length-drop, length-append, replicate, length-replicate, replicate-append-replicate}
+use lib.ListN.{length, set, take, drop, length-take, replicate, length-replicate, replicate-append-replicate}
 use lib.Seq.{sets, sets-eq, length-sets, take-at, drop-at}
 use Rattle.sas.specs.Task.{State}
 use Rattle.sheet.specs.Limits.{limits}
@@ -40,18 +40,12 @@ drop-replicate k n x h =
     let parts : replicate k x ++ replicate (n - k) x ≡ replicate n x = replicate-append-replicate k (n - k) x ∙ rw whole in
     rw (← parts) (drop-at (replicate k x) (replicate (n - k) x) k (length-replicate k x))
 
--- the part of an array that a walk is lent, and the array when it comes back
-module _ (values : List ℕ) (n : ℕ) (room : length values ≡ limits .variables) (h : n ≤ limits .variables) where
-  pub lent-part : n ≡ length (take n values)
-  lent-part = rw length-take (omega arith)
-
-  pub laid-length : (after : List ℕ) → length after ≡ length (take n values) → limits .variables ≡ length (after ++ drop n values)
-  laid-length after same = simp (length-append, length-drop) (omega (arith, lent-part))
-
--- the same of a state in an array
+-- the part of an array that a walk is lent
 pub lent-length : (s : State) (values : List ℕ) (n : ℕ) → values ≡ in-array s → n ≤ limits .variables → n ≡ length (take n values)
 unfolding in-array
-lent-length s values n e h = lent-part values n (rw (e, length-sets) (length-replicate {A = ℕ} (limits .variables) 0)) h
+lent-length s values n e h =
+    let room : length values ≡ limits .variables = rw (e, length-sets) (length-replicate {A = ℕ} (limits .variables) 0) in
+    rw length-take (omega arith)
 
 -- what was lent comes back as the state that the array holds
 pub front-laid : (w values after : List ℕ) (n : ℕ) → n ≡ state-size w → length after ≡ n → front w (after ++ drop n values) ≡ after

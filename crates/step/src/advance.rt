@@ -48,14 +48,3 @@ pub fn advance_in(words: &[u32], values: &mut [u32], action: u32) -> bool
     }
     advance(words, values, action)
 }
-
-// Whether the goal holds in such a state.
-pub fn goal_in(words: &[u32], values: &[u32]) -> bool
-    ensures { λ r. ⌜ r ≡ satisfies (front (now (words .entry)) (now (values .entry))) (goal-of (now (words .entry))) ⌝ }
-{
-    let n = size(words);
-    if n < values.len() {
-        return goal_holds(words, &values[..n]);
-    }
-    goal_holds(words, values)
-}

@@ -34,7 +34,7 @@ array-read-if1 : tie.Need-array-read-if1 Inv-loop μ-loop
 array-read-if1 c = omega (arith, c .before .before .before .before .before .before .pre .0 .few, c .loop-test .taken)
 
 trial-requires : tie.Need-trial-requires Inv-loop μ-loop
-trial-requires c κs = (c .before .before .before .before .before .before .before .pre .0 .few, c .before .loop-test .taken)
+trial-requires c κs = (c .before .before .before .before .before .before .before .pre .0, c .before .loop-test .taken)
 
 better-requires : tie.Need-better-requires Inv-loop μ-loop
 better-requires c κs = search needs

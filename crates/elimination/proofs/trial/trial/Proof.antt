@@ -1,15 +1,10 @@
 -- `trial` meets its contract: the walk of the rest, with the step struck and counted. Assumes nothing.
-use Rattle.elimination.proofs.TriedLaws.{tries-front}
-use Rattle.step.proofs.StateLaws.{lent-part, laid-length}
+use Prim.Native.Nat.{_<_, _≤_}
 use lib.ListN.{length}
-use mathlib.Core.Path.{_≡_}
-use Prim.Native.Nat.{_<_}
+use Rattle.elimination.proofs.TriedLaws.{tries-front}
 use borrow.Author.Needs.{needs}
 use Rattle.elimination.proofs.trial.trial.Statement.{statement}
 use Rattle.elimination.proofs.trial.trial.Tie as tie
-
-size-requires : tie.Need-size-requires
-size-requires c κs = search needs
 
 slice-aggregate-strike : tie.Need-slice-aggregate-strike
 slice-aggregate-strike c = search needs
@@ -35,11 +30,8 @@ add-requires c κs = search needs
 slice-aggregate-walk-rest : tie.Need-slice-aggregate-walk-rest
 slice-aggregate-walk-rest c = search needs
 
-array-borrow-prefix-state : tie.Need-array-borrow-prefix-state
-array-borrow-prefix-state c = search needs
-
 slice-aggregate-walk-rest-2 : tie.Need-slice-aggregate-walk-rest-2
-slice-aggregate-walk-rest-2 c = let room : length (c .before .before .before .before .before .before .before .before .before .before .before .before .args .values) ≡ 64 = search needs in lent-part _ _ room (c .before .before .before .before .before .before .before .before .before .size .ensures .1)
+slice-aggregate-walk-rest-2 c = search needs
 
 add-walk-rest : tie.Need-add-walk-rest
 add-walk-rest c = search needs
@@ -47,27 +39,24 @@ add-walk-rest c = search needs
 walk-rest-requires : tie.Need-walk-rest-requires
 walk-rest-requires c κs = search needs
 
-slice-aggregate-goal-in : tie.Need-slice-aggregate-goal-in
-slice-aggregate-goal-in c =
-    let room : length (c .before .before .before .before .before .before .before .before .before .before .before .before .before .before .before .before .args .values) ≡ 64 = search needs in
-    laid-length _ _ room (c .before .before .before .before .before .before .before .before .before .before .before .before .before .size .ensures .1) (c .before .before .before .walk-rest .last .1 .1 .1 .0) (c .before .before .before .walk-rest .kept .1 .1 .1 .0)
+slice-aggregate-goal-holds : tie.Need-slice-aggregate-goal-holds
+slice-aggregate-goal-holds c = search needs
 
-goal-in-requires : tie.Need-goal-in-requires
-goal-in-requires c κs = search needs
+goal-holds-requires : tie.Need-goal-holds-requires
+goal-holds-requires c κs = search needs
 
 returns : tie.Need-returns
 returns c =
-    let start = c .before .before .before .before .before .before .before .before .before .before .before .before .before .before .before .before .before in
+    let start = c .before .before .before .before .before .before .before .before .before .before .before .before .before .before .before .before in
     let inside : start .args .i < length (start .args .flags) = search needs in
-    let room : length (start .args .values) ≡ 64 = search needs in
-    tries-front _ _ _ _ _ _ _ _ _ (c .before .before .before .before .before .before .before .before .before .before .before .before .strike .ensures) (c .before .before .before .before .before .before .before .before .cost .ensures .0) (c .before .before .before .before .before .before .before .before .before .before .new .ensures) (c .before .before .before .before .before .before .before .add .ensures) _ (c .before .before .before .before .before .before .before .before .before .before .before .before .before .before .size .ensures .0)
-    (lent-part _ _ room (c .before .before .before .before .before .before .before .before .before .before .before .before .before .before .size .ensures .1)) _ _ _ _ inside (start .pre .1) (c .before .before .before .before .walk-rest .ensures) (c .before .before .before .before .walk-rest .kept .1 .1 .1 .0) (c .goal-in .ensures)
+    let long : 64 ≤ length (start .args .values) = search needs in
+    tries-front _ _ _ _ _ _ _ _ _ (c .before .before .before .before .before .before .before .before .before .before .before .before .strike .ensures) (c .before .before .before .before .before .before .before .before .cost .ensures .0) (c .before .before .before .before .before .before .before .before .before .before .new .ensures) (c .before .before .before .before .before .before .before .add .ensures) _ _ _ _
+    inside (start .pre .1) (c .before .before .before .before .walk-rest .ensures) (c .goal-holds .ensures) (start .pre .0) long
 
 pub trial-spec : {M : Type 1} → statement M
 trial-spec =
     tie.close
     (tie.spec
-    size-requires
     slice-aggregate-strike
     strike-requires
     new-requires
@@ -76,10 +65,9 @@ trial-spec =
     cost-requires
     add-requires
     slice-aggregate-walk-rest
-    array-borrow-prefix-state
     slice-aggregate-walk-rest-2
     add-walk-rest
     walk-rest-requires
-    slice-aggregate-goal-in
-    goal-in-requires
+    slice-aggregate-goal-holds
+    goal-holds-requires
     returns)
