@@ -12,11 +12,11 @@ use lib.Pow.{shl-exact}
 use Rattle.mask.specs.Mask.{word-bits, digit, binary}
 use Rattle.mask.proofs.MaskWordLaws.{binary-below, lowest-digit}
 use Rattle.sheet.specs.declared.group.Group.{Group}
-use Rattle.sheet.specs.Group.{facts-in, first-fact, rest-of}
+use Rattle.sheet.specs.between.Group.{facts-in, first-fact, rest-of}
 use Rattle.sheet.proofs.EncodeLaws.{word-of-fact}
 use Rattle.sheet.proofs.GroupLaws.{group-over, group-next}
-use Rattle.fact_table.specs.Tables.{has-wanted}
-use Rattle.cuts.specs.Bits.{flagged, packed}
+use Rattle.fact_table.specs.between.Tables.{has-wanted}
+use Rattle.cuts.specs.between.Bits.{flagged, packed}
 
 -- one digit d more at the weight p, with t to come behind it
 regroup : (b p t d : ℕ) → b + p * (2 * t + d) ≡ b + d * p + p * 2 * t

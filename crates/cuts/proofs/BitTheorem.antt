@@ -8,25 +8,25 @@ use mathlib.Core.List.{List, [], _∷_, List·Memᴰ·head, List·Memᴰ·tail}
 use lib.ListN.{length, getD, drop}
 use Rattle.sas.specs.Task.{Action}
 use Rattle.sas.specs.Plan.{written}
-use Rattle.sas.specs.WellFormed.{Action-formed}
+use Rattle.sas.specs.between.WellFormed.{Action-formed}
 use Rattle.sas.proofs.ActionLaws.{written-known}
 use Rattle.sas.proofs.WellFormedLaws.{Actions-formed}
 use Rattle.reduction.specs.Reduction.{Reduction}
-use Rattle.reduction.specs.Wanted.{wanted}
-use Rattle.reduction.specs.Search.{Visit}
-use Rattle.reduction.specs.Sound.{Lacks}
+use Rattle.reduction.specs.between.Wanted.{wanted}
+use Rattle.reduction.specs.between.Search.{Visit}
+use Rattle.reduction.specs.between.Sound.{Lacks}
 use Rattle.mask.specs.Mask.{word-bits}
 use Rattle.sheet.specs.Decode.{domains, goal, action}
-use Rattle.sheet.specs.Encode.{fact-word}
+use Rattle.sheet.specs.between.Encode.{fact-word}
 use Rattle.sheet.specs.Causes.{Accepted}
 use Rattle.plan.specs.Readable.{Readable}
 use Rattle.plan.specs.Valid.{steps}
 use Rattle.plan.proofs.FaultLaws.{steps-drop}
 use Rattle.plan.proofs.FaultLaws.{drop-next}
 use Rattle.plan.proofs.PlanLaws.{rest-formed}
-use Rattle.fact_table.specs.Tables.{most-facts, has-wanted}
+use Rattle.fact_table.specs.between.Tables.{most-facts, has-wanted}
 use Rattle.fact_table.proofs.WantsLaws.{Wants, before-length, wants-next, goal-length, goal-wants}
-use Rattle.cuts.specs.Bits.{packed, table-before, step-bits, Told-wanted, strikes, wanted-test}
+use Rattle.cuts.specs.between.Bits.{packed, table-before, step-bits, Told-wanted, strikes, wanted-test}
 use Rattle.cuts.proofs.HoldLaws.{Unheld, some-unheld}
 
 module _ (w : List ℕ) (accepted : Accepted w) where

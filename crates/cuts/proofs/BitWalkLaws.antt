@@ -14,14 +14,14 @@ use Rattle.reduction.specs.Reduction.{Reduction}
 use Rattle.sheet.specs.declared.group.Group.{Group}
 use Rattle.sheet.specs.declared.group.ActionFacts.{ActionFacts}
 use Rattle.sheet.specs.Decode.{action}
-use Rattle.sheet.specs.Group.{goal-group, needed-group, written-group, facts-in}
+use Rattle.sheet.specs.between.Group.{goal-group, needed-group, written-group, facts-in}
 use Rattle.sheet.proofs.GroupLaws.{goal-facts, written-facts}
 use Rattle.plan.specs.Limits.{most-steps}
 use Rattle.plan.proofs.FaultLaws.{drop-next}
-use Rattle.fact_table.specs.Tables.{most-facts, is-wanted, not-wanted, stamped, passed-back, wanted-before, goal-table}
+use Rattle.fact_table.specs.between.Tables.{most-facts, is-wanted, not-wanted, stamped, passed-back, wanted-before, goal-table}
 use Rattle.fact_table.proofs.StampLaws.{stamped-length}
 use Rattle.fact_table.proofs.WantsLaws.{passed-action, before-length}
-use Rattle.cuts.specs.Bits.{packed, table-before, step-bits, Told-wanted}
+use Rattle.cuts.specs.between.Bits.{packed, table-before, step-bits, Told-wanted}
 
 -- where the walk stands before index i, with the words and the table that it has there
 pub record Wanted-from (w l : List ℕ) (flags : Reduction) (i : ℕ) (bits table : List ℕ) : Type 0 where

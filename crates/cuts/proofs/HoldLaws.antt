@@ -13,9 +13,9 @@ use Rattle.mask.specs.Mask.{digit, binary}
 use Rattle.mask.proofs.MaskWordLaws.{lowest-digit, other-digits}
 use Rattle.sheet.specs.declared.group.Group.{Group}
 use Rattle.sheet.specs.Decode.{fact-of}
-use Rattle.sheet.specs.Group.{written-group, facts-in, first-fact, rest-of}
+use Rattle.sheet.specs.between.Group.{written-group, facts-in, first-fact, rest-of}
 use Rattle.sheet.proofs.GroupLaws.{group-over, group-next, written-facts}
-use Rattle.cuts.specs.Bits.{is-missing, bits-hold, strikes}
+use Rattle.cuts.specs.between.Bits.{is-missing, bits-hold, strikes}
 
 -- a fact is missing where its bit is one and it does not hold
 module _ (s : State) (x : ℕ) (f : Fact) where

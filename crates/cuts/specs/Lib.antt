@@ -1,3 +1,3 @@
--- Bits: the facts that are wanted behind each step, as bits, and the test of them. Not to be believed:
--- proofs/BitTheorem ties them to `wanted` of `reduction`.
-pub mod Bits
+-- Nothing here is to be believed: what this crate promises is between the code and the definitions of other crates.
+-- between: what functions hand to each other, which need not be believed.
+pub mod between

@@ -14,9 +14,9 @@ use sheet::group::facts_of;
 use sheet::group::goal;
 ghost use mathlib.Core.Path.{_≡_};
 ghost use Rattle.mask.specs.Mask.{digit as digit-of};
-ghost use Rattle.sheet.specs.Group.{facts-in};
-ghost use Rattle.fact_table.specs.Tables.{has-wanted};
-ghost use Rattle.cuts.specs.Bits.{packed, Told-wanted};
+ghost use Rattle.sheet.specs.between.Group.{facts-in};
+ghost use Rattle.fact_table.specs.between.Tables.{has-wanted};
+ghost use Rattle.cuts.specs.between.Bits.{packed, Told-wanted};
 
 // One for a fact that the table has as wanted.
 fn digit(wanted: &[u8], fact: u32) -> u64

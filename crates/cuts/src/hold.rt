@@ -6,8 +6,8 @@ use step::facts::holds;
 ghost use mathlib.Core.Path.{_≡_};
 ghost use lib.ListN.{getD};
 ghost use Rattle.sheet.specs.Decode.{fact-of};
-ghost use Rattle.sheet.specs.Group.{facts-in};
-ghost use Rattle.cuts.specs.Bits.{is-missing, bits-hold, strikes};
+ghost use Rattle.sheet.specs.between.Group.{facts-in};
+ghost use Rattle.cuts.specs.between.Bits.{is-missing, bits-hold, strikes};
 
 // Whether a fact whose bit is the lowest is wanted and does not hold.
 fn missing(state: &[u32], bits: u64, fact: u32) -> bool

@@ -16,11 +16,11 @@ use Rattle.sheet.specs.Layout.{cost-word}
 use Rattle.sheet.specs.Decode.{action}
 use Rattle.plan.specs.Valid.{steps}
 use Rattle.reduction.specs.Reduction.{Reduction, kept, lower}
-use Rattle.service.specs.Held.{mask}
-use Rattle.service.specs.Tallied.{is-less}
+use Rattle.service.specs.between.Held.{mask}
+use Rattle.service.specs.between.Tallied.{is-less}
 use Rattle.service.proofs.TalliedLaws.{left-bounded}
 use Rattle.service.proofs.LessLaws.{less-lower, kept-mask}
-use Rattle.elimination.specs.Walk.{Fits, Balanced}
+use Rattle.elimination.specs.between.Walk.{Fits, Balanced}
 use Rattle.plan.specs.Readable.{Readable}
 
 -- a step that is struck takes its price with it

@@ -24,7 +24,7 @@ use Rattle.reduction.proofs.ReductionLaws.{kept-length, left-length}
 use Rattle.service.specs.Reduced.{reduction-checks, tally-left, output-left}
 use Rattle.refusal.specs.Refusal.{told}
 use Rattle.refusal.specs.Check.{answer}
-use Rattle.service.specs.Tallied.{is-less}
+use Rattle.service.specs.between.Tallied.{is-less}
 use Rattle.service.proofs.LodgedLaws.{roomy}
 use Rattle.service.proofs.LessLaws.{less-lower}
 use Rattle.elimination.specs.Eliminations.{elimination-of, greedy-elimination-of, Reduces-both, cheaper-part}

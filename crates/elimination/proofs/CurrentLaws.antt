@@ -11,7 +11,7 @@ use lib.ListN.{length, getD, set, take, drop, replicate, length-drop, length-map
 use lib.Seq.{length-take-le, take-take, getD-take, take-at, getD-at, drop-append-le}
 use Rattle.sas.specs.Plan.{satisfies, applicable}
 use Rattle.tally.specs.declared.Tally.{Tally}
-use Rattle.step.specs.Advance.{Advances}
+use Rattle.step.specs.between.Advance.{Advances}
 use Rattle.sheet.specs.Decode.{initial, goal, action}
 use Rattle.plan.specs.Limits.{most-steps}
 use Rattle.plan.specs.Valid.{steps}
@@ -21,9 +21,9 @@ use Rattle.reduction.specs.Landmark.{step}
 use Rattle.reduction.specs.Elimination.{walk, after, trial}
 use Rattle.reduction.proofs.TrialLaws.{From-before, trial-from-before, trial-succeeds, success-valid, walk-length, unkept-fails}
 use Rattle.reduction.proofs.BeforeLaws.{Passes, before-next, walk-past}
-use Rattle.elimination.specs.Trial.{Tries}
-use Rattle.service.specs.Held.{mask}
-use Rattle.elimination.specs.Current.{Current, Eliminates}
+use Rattle.elimination.specs.between.Trial.{Tries}
+use Rattle.service.specs.between.Held.{mask}
+use Rattle.elimination.specs.between.Current.{Current, Eliminates}
 
 -- the step at index i is the action that the entry there names
 pub steps-at : (w l : List ℕ) (i : ℕ) → i < length l → step (steps w l) i ≡ action w (getD l i 0)

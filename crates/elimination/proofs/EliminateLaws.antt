@@ -14,8 +14,8 @@ use Rattle.reduction.specs.Reduction.{Reduction, whole, valid, Before}
 use Rattle.reduction.specs.Elimination.{eliminated, eliminate}
 use Rattle.reduction.proofs.ReductionLaws.{kept-whole}
 use Rattle.reduction.proofs.BeforeLaws.{before-first}
-use Rattle.service.specs.Held.{mask, held}
-use Rattle.elimination.specs.Current.{Current, Eliminates}
+use Rattle.service.specs.between.Held.{mask, held}
+use Rattle.elimination.specs.between.Current.{Current, Eliminates}
 
 -- nothing struck: the flags of a plan that is valid
 module _ (w l : List ℕ) (flags : Reduction) (few : length l ≤ most-steps) (is : flags ≡ replicate (length l) true ++ replicate (most-steps - length l) false) where

@@ -13,9 +13,9 @@ use Rattle.reduction.specs.Reduction.{Reduction, valid}
 use Rattle.reduction.specs.Elimination.{best, rounds, greedy}
 use Rattle.reduction.proofs.BeforeLaws.{before-first}
 use Rattle.elimination.specs.declared.greedy.Best.{Best}
-use Rattle.service.specs.Held.{mask, held}
-use Rattle.elimination.specs.Current.{Current}
-use Rattle.elimination.specs.Round.{Picks, Looks}
+use Rattle.service.specs.between.Held.{mask, held}
+use Rattle.elimination.specs.between.Current.{Current}
+use Rattle.elimination.specs.between.Round.{Picks, Looks}
 use Rattle.elimination.proofs.EliminateLaws.{all-current, all-mask}
 
 -- before the first position nothing is found

@@ -10,7 +10,7 @@ use Rattle.plan.specs.Valid.{steps}
 use Rattle.plan.specs.Checked.{lodged-checks}
 use Rattle.reduction.specs.Reduction.{Reduction}
 use Rattle.reduction.proofs.EliminationTheorem.{eliminate-shortens, greedy-shortens}
-use Rattle.service.specs.Held.{held, Leaves}
+use Rattle.service.specs.between.Held.{held, Leaves}
 use Rattle.service.proofs.HeldLaws.{leaves}
 use Rattle.service.proofs.LodgedLaws.{lodged-valid}
 use Rattle.elimination.specs.declared.single.Elimination.{Elimination}

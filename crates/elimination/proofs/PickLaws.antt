@@ -9,19 +9,19 @@ use mathlib.Core.List.{List}
 use lib.ListN.{length, getD}
 use Rattle.tally.specs.Tally.{nothing, comparison}
 use Rattle.sheet.specs.Decode.{initial, goal}
-use Rattle.step.specs.Advance.{Advances}
+use Rattle.step.specs.between.Advance.{Advances}
 use Rattle.plan.specs.Valid.{steps}
 use Rattle.reduction.specs.Reduction.{Reduction, kept, lower, Before}
 use Rattle.reduction.specs.Elimination.{trial, better, best}
 use Rattle.reduction.proofs.TrialLaws.{unkept-fails}
 use Rattle.elimination.specs.declared.greedy.Best.{Best}
 use Rattle.elimination.specs.declared.trial.Tried.{Tried}
-use Rattle.elimination.specs.Walk.{Balanced}
-use Rattle.elimination.specs.Trial.{Tries}
-use Rattle.service.specs.Held.{mask}
-use Rattle.elimination.specs.Current.{Current}
-use Rattle.service.specs.Tallied.{is-less}
-use Rattle.elimination.specs.Round.{replaces, better-of, Picks, Looks}
+use Rattle.elimination.specs.between.Walk.{Balanced}
+use Rattle.elimination.specs.between.Trial.{Tries}
+use Rattle.service.specs.between.Held.{mask}
+use Rattle.elimination.specs.between.Current.{Current}
+use Rattle.service.specs.between.Tallied.{is-less}
+use Rattle.elimination.specs.between.Round.{replaces, better-of, Picks, Looks}
 use Rattle.elimination.proofs.CurrentLaws.{mask-length, mask-flag, trial-met, trial-unmet, left-mask, left-current, advanced, eliminates-nothing}
 use Rattle.elimination.proofs.BalanceLaws.{balanced-mask, readable-fits, more-struck}
 use Rattle.plan.specs.Readable.{Readable}

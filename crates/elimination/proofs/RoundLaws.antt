@@ -4,10 +4,10 @@ use mathlib.Core.Bool.{true, false}
 use Rattle.tally.specs.declared.Order.{Order}
 use Rattle.tally.specs.declared.Order.the-variants.{Less}
 use Rattle.tally.specs.Tally.{comparison}
-use Rattle.service.specs.Tallied.{is-less}
+use Rattle.service.specs.between.Tallied.{is-less}
 use Rattle.elimination.specs.declared.greedy.Best.{Best}
 use Rattle.elimination.specs.declared.trial.Tried.{Tried}
-use Rattle.elimination.specs.Round.{replaces, better-of}
+use Rattle.elimination.specs.between.Round.{replaces, better-of}
 
 module _ (so-far : Best) (tried : Tried) where
   pub fails : tried .succeeds ≡ false → so-far ≡ better-of so-far tried

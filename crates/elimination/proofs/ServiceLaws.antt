@@ -15,7 +15,7 @@ use Rattle.plan.specs.declared.check.Answer.the-variants.{Valid, Refused as Ref
 use Rattle.plan.specs.Checked.{told-answer}
 use Rattle.reduction.specs.Reduction.{Reduction}
 use Rattle.service.specs.Reduced.{reduction-checks}
-use Rattle.service.specs.Kept.{Keeps}
+use Rattle.service.specs.between.Kept.{Keeps}
 use Rattle.elimination.specs.Eliminations.{elimination-of, greedy-elimination-of, Reduces-both, cheaper-part}
 
 module _ (w l before before′ : List ℕ) (room : ℕ) (given : Answer) (shorter : room ≡ min (length before) (length before′))

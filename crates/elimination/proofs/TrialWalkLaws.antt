@@ -13,12 +13,12 @@ use Rattle.tally.specs.declared.Tally.{Tally}
 use Rattle.tally.specs.Tally.{one-more}
 use Rattle.sheet.specs.Layout.{cost-word}
 use Rattle.sheet.specs.Decode.{action}
-use Rattle.step.specs.Advance.{Advances}
+use Rattle.step.specs.between.Advance.{Advances}
 use Rattle.plan.specs.Valid.{steps}
 use Rattle.reduction.specs.Reduction.{Reduction}
 use Rattle.reduction.specs.Elimination.{walk, after}
 use Rattle.reduction.proofs.TrialLaws.{walk-done, walk-struck, after-done, after-struck}
-use Rattle.elimination.specs.Walk.{flags-after, state-after, Fits, Balanced, Walks, Does-or-strikes}
+use Rattle.elimination.specs.between.Walk.{flags-after, state-after, Fits, Balanced, Walks, Does-or-strikes}
 use Rattle.elimination.proofs.BalanceLaws.{strike-balanced, same-balanced, balanced-then, balanced-fits}
 
 module _ (w : List ℕ) (a j : ℕ) (m : Reduction) (s : List ℕ) (t : Tally) where

@@ -13,7 +13,7 @@ use Rattle.tally.specs.Tally.{nothing, one-more}
 use Rattle.sheet.specs.Layout.{cost-word}
 use Rattle.sheet.specs.Decode.{domains, goal}
 use Rattle.sas.specs.Task.{Fact, Action}
-use Rattle.sas.specs.WellFormed.{Known}
+use Rattle.sas.specs.between.WellFormed.{Known}
 use Rattle.sas.proofs.WellFormedLaws.{rising-known}
 use Rattle.sas.proofs.ActionLaws.{needed-known}
 use Rattle.sas.proofs.PartLaws.{part-satisfies}
@@ -27,8 +27,8 @@ use Rattle.plan.proofs.PlanLaws.{goal-rising, rest-formed}
 use Rattle.reduction.specs.Elimination.{after}
 use Rattle.reduction.proofs.PartWalk.{Own-needs, part-walk, after-length}
 use Rattle.reduction.specs.Reduction.{Reduction}
-use Rattle.elimination.specs.Walk.{flags-after, state-after, Fits, Balanced, Walks}
-use Rattle.elimination.specs.Trial.{Tries}
+use Rattle.elimination.specs.between.Walk.{flags-after, state-after, Fits, Balanced, Walks}
+use Rattle.elimination.specs.between.Trial.{Tries}
 use Rattle.elimination.proofs.BalanceLaws.{strike-balanced, balanced-then, balanced-fits}
 
 module _ (w l : List ℕ) (i : ℕ) (m : Reduction) (s : List ℕ) (m′ : Reduction) (c : ℕ) (none one : Tally) (struck : m′ ≡ set m i false) (price : c ≡ cost-word w (getD l i 0))

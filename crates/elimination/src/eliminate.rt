@@ -10,7 +10,7 @@ ghost use Rattle.reduction.specs.Reduction.{valid};
 ghost use Rattle.sheet.specs.Decode.{goal, initial as initial-of};
 ghost use Rattle.plan.specs.Valid.{steps};
 ghost use Rattle.plan.specs.Readable.{Readable};
-ghost use Rattle.service.specs.Held.{held};
+ghost use Rattle.service.specs.between.Held.{held};
 ghost use Rattle.elimination.specs.Eliminations.{elimination-of};
 
 // The flags that elimination leaves of a valid plan: on success all strikes of a trial stand, otherwise its step is

@@ -13,10 +13,10 @@ ghost use lib.ListN.{length};
 ghost use Rattle.reduction.specs.Reduction.{valid};
 ghost use Rattle.sheet.specs.Decode.{goal, initial as initial-of};
 ghost use Rattle.plan.specs.Valid.{steps};
-ghost use Rattle.service.specs.Held.{mask, held};
+ghost use Rattle.service.specs.between.Held.{mask, held};
 ghost use Rattle.elimination.specs.Eliminations.{greedy-elimination-of};
-ghost use Rattle.elimination.specs.Current.{Current};
-ghost use Rattle.elimination.specs.Round.{Picks, better-of};
+ghost use Rattle.elimination.specs.between.Current.{Current};
+ghost use Rattle.elimination.specs.between.Round.{Picks, better-of};
 ghost use Rattle.plan.specs.Readable.{Readable};
 
 // The best success of a round so far, if there is one, with the tally of what it strikes.

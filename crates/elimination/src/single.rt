@@ -15,7 +15,7 @@ ghost use Rattle.reduction.specs.Reduction.{valid};
 ghost use Rattle.sheet.specs.Decode.{goal, initial};
 ghost use Rattle.plan.specs.Valid.{steps};
 ghost use Rattle.plan.specs.Readable.{Readable};
-ghost use Rattle.service.specs.Held.{held};
+ghost use Rattle.service.specs.between.Held.{held};
 ghost use Rattle.service.specs.Reduced.{Reduces};
 ghost use Rattle.elimination.specs.Eliminations.{left-by};
 

@@ -10,7 +10,7 @@ ghost use Prim.Native.Nat.{_≤_, _<_};
 ghost use lib.ListN.{length};
 ghost use Rattle.step.specs.State.{front};
 ghost use Rattle.plan.specs.Readable.{Readable};
-ghost use Rattle.elimination.specs.Trial.{Tries};
+ghost use Rattle.elimination.specs.between.Trial.{Tries};
 
 // Whether a trial succeeds, what it leaves, and the tally of what it strikes.
 pub(crate) struct Tried {

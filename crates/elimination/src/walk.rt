@@ -7,7 +7,7 @@ ghost use mathlib.Core.Path.{_≡_};
 ghost use mathlib.Core.Bool.{true, false};
 ghost use Prim.Native.Nat.{_≤_};
 ghost use lib.ListN.{length, getD};
-ghost use Rattle.elimination.specs.Walk.{Walks, Does-or-strikes};
+ghost use Rattle.elimination.specs.between.Walk.{Walks, Does-or-strikes};
 
 // Does each kept step from index i on in turn, and strikes those that can't be done. Adds what it strikes to the tally
 // of what is struck already.

@@ -13,7 +13,7 @@ use text::pack::pack;
 use text::reader::Ending;
 ghost use Prim.Native.Nat.{_≤_};
 ghost use lib.ListN.{length};
-ghost use Rattle.text.specs.Input.{most};
+ghost use Rattle.text.specs.between.Input.{most};
 
 // Writes the words as bytes.
 fn write_words(words: &[u32])

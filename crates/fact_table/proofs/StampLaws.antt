@@ -8,15 +8,15 @@ use mathlib.Core.List.{List, [], _∷_, List·Memᴰ, List·Memᴰ·head, List·
 use lib.ListN.{length, getD, set, length-set}
 use lib.Seq.{getD-set-same, getD-set-other}
 use Rattle.sas.specs.Task.{Fact, Assignment}
-use Rattle.reduction.specs.Wanted.{some-fact, same-fact, has}
+use Rattle.reduction.specs.between.Wanted.{some-fact, same-fact, has}
 use Rattle.reduction.proofs.MemberLaws.{same-fact-true, same-fact-refl}
 use Rattle.sheet.specs.declared.group.Group.{Group}
 use Rattle.sheet.specs.Limits.{limits}
-use Rattle.sheet.specs.Encode.{fact-word}
-use Rattle.sheet.specs.Group.{facts-in, first-fact, rest-of}
+use Rattle.sheet.specs.between.Encode.{fact-word}
+use Rattle.sheet.specs.between.Group.{facts-in, first-fact, rest-of}
 use Rattle.sheet.proofs.EncodeLaws.{word-of-fact}
 use Rattle.sheet.proofs.GroupLaws.{group-over, group-next}
-use Rattle.fact_table.specs.Tables.{stamped}
+use Rattle.fact_table.specs.between.Tables.{stamped}
 
 module _ (t w : List ℕ) (g : Group) (x : ℕ) where
   -- from the end on nothing is stamped

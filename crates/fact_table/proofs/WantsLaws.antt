@@ -9,22 +9,22 @@ use lib.ListN.{length, getD, replicate, length-replicate, getD-replicate}
 use lib.Dec.{eqb}
 use Rattle.sas.specs.Task.{Fact, Assignment, Action}
 use Rattle.sas.specs.Plan.{written, needed}
-use Rattle.sas.specs.WellFormed.{Known, Action-formed}
+use Rattle.sas.specs.between.WellFormed.{Known, Action-formed}
 use Rattle.sas.proofs.WellFormedLaws.{rising-known}
 use Rattle.sas.proofs.ActionLaws.{written-known, needed-known}
 use Rattle.reduction.specs.Reduction.{Reduction}
-use Rattle.reduction.specs.Wanted.{has, wanted}
+use Rattle.reduction.specs.between.Wanted.{has, wanted}
 use Rattle.sheet.specs.declared.group.ActionFacts.{ActionFacts}
 use Rattle.sheet.specs.Limits.{limits}
 use Rattle.sheet.specs.Layout.{variables}
 use Rattle.sheet.specs.Decode.{domains, goal, action, task}
-use Rattle.sheet.specs.Encode.{fact-word}
-use Rattle.sheet.specs.Group.{needed-group, written-group, facts-in}
+use Rattle.sheet.specs.between.Encode.{fact-word}
+use Rattle.sheet.specs.between.Group.{needed-group, written-group, facts-in}
 use Rattle.sheet.specs.Causes.{Accepted}
 use Rattle.sheet.proofs.Parts.{accepted-measured}
 use Rattle.sheet.proofs.Accepted.{domains-length, domain-limits, accepted-well-formed}
 use Rattle.sheet.proofs.GroupLaws.{needed-facts, written-facts}
-use Rattle.fact_table.specs.Tables.{most-facts, is-wanted, not-wanted, stamped, has-wanted, passed-back, wanted-before, goal-table}
+use Rattle.fact_table.specs.between.Tables.{most-facts, is-wanted, not-wanted, stamped, has-wanted, passed-back, wanted-before, goal-table}
 use Rattle.fact_table.proofs.StampLaws.{Small, stamped-length, stamped-at}
 
 -- to pass a table back along the facts of an action is to pass it back along the action

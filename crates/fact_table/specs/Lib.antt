@@ -1,2 +1,3 @@
--- Tables: what tables with an entry for each fact hold, between the code and the landmarks and cuts.
-pub mod Tables
+-- Nothing here is to be believed: what this crate promises is between the code and the definitions of other crates.
+-- between: what functions hand to each other, which need not be believed.
+pub mod between

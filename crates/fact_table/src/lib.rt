@@ -6,8 +6,8 @@ use sheet::group::ActionFacts;
 use sheet::group::Group;
 use sheet::limits::Sheet;
 ghost use mathlib.Core.Path.{_≡_};
-ghost use Rattle.sheet.specs.Group.{facts-in};
-ghost use Rattle.fact_table.specs.Tables.{stamped, has-wanted, passed-back};
+ghost use Rattle.sheet.specs.between.Group.{facts-in};
+ghost use Rattle.fact_table.specs.between.Tables.{stamped, has-wanted, passed-back};
 
 // The size of a table: an accepted task has no fact past it.
 pub const FACTS: usize = Sheet::VARIABLES * Sheet::VALUES;

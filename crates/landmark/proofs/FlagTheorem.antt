@@ -11,19 +11,19 @@ use lib.Dec.{leb}
 use borrow.Author.Tests.{le-leb, lt-leb}
 use Rattle.sas.specs.Task.{Fact, Assignment, State, Action}
 use Rattle.sas.specs.Plan.{holds, written}
-use Rattle.sas.specs.WellFormed.{Known, Action-formed}
+use Rattle.sas.specs.between.WellFormed.{Known, Action-formed}
 use Rattle.sas.proofs.WellFormedLaws.{Actions-formed}
 use Rattle.sas.proofs.ActionLaws.{written-known}
-use Rattle.reduction.specs.Wanted.{some-fact, has, wanted}
-use Rattle.reduction.specs.Landmarks.{landmarks-behind, landmarks}
+use Rattle.reduction.specs.between.Wanted.{some-fact, has, wanted}
+use Rattle.reduction.specs.between.Landmarks.{landmarks-behind, landmarks}
 use Rattle.reduction.proofs.LandmarksKept.{passed, flags-behind}
 use Rattle.sheet.specs.Decode.{domains, goal}
-use Rattle.sheet.specs.Encode.{fact-word}
+use Rattle.sheet.specs.between.Encode.{fact-word}
 use Rattle.sheet.specs.Causes.{Accepted}
-use Rattle.fact_table.specs.Tables.{most-facts, goal-table}
+use Rattle.fact_table.specs.between.Tables.{most-facts, goal-table}
 use Rattle.fact_table.proofs.StampLaws.{stamped-length}
 use Rattle.fact_table.proofs.WantsLaws.{fits, stamped-known, Wants, before-length, wants-next, goal-length, goal-wants}
-use Rattle.landmark.specs.Walks.{written-first, sought, flagged, wanted-at, flags-at}
+use Rattle.landmark.specs.between.Walks.{written-first, sought, flagged, wanted-at, flags-at}
 
 -- some step writes a fact
 unfoldable some-writes : List Action → Fact → Bool

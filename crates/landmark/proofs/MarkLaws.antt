@@ -19,7 +19,7 @@ use Rattle.tally.specs.declared.Tally.{Tally}
 use Rattle.mask.specs.Mask.{mask-length, mask-words}
 use Rattle.sheet.specs.declared.group.Group.{Group}
 use Rattle.sheet.specs.Decode.{initial, goal}
-use Rattle.sheet.specs.Group.{goal-group, facts-in}
+use Rattle.sheet.specs.between.Group.{goal-group, facts-in}
 use Rattle.sheet.proofs.GroupLaws.{goal-facts}
 use Rattle.step.specs.State.{state-size, in-array}
 use Rattle.step.proofs.StateLaws.{front-initial}
@@ -28,13 +28,15 @@ use Rattle.plan.specs.declared.check.Answer.the-variants.{Valid, Refused}
 use Rattle.plan.specs.Limits.{most-steps}
 use Rattle.plan.specs.Valid.{steps}
 use Rattle.plan.specs.Readable.{Readable}
-use Rattle.plan.specs.Checked.{lodged-checks, plan-checks, told-answer, Checks, Checks-lodged}
+use Rattle.plan.specs.Checked.{lodged-checks, plan-checks, told-answer, Checks}
+use Rattle.plan.specs.between.Lodged.{Checks-lodged}
 use Rattle.plan.proofs.PlanLaws.{steps-formed, passed-readable}
-use Rattle.service.specs.Held.{mask, held, Leaves}
+use Rattle.service.specs.between.Held.{mask, held, Leaves}
 use Rattle.service.proofs.HeldLaws.{leaves}
-use Rattle.fact_table.specs.Tables.{most-facts, is-wanted, not-wanted, stamped, goal-table}
-use Rattle.landmark.specs.Marks.{marks, Marks, Marks-lodged, Masks}
-use Rattle.landmark.specs.Walks.{written-first, flags-walked}
+use Rattle.fact_table.specs.between.Tables.{most-facts, is-wanted, not-wanted, stamped, goal-table}
+use Rattle.landmark.specs.Marks.{marks, Masks}
+use Rattle.landmark.specs.between.Flagged.{Marks, Marks-lodged}
+use Rattle.landmark.specs.between.Walks.{written-first, flags-walked}
 use Rattle.landmark.proofs.FlagTheorem.{walks-flag}
 
 -- the walks flag the landmarks of a list that can be read

@@ -9,20 +9,20 @@ use mathlib.Core.List.{List, [], _∷_}
 use lib.ListN.{length, getD, drop, set, replicate, length-set, length-replicate, drop-of-length-le}
 use lib.Seq.{drop-cons, drop-set-lt, getD-set-same}
 use Rattle.reduction.specs.Reduction.{Reduction}
-use Rattle.reduction.specs.Wanted.{some-fact}
+use Rattle.reduction.specs.between.Wanted.{some-fact}
 use Rattle.sheet.specs.declared.group.Group.{Group}
 use Rattle.sheet.specs.declared.group.ActionFacts.{ActionFacts}
-use Rattle.sheet.specs.Group.{needed-group, written-group, facts-in}
+use Rattle.sheet.specs.between.Group.{needed-group, written-group, facts-in}
 use Rattle.sheet.proofs.GroupLaws.{written-facts}
 use Rattle.sheet.specs.Decode.{action}
 use Rattle.plan.specs.Limits.{most-steps}
 use Rattle.plan.specs.Valid.{steps}
 use Rattle.plan.proofs.FaultLaws.{drop-next}
 use Rattle.step.proofs.StateLaws.{drop-replicate}
-use Rattle.service.specs.Held.{held}
-use Rattle.fact_table.specs.Tables.{stamped, passed-back}
+use Rattle.service.specs.between.Held.{held}
+use Rattle.fact_table.specs.between.Tables.{stamped, passed-back}
 use Rattle.fact_table.proofs.WantsLaws.{passed-action}
-use Rattle.landmark.specs.Walks.{written-first, sought, flagged, wanted-at, flags-at, flags-walked, Marks-step}
+use Rattle.landmark.specs.between.Walks.{written-first, sought, flagged, wanted-at, flags-at, flags-walked, Marks-step}
 
 -- one step on the second walk
 pub step-marked : (w s first before after : List ℕ) (i a : ℕ) (facts : ActionFacts) (landmark : Bool) → facts .precondition ≡ needed-group w a

@@ -8,14 +8,14 @@ use lib.ListN.{getD}
 use borrow.Author.Tests.{le-leb, lt-leb}
 use Rattle.sas.specs.Task.{Fact}
 use Rattle.sas.specs.Plan.{holds}
-use Rattle.reduction.specs.Wanted.{some-fact}
+use Rattle.reduction.specs.between.Wanted.{some-fact}
 use Rattle.sheet.specs.declared.group.Group.{Group}
 use Rattle.sheet.specs.Decode.{fact-of}
-use Rattle.sheet.specs.Group.{facts-in, first-fact, rest-of}
+use Rattle.sheet.specs.between.Group.{facts-in, first-fact, rest-of}
 use Rattle.sheet.proofs.EncodeLaws.{word-of-fact}
 use Rattle.sheet.proofs.GroupLaws.{group-over, group-next}
-use Rattle.fact_table.specs.Tables.{has-wanted}
-use Rattle.landmark.specs.Walks.{sought}
+use Rattle.fact_table.specs.between.Tables.{has-wanted}
+use Rattle.landmark.specs.between.Walks.{sought}
 
 module _ (test : Fact → Bool) (w : List ℕ) (g : Group) where
   pub none-left-passes : g .end ≤ g .at → some-fact test (facts-in w g) ≡ false

@@ -1,4 +1,4 @@
--- The landmarks of a plan (document 01, "Marks"), as a service. Marks: what they are and what it answers. Walks: what
--- the walks along a plan keep, between the code and Marks.
+-- Marks: the marks of a list (document 01, "Marks"), and what the service answers.
 pub mod Marks
-pub mod Walks
+-- between: what functions hand to each other, which need not be believed.
+pub mod between

@@ -11,7 +11,7 @@ use step::state::initial;
 use step::state::size;
 ghost use mathlib.Core.Path.{_≡_};
 ghost use Rattle.plan.specs.Readable.{Readable};
-ghost use Rattle.service.specs.Held.{held};
+ghost use Rattle.service.specs.between.Held.{held};
 ghost use Rattle.landmark.specs.Marks.{marks};
 
 // The landmarks of a plan that can be read. The index of a step fits a byte, and so does their limit, for no step.

@@ -7,7 +7,8 @@ use plan::check::Answer;
 use plan::check::check_lodged;
 use plan::limits::Plan;
 use refusal::Verdict;
-ghost use Rattle.landmark.specs.Marks.{Marks-lodged, Masks};
+ghost use Rattle.landmark.specs.Marks.{Masks};
+ghost use Rattle.landmark.specs.between.Flagged.{Marks-lodged};
 
 // What the check of a plan answers, and the marks: a flag for each step, none past the last, and none at all on a
 // refusal.

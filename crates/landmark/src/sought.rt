@@ -4,10 +4,10 @@ use fact_table::is_wanted;
 use sheet::group::Group;
 use step::facts::holds;
 ghost use mathlib.Core.Path.{_≡_};
-ghost use Rattle.reduction.specs.Wanted.{some-fact};
+ghost use Rattle.reduction.specs.between.Wanted.{some-fact};
 ghost use Rattle.sheet.specs.Decode.{fact-of};
-ghost use Rattle.sheet.specs.Group.{facts-in};
-ghost use Rattle.landmark.specs.Walks.{sought as sought-fact};
+ghost use Rattle.sheet.specs.between.Group.{facts-in};
+ghost use Rattle.landmark.specs.between.Walks.{sought as sought-fact};
 
 // Whether the step at index i is to write a fact: one that the start does not hold, that no step before writes, and
 // that is wanted.

@@ -11,7 +11,7 @@ ghost use lib.ListN.{length};
 ghost use Rattle.sheet.specs.Decode.{action as action-of};
 ghost use Rattle.plan.specs.Limits.{most-steps};
 ghost use Rattle.plan.specs.Valid.{steps};
-ghost use Rattle.landmark.specs.Walks.{written-first, flags-walked, Marks-step};
+ghost use Rattle.landmark.specs.between.Walks.{written-first, flags-walked, Marks-step};
 
 // Stamps each fact that a plan's steps write with the index of the first step that writes it.
 pub(crate) fn write_first(words: &[u32], plan: &[u32], first: &mut [u8])

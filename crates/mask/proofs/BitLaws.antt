@@ -12,7 +12,8 @@ use lib.Bits.{bitOr, or-step, or-zero-r}
 use lib.Dec.{eqb, lit<}
 use lib.Pow.{shl-exact}
 use Rattle.reduction.specs.Reduction.{Reduction}
-use Rattle.mask.specs.Mask.{mask-length, word-bits, digit, binary, words-of, mask-words, bit-up, with-bit}
+use Rattle.mask.specs.Mask.{mask-length, word-bits, digit, binary, words-of, mask-words, bit-up}
+use Rattle.mask.specs.between.Places.{with-bit}
 use Rattle.mask.proofs.MaskWordLaws.{lowest-digit, other-digits}
 
 -- the bit as the code shifts it

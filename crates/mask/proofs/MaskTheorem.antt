@@ -11,7 +11,8 @@ use lib.Seq.{sets, sets-eq, getD-take, getD-drop}
 use lib.Dec.{eqb}
 use Rattle.reduction.specs.Reduction.{Reduction, kept, count}
 use Rattle.reduction.proofs.ReductionLaws.{kept-length}
-use Rattle.mask.specs.Mask.{mask-length, word-bits, mask-bits, digit, binary, words-of, mask-words, ones-of, bit-up, kept-by-words}
+use Rattle.mask.specs.Mask.{mask-length, word-bits, mask-bits, digit, binary, words-of, mask-words, ones-of, bit-up}
+use Rattle.mask.specs.between.Places.{kept-by-words}
 use Rattle.mask.proofs.MaskWordLaws.{binary-bit}
 use Rattle.mask.proofs.MaskLaws.{words-at, words-fit, words-ones}
 use Rattle.mask.proofs.KeptWordLaws.{words-keep}

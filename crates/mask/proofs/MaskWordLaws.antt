@@ -14,7 +14,8 @@ use lib.Count.{ones, ones-step, under, trailingZeros}
 use lib.Pow.{pow-pos}
 use lib.Dec.{eqb}
 use Rattle.reduction.specs.Reduction.{Reduction, count}
-use Rattle.mask.specs.Mask.{digit, binary, ones-at}
+use Rattle.mask.specs.Mask.{digit, binary}
+use Rattle.mask.specs.between.Places.{ones-at}
 
 digit-low : (b : Bool) → digit b < 2
 digit-low true = omega arith

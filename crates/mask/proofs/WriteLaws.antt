@@ -11,7 +11,8 @@ use lib.Seq.{sets, drop-cons}
 use lib.Dec.{lit<}
 use lib.Count.{trailingZeros}
 use lib.Pow.{pow-pos, shl-exact}
-use Rattle.mask.specs.Mask.{word-bits, ones-at, places, at-places, kept-by-words}
+use Rattle.mask.specs.Mask.{word-bits}
+use Rattle.mask.specs.between.Places.{ones-at, places, at-places, kept-by-words}
 use Rattle.mask.proofs.MaskWordLaws.{ones-at-none, Lowest, lowest-one}
 
 -- the words stored one after the other are those stored in one go

@@ -9,7 +9,7 @@ ghost use lib.ListN.{length, getD, take, drop};
 ghost use lib.Seq.{sets};
 ghost use lib.Count.{ones as ones-in};
 ghost use Rattle.mask.specs.Mask.{word-bits, mask-bits, digit as digit-of, binary, mask-words, ones-of, bit-up};
-ghost use Rattle.mask.specs.Mask.{with-bit, ones-at, at-places, kept-by-words};
+ghost use Rattle.mask.specs.between.Places.{with-bit, ones-at, at-places, kept-by-words};
 
 // Document 01's mask. Its words may hold any values.
 pub struct Mask {

@@ -15,7 +15,7 @@ use Rattle.refusal.specs.Refusal.{told-refusal, told}
 use Rattle.refusal.specs.Check.{answer}
 use Rattle.refusal.proofs.CheckLaws.{answer-fires, answer-passes, answer-nothing, answer-first, answer-second}
 use Rattle.reduction.specs.Reduction.{Reduction, count, meets}
-use Rattle.reduction.specs.Sound.{Flags-kept}
+use Rattle.reduction.specs.between.Sound.{Flags-kept}
 use Rattle.reduction.proofs.LandmarksKept.{landmarks-kept}
 use Rattle.tally.specs.declared.Tally.{Tally}
 use Rattle.tally.proofs.TallyLaws.{same-tally}
@@ -28,18 +28,19 @@ use Rattle.plan.specs.Valid.{steps}
 use Rattle.plan.specs.Readable.{Readable}
 use Rattle.plan.specs.Checked.{told-answer}
 use Rattle.plan.proofs.PlanLaws.{passed-readable}
-use Rattle.landmark.specs.Marks.{marks, marked, unmarked, Marks, Marks-lodged}
+use Rattle.landmark.specs.Marks.{marks, marked, unmarked}
+use Rattle.landmark.specs.between.Flagged.{Marks, Marks-lodged}
 use Rattle.landmark.proofs.MarkLaws.{marks-leave}
 use Rattle.landmark.proofs.MarkTheorem.{marks-length}
 use Rattle.service.specs.declared.finish.Kept.{Kept}
-use Rattle.service.specs.Held.{mask, Leaves}
-use Rattle.service.specs.Kept.{Keeps}
+use Rattle.service.specs.between.Held.{mask, Leaves}
+use Rattle.service.specs.between.Kept.{Keeps}
 use Rattle.service.specs.Reduced.{room-checks, reduction-checks}
 use Rattle.service.proofs.AnswerLaws.{answers-refused, answers-kept}
-use Rattle.search.specs.Told.{Tells, Finds}
+use Rattle.search.specs.between.Told.{Tells, Finds}
 use Rattle.minimal.specs.declared.within.Minimised.{Minimised}
 use Rattle.minimal.specs.Minimised.{unmarked-checks, minimal-checks, minimal-of, Minimises}
-use Rattle.minimal.specs.Written.{Writes, Refuses}
+use Rattle.minimal.specs.between.Written.{Writes, Refuses}
 
 count-few : (m : Reduction) → count m ≤ length m
 unfolding count

@@ -1,5 +1,5 @@
--- Minimised: what the minimal reduction answers as a service. Statement: demand 3 as one statement. Written: what is
--- written of a reduction, between the code and Minimised.
+-- Minimised: what the minimal reduction answers as a service. Statement: demand 3 as one statement.
 pub mod Minimised
 pub mod Statement
-pub mod Written
+-- between: what functions hand to each other, which need not be believed.
+pub mod between

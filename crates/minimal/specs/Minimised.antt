@@ -7,7 +7,7 @@ use lib.Dec.{ltb}
 use Rattle.refusal.specs.Place.{when}
 use Rattle.refusal.specs.Check.{Check, answer, unless-refused}
 use Rattle.reduction.specs.Reduction.{Reduction, meets}
-use Rattle.reduction.specs.Minimal.{minimal}
+use Rattle.reduction.specs.between.Found.{minimal}
 use Rattle.tally.specs.Tally.{nothing}
 use Rattle.sheet.specs.Decode.{goal, initial}
 use Rattle.plan.specs.Valid.{steps}

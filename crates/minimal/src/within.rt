@@ -10,7 +10,7 @@ use service::finish::Kept;
 use service::room::check_room;
 use tally::Tally;
 ghost use Rattle.minimal.specs.Minimised.{Minimises};
-ghost use Rattle.minimal.specs.Written.{Writes, Refuses};
+ghost use Rattle.minimal.specs.between.Written.{Writes, Refuses};
 
 // The tally of the list left or a refusal, the mask of the steps kept, and of the lodged list its tally and the number
 // of its marked steps: all zero on a refusal.

@@ -20,8 +20,9 @@ use Rattle.plan.specs.declared.walk.Walked.{Walked}
 use Rattle.plan.specs.Limits.{most-steps}
 use Rattle.plan.specs.Readable.{Readable}
 use Rattle.plan.specs.Valid.{steps, fault, final}
-use Rattle.plan.specs.Walk.{Walks}
-use Rattle.plan.specs.Checked.{read-checks, lodged-checks, no-state, Checks, Checks-lodged}
+use Rattle.plan.specs.between.Walk.{Walks}
+use Rattle.plan.specs.Checked.{read-checks, lodged-checks, no-state, Checks}
+use Rattle.plan.specs.between.Lodged.{Checks-lodged}
 use Rattle.plan.proofs.FaultLaws.{final-length}
 use Rattle.plan.proofs.PlanLaws.{read-readable, read-answers, besides-answers, fault-answers, faultless-passes, walked-tally}
 

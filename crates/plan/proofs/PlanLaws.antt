@@ -15,7 +15,7 @@ use Rattle.refusal.proofs.PlaceLaws.{first-of-none, when-nowhere, first-of-nowh
 use Rattle.refusal.proofs.CheckLaws.{none-fires, answer-fires, answer-passes, answer-nothing, answer-first, answer-second, first-none}
 use Rattle.sas.specs.Task.{Action}
 use Rattle.sas.specs.Plan.{cost}
-use Rattle.sas.specs.WellFormed.{Rising}
+use Rattle.sas.specs.between.WellFormed.{Rising}
 use Rattle.sas.proofs.WellFormedLaws.{Actions-formed}
 use Rattle.tally.specs.Tally.{nothing, after}
 use Rattle.tally.proofs.TallyLaws.{total, plain-tally}

@@ -12,10 +12,10 @@ use Rattle.sheet.specs.Layout.{cost-word}
 use Rattle.sheet.specs.Decode.{goal, action}
 use Rattle.tally.specs.declared.Tally.{Tally}
 use Rattle.tally.specs.Tally.{nothing, one-more, after}
-use Rattle.step.specs.Advance.{Advances}
+use Rattle.step.specs.between.Advance.{Advances}
 use Rattle.plan.specs.declared.walk.Walked.{Walked}
 use Rattle.plan.specs.Valid.{steps, fault, final}
-use Rattle.plan.specs.Walk.{Walks}
+use Rattle.plan.specs.between.Walk.{Walks}
 use Rattle.plan.proofs.FaultLaws.{fault-here, fault-more, fault-goal, final-more, final-over, after-more, after-over}
 
 -- where the walk stands before position i + 1, with the state and the tally that it has there

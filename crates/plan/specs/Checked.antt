@@ -7,9 +7,8 @@ use mathlib.Core.List.{List, [], _∷_, _++_}
 use lib.ListN.{length, getD, replicate}
 use lib.Dec.{ltb, leb}
 use Rattle.refusal.specs.declared.place.Place.{Place}
-use Rattle.refusal.specs.declared.Verdict.{Verdict}
 use Rattle.refusal.specs.Place.{when, first-of}
-use Rattle.refusal.specs.Refusal.{Told, told-refusal, told}
+use Rattle.refusal.specs.Refusal.{Told, told-refusal}
 use Rattle.refusal.specs.Check.{Check, answer, unless-refused}
 use Rattle.sas.specs.Task.{State}
 use Rattle.sas.specs.Plan.{cost}
@@ -80,8 +79,3 @@ pub record Checks (checks : List Check) (w l : List ℕ) (given : Answer) (state
   pub refusal : told-answer given ≡ answer checks
   pub tally : told-tally given ≡ unless-refused (answer checks) (lodged-tally w l) nothing
   pub end : state ≡ unless-refused (answer checks) (end-state w l) no-state
-
--- the same for whatever a service asks besides, of which it has the verdict
-pub record Checks-lodged (w l : List ℕ) (verdict : Verdict) (given : Answer) (state : List ℕ) : Type 0 where
-  pub checked : (besides : List Check) → told verdict ≡ answer besides
-      → Checks (lodged-checks besides w l) w l given state

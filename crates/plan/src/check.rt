@@ -12,7 +12,8 @@ use step::state::size;
 use tally::Tally;
 ghost use mathlib.Core.Path.{_≡_};
 ghost use Rattle.plan.specs.declared.check.Answer.the-variants.{Refused};
-ghost use Rattle.plan.specs.Checked.{plan-checks, no-state, Checks, Checks-lodged};
+ghost use Rattle.plan.specs.Checked.{plan-checks, no-state, Checks};
+ghost use Rattle.plan.specs.between.Lodged.{Checks-lodged};
 
 // What the check of a plan answers: the tally of a valid one, or the first cause of refusal.
 pub enum Answer {

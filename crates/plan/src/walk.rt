@@ -4,7 +4,7 @@ use sheet::layout::cost;
 use step::advance::advance;
 use step::advance::goal_holds;
 use tally::Tally;
-ghost use Rattle.plan.specs.Walk.{Walks};
+ghost use Rattle.plan.specs.between.Walk.{Walks};
 
 // Where a plan fails to be valid, and, where it does not, its tally.
 pub(crate) struct Walked {

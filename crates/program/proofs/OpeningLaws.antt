@@ -14,7 +14,8 @@ use Rattle.program.specs.declared.frame.Frame.the-variants.{Broken, Long
 use Rattle.program.specs.declared.opened.Opened.the-variants as opened
 use Rattle.program.specs.Form.{word-at, unpacked, plan-words, further-words, input-form, most-words}
 use Rattle.program.specs.Long.{long-refusal}
-use Rattle.program.specs.Opening.{Refused, Lodged, opening, opening-of}
+use Rattle.program.specs.Opening.{Refused, Lodged, opening}
+use Rattle.program.specs.between.Found.{opening-of}
 use Rattle.program.proofs.FormLaws.{inside-limits, Says, input-says}
 
 module _ (further : ℕ) (bytes : List ℕ) where

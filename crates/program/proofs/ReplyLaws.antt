@@ -12,7 +12,8 @@ use Rattle.program.specs.declared.frame.Frame.the-variants.{Broken, Long
 use Rattle.program.specs.declared.opened.Opened.{Opened}
 use Rattle.program.specs.declared.opened.Opened.the-variants as opened
 use Rattle.program.specs.Form.{input-form}
-use Rattle.program.specs.Opening.{Opening, Refused, Lodged, opening, opening-of}
+use Rattle.program.specs.Opening.{Opening, Refused, Lodged, opening}
+use Rattle.program.specs.between.Found.{opening-of}
 use Rattle.program.specs.Reply.{reply-further}
 use Rattle.program.proofs.FormLaws.{input-says}
 use Rattle.program.proofs.OpeningLaws.{opening-broken, opening-long, opening-whole}

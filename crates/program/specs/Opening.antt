@@ -1,8 +1,7 @@
 -- What a program finds of its input before it answers: its refusal, or the task, the plan and the further words that it
 -- answers. Assumes nothing.
-use Prim.Native.Nat.{ℕ, _+_}
+use Prim.Native.Nat.{ℕ}
 use mathlib.Core.List.{List}
-use lib.ListN.{take, drop}
 use Rattle.refusal.specs.declared.Refusal.the-variants.{Length}
 use Rattle.refusal.specs.Refusal.{Told, told-refusal}
 use Rattle.program.specs.declared.frame.Frame.the-variants.{Broken, Long, Whole}
@@ -24,9 +23,3 @@ opening further bytes =
       | Long n ↦ Refused (long-refusal (unpacked bytes n))
       | Whole n m end ↦ Lodged (unpacked bytes n) (plan-words bytes n m) (further-words bytes n m further)
     ]
-
--- that which the code answers, where the words of the input are at the front of ws
-abbrev pub opening-of : ℕ → Opened → List ℕ → Opening
-opening-of further (opened.Refused r) ws = Refused (told-refusal r)
-opening-of further (opened.Lodged n m) ws =
-    Lodged (take n ws) (take m (drop (n + 1) ws)) (take further (drop (n + 1 + m) ws))

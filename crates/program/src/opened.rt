@@ -9,7 +9,8 @@ ghost use mathlib.Core.Path.{_≡_};
 ghost use Prim.Native.Nat.{_+_, _≤_};
 ghost use lib.ListN.{length};
 ghost use Rattle.program.specs.Form.{unpacked, most-words};
-ghost use Rattle.program.specs.Opening.{opening, opening-of};
+ghost use Rattle.program.specs.Opening.{opening};
+ghost use Rattle.program.specs.between.Found.{opening-of};
 
 // Its refusal, or how many words the task and the plan have.
 pub enum Opened {

@@ -15,8 +15,8 @@ use Rattle.sas.specs.Task.{Assignment, State, Action, idle}
 use Rattle.sas.specs.Plan.{satisfies}
 use Rattle.reduction.specs.Reduction.{Reduction, keeps, kept, lower, Before, Valid-for, Contains}
 use Rattle.reduction.specs.Landmark.{step}
-use Rattle.reduction.specs.Search.{Visit, both, bound}
-use Rattle.reduction.specs.Sound.{Flags-kept, Visited, Follows, Hopeless, Cut, Lacks}
+use Rattle.reduction.specs.between.Search.{Visit, both, bound}
+use Rattle.reduction.specs.between.Sound.{Flags-kept, Visited, Follows, Hopeless, Cut, Lacks}
 use Rattle.reduction.proofs.ReductionLaws.{kept-length, strike-cost, strike-count, alike-before, alike-behind}
 use Rattle.reduction.proofs.LowerLaws.{Lower}
 use Rattle.reduction.proofs.WinsLaws.{not-lower, not-lower-through}

@@ -14,12 +14,12 @@ use Rattle.sas.proofs.ActionLaws.{idle-writes-nothing}
 use Rattle.reduction.specs.Reduction.{Reduction, keeps, Valid-reduction}
 use Rattle.reduction.specs.Landmark.{step, Sole-writer, Marked}
 use Rattle.reduction.specs.Landmark.Marked.{for-goal, for-step}
-use Rattle.reduction.specs.Wanted.{has, wanted}
+use Rattle.reduction.specs.between.Wanted.{has, wanted}
 use Rattle.reduction.proofs.MemberLaws.{or-neither, found, has-no-member, no-member-has}
 use Rattle.reduction.proofs.WantedLaws.{Unwritten, Wanted-by, wanted-why, why-wanted}
 use Rattle.reduction.proofs.WantedLaws.Wanted-by.{by-goal, by-step}
 use Rattle.reduction.proofs.LandmarksKept.{passed, flags-behind, flagged-fact, landmarks-kept}
-use Rattle.reduction.specs.Landmarks.{landmarks-behind, landmarks}
+use Rattle.reduction.specs.between.Landmarks.{landmarks-behind, landmarks}
 
 module _ {f : Fact} {n : ℕ} (a : Action) (p : List Action) where
   -- the first step writes f, and none behind it does

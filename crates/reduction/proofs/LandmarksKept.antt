@@ -12,12 +12,12 @@ use Rattle.sas.specs.Task.{Fact, Assignment, State, Action}
 use Rattle.sas.specs.Plan.{holds, result, written, may-write}
 use Rattle.sas.proofs.ActionLaws.{stays-false}
 use Rattle.reduction.specs.Reduction.{Reduction, keeps, kept, meets, valid, Contains}
-use Rattle.reduction.specs.Wanted.{has, wanted}
-use Rattle.reduction.specs.Sound.{Flags-kept}
+use Rattle.reduction.specs.between.Wanted.{has, wanted}
+use Rattle.reduction.specs.between.Sound.{Flags-kept}
 use Rattle.reduction.proofs.ValidLaws.{valid-first}
 use Rattle.reduction.proofs.MemberLaws.{or-neither, found-passes, has-no-member}
 use Rattle.reduction.proofs.WantedLaws.{wanted-holds}
-use Rattle.reduction.specs.Landmarks.{landmarks-behind, landmarks}
+use Rattle.reduction.specs.between.Landmarks.{landmarks-behind, landmarks}
 
 -- the facts held at the start or written by a step passed, when one step more is passed
 abbrev pub passed : (Fact → Bool) → Action → Fact → Bool

@@ -7,7 +7,7 @@ use mathlib.Core.List.{[], _∷_, List·Memᴰ, List·Memᴰ·head, List·Memᴰ
 use lib.Dec.{eqb}
 use borrow.Author.Tests.{eqb-true, eq-eqb}
 use Rattle.sas.specs.Task.{Fact, Assignment}
-use Rattle.reduction.specs.Wanted.{some-fact, same-fact, has}
+use Rattle.reduction.specs.between.Wanted.{some-fact, same-fact, has}
 
 pub or-cases : (a b : Bool) → (a || b) ≡ true → (a ≡ true) ⊎ (b ≡ true)
 or-cases true b h = inl refl

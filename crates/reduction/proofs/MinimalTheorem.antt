@@ -17,7 +17,8 @@ use Rattle.reduction.specs.Elimination.{better}
 use Rattle.reduction.proofs.ValidLaws.{runs-valid, valid-end, valid-first}
 use Rattle.reduction.proofs.ReductionLaws.{whole-valid, kept-length, compose, kept-compose, compose-valid, left-cost}
 use Rattle.reduction.proofs.LowerLaws.{lower-through}
-use Rattle.reduction.specs.Minimal.{First-difference, Wins, Minimal, found, minimal}
+use Rattle.reduction.specs.Minimal.{First-difference, Wins, Minimal}
+use Rattle.reduction.specs.between.Found.{found, minimal}
 use Rattle.reduction.proofs.WinsLaws.{not-lower-through, not-lower-wins, lower-wins, wins-not-lower, wins-behind, wins-once, full-whole}
 
 -- whatever makes reductions valid, if they are all as long as the list, one at most is minimal

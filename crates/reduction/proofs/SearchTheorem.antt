@@ -14,10 +14,11 @@ use Rattle.sas.specs.Plan.{applicable, apply}
 use Rattle.reduction.specs.Reduction.{Reduction, kept, whole, lower, valid-for, Valid-for}
 use Rattle.reduction.specs.Landmark.{step}
 use Rattle.reduction.specs.Elimination.{better}
-use Rattle.reduction.specs.Minimal.{Minimal, found, minimal}
-use Rattle.reduction.specs.Search.{Visit, Tests, struck, done, handed, turn, first-visit, search}
-use Rattle.reduction.specs.Search.Turn.{strike, keep}
-use Rattle.reduction.specs.Sound.{Visited, Hopeless, Sound}
+use Rattle.reduction.specs.Minimal.{Minimal}
+use Rattle.reduction.specs.between.Found.{found, minimal}
+use Rattle.reduction.specs.between.Search.{Visit, Tests, struck, done, handed, turn, first-visit, search}
+use Rattle.reduction.specs.between.Search.Turn.{strike, keep}
+use Rattle.reduction.specs.between.Sound.{Visited, Hopeless, Sound}
 use Rattle.reduction.proofs.ReductionLaws.{kept-whole, alike-behind}
 use Rattle.reduction.proofs.WinsLaws.{lowest-whole, wins-not-lower, wins-behind}
 use Rattle.reduction.proofs.BeforeLaws.{before-first, before-struck, before-kept, completed-valid}

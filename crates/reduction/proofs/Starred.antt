@@ -12,12 +12,13 @@ use Rattle.sas.specs.Task.{Fact, Assignment, State, Action}
 use Rattle.sas.specs.Plan.{holds, first-failing, satisfies, applicable, assign, apply, written, needed, result, run, Stuck, cost}
 use Rattle.reduction.specs.Reduction.{Reduction, keeps, kept, count, valid-for, valid, lower, Valid-reduction}
 use Rattle.reduction.specs.Landmark.{step, Marked}
-use Rattle.reduction.specs.Wanted.{some-fact, same-fact, has, wanted}
+use Rattle.reduction.specs.between.Wanted.{some-fact, same-fact, has, wanted}
 use Rattle.reduction.specs.Elimination.{walk, after, trial, eliminated, eliminate, better, best, rounds, greedy}
 use Rattle.reduction.proofs.LandmarkTheorem.{flagged-just-marked}
-use Rattle.reduction.specs.Minimal.{First-difference, Minimal-reduction, found, minimal}
+use Rattle.reduction.specs.Minimal.{First-difference, Minimal-reduction}
+use Rattle.reduction.specs.between.Found.{found, minimal}
 use Rattle.reduction.proofs.MinimalTheorem.{minimal-found}
-use Rattle.reduction.specs.Landmarks.{landmarks-behind, landmarks}
+use Rattle.reduction.specs.between.Landmarks.{landmarks-behind, landmarks}
 
 -- the positions of the kept steps, where the first stands at i
 positions : ℕ → Reduction → List ℕ

@@ -7,8 +7,8 @@ use lib.ListN.{getD}
 use Rattle.sas.specs.Task.{State, Action}
 use Rattle.sas.specs.Plan.{applicable}
 use Rattle.reduction.specs.Reduction.{Reduction, kept, lower}
-use Rattle.reduction.specs.Search.{Visit, Tests, struck, done, handed, turn, first-visit, search}
-use Rattle.reduction.specs.Search.Turn.{strike, keep}
+use Rattle.reduction.specs.between.Search.{Visit, Tests, struck, done, handed, turn, first-visit, search}
+use Rattle.reduction.specs.between.Search.Turn.{strike, keep}
 
 -- both turns at one step: the striking turn, then the keeping turn, handed the best that it found
 abbrev pub turns : Tests → List Action → List Action → Visit → Reduction

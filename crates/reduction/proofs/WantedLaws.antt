@@ -15,7 +15,7 @@ use Rattle.sas.proofs.FactLaws.{satisfied-holds}
 use Rattle.sas.proofs.ActionLaws.{idle-needs-nothing, result-applicable, needed-holds, written-or-held}
 use Rattle.reduction.specs.Reduction.{Reduction, keeps, kept, valid-for, Contains}
 use Rattle.reduction.specs.Landmark.{step}
-use Rattle.reduction.specs.Wanted.{has, wanted}
+use Rattle.reduction.specs.between.Wanted.{has, wanted}
 use Rattle.reduction.proofs.ValidLaws.{valid-end, valid-first}
 use Rattle.reduction.proofs.MemberLaws.{or-cases, has-member, member-has, has-no-member, no-member-has}
 

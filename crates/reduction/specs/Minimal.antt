@@ -4,14 +4,12 @@
 use Prim.Native.Nat.{ℕ, _≤_, _<_}
 use mathlib.Core.Path.{_≡_}
 use mathlib.Core.Logic.{_≢_}
-use mathlib.Core.Bool.{Bool, true, false}
-use mathlib.Core.Option.{Option, none, some, Option·map, Option·getD}
-use mathlib.Core.List.{List, [], _∷_}
+use mathlib.Core.Bool.{false}
+use mathlib.Core.List.{List}
 use lib.ListN.{getD}
 use Rattle.sas.specs.Task.{Assignment, State, Action}
-use Rattle.sas.specs.Plan.{applicable, apply, cost}
-use Rattle.reduction.specs.Reduction.{Reduction, keeps, kept, count, whole, Valid-reduction}
-use Rattle.reduction.specs.Elimination.{better}
+use Rattle.sas.specs.Plan.{cost}
+use Rattle.reduction.specs.Reduction.{Reduction, keeps, kept, count, Valid-reduction}
 
 -- the first index at which two reductions differ
 pub record First-difference (m n : Reduction) (i : ℕ) : Type 0 where
@@ -35,15 +33,3 @@ pub record Minimal (Valid : Reduction → Type 0) (p : List Action) (m : Reducti
 -- two differ, the one that strikes it"
 abbrev pub Minimal-reduction : State → Assignment → List Action → Reduction → Type 0
 Minimal-reduction s goal p m = Minimal (Valid-reduction s goal p) p m
-
--- the same, computed for any test at the end: of the two valid reductions that win when the first step is struck and
--- when it is kept, the lower, and the one that strikes it where they are equal. That it is the minimal reduction of
--- every list that is valid, and the only one, are `minimal-found` and `minimal-once` of proofs/MinimalTheorem.
-unfoldable pub found : (State → Bool) → State → List Action → Option Reduction
-found ends s [] = elim (ends s) [ true ↦ some [] | false ↦ none ]
-found ends s (a ∷ p) =
-    better (a ∷ p) (Option·map (λ m. false ∷ m) (found ends s p))
-    (elim (applicable s a) [ true ↦ Option·map (λ m. true ∷ m) (found ends (apply s a) p) | false ↦ none ])
-
-unfoldable pub minimal : (State → Bool) → State → List Action → Reduction
-minimal ends s p = Option·getD (found ends s p) (whole p)

@@ -10,7 +10,7 @@ use mathlib.Core.List.{List, List·Memᴰ·not-nil}
 use lib.ListN.{length, getD}
 use Rattle.sas.specs.Task.{Fact, State, Action, idle}
 use Rattle.sas.specs.Plan.{holds, satisfies, applicable, apply, result, written, needed, may-write, needs}
-use Rattle.sas.specs.WellFormed.{Known, Action-formed}
+use Rattle.sas.specs.between.WellFormed.{Known, Action-formed}
 use Rattle.sas.proofs.FactLaws.{satisfied-holds}
 use Rattle.sas.proofs.WellFormedLaws.{rising-known}
 use Rattle.sas.proofs.AssignLaws.{assign-length, assign-other, assigned-holds, assigned-or-held}

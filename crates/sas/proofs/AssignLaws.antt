@@ -12,8 +12,8 @@ use lib.Dec.{eqb}
 use borrow.Author.Tests.{eqb-true, eqb-false}
 use Rattle.sas.specs.Task.{Fact, Assignment, State}
 use Rattle.sas.specs.Plan.{holds, assign}
-use Rattle.sas.specs.WellFormed.{Rising}
-use Rattle.sas.specs.WellFormed.Rising.{fact}
+use Rattle.sas.specs.between.WellFormed.{Rising}
+use Rattle.sas.specs.between.WellFormed.Rising.{fact}
 use Rattle.sas.proofs.FactLaws.{holds-variable, holds-value, holds-there}
 use Rattle.sas.proofs.WellFormedLaws.{rising-above}
 

@@ -7,7 +7,7 @@ use mathlib.Core.Option.{Option, none, some, Option·some-ne-none}
 use mathlib.Core.List.{List, [], _∷_, _++_, List·Memᴰ, List·Memᴰ·head, List·Memᴰ·tail}
 use Rattle.sas.specs.Task.{State, Action, Task}
 use Rattle.sas.specs.Plan.{applicable, apply, result, run}
-use Rattle.sas.specs.WellFormed.{Within, Action-formed, Well-formed}
+use Rattle.sas.specs.between.WellFormed.{Within, Action-formed, Well-formed}
 use Rattle.sas.proofs.WellFormedLaws.{Actions-formed, assign-within}
 use Rattle.sas.proofs.ActionLaws.{result-applied, result-assigned}
 

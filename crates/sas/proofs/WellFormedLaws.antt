@@ -11,8 +11,8 @@ use lib.Dec.{eqb}
 use borrow.Author.Tests.{eqb-true, eqb-false}
 use Rattle.sas.specs.Task.{Fact, Assignment, State, Action}
 use Rattle.sas.specs.Plan.{assign}
-use Rattle.sas.specs.WellFormed.{Known, Rising, Within, Action-formed}
-use Rattle.sas.specs.WellFormed.Rising.{empty, fact}
+use Rattle.sas.specs.between.WellFormed.{Known, Rising, Within, Action-formed}
+use Rattle.sas.specs.between.WellFormed.Rising.{empty, fact}
 
 -- each action of a sequence is one over the domains
 abbrev pub Actions-formed : List ℕ → List Action → Type 0

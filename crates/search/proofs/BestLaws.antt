@@ -7,7 +7,7 @@ use mathlib.Core.Bool.{true}
 use mathlib.Core.List.{List, []}
 use lib.ListN.{length, length-replicate, length-map}
 use Rattle.reduction.specs.Reduction.{Reduction, whole, meets}
-use Rattle.reduction.specs.Sound.{Flags-kept, Sound}
+use Rattle.reduction.specs.between.Sound.{Flags-kept, Sound}
 use Rattle.reduction.proofs.TurnLaws.{search-turns}
 use Rattle.reduction.proofs.CutLaws.{bound-cut, wanted-cut}
 use Rattle.reduction.proofs.SearchTheorem.{search-finds}
@@ -17,12 +17,12 @@ use Rattle.step.proofs.StateLaws.{front-initial}
 use Rattle.plan.specs.Limits.{most-steps}
 use Rattle.plan.specs.Readable.{Readable}
 use Rattle.plan.specs.Valid.{steps}
-use Rattle.cuts.specs.Bits.{Told-wanted}
+use Rattle.cuts.specs.between.Bits.{Told-wanted}
 use Rattle.cuts.proofs.BitTheorem.{wanted-bars}
 use Rattle.service.specs.declared.finish.Kept.{Kept}
-use Rattle.service.specs.Held.{mask, held, Leaves}
+use Rattle.service.specs.between.Held.{mask, held, Leaves}
 use Rattle.service.proofs.HeldLaws.{leaves}
-use Rattle.search.specs.Told.{Tells, code-tests, Ready, Finds}
+use Rattle.search.specs.between.Told.{Tells, code-tests, Ready, Finds}
 use Rattle.search.proofs.TurnsLaws.{Both-told}
 
 -- the flags of the lodged plan

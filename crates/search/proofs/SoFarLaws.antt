@@ -17,17 +17,18 @@ use Rattle.tally.specs.declared.Order.{Order}
 use Rattle.tally.specs.declared.Order.the-variants.{Less, Equal, Greater}
 use Rattle.tally.specs.Tally.{one-more, comparison}
 use Rattle.tally.proofs.TallyLaws.{counted, same-tally}
-use Rattle.mask.specs.Mask.{mask-words, with-bit}
+use Rattle.mask.specs.Mask.{mask-words}
+use Rattle.mask.specs.between.Places.{with-bit}
 use Rattle.mask.proofs.BitLaws.{with-kept}
 use Rattle.sheet.specs.Layout.{cost-word}
 use Rattle.sheet.specs.Decode.{action}
 use Rattle.plan.specs.Valid.{steps}
 use Rattle.service.specs.declared.finish.Kept.{Kept}
 use Rattle.service.specs.Reduced.{tally-left}
-use Rattle.service.specs.Tallied.{is-less, tallied}
+use Rattle.service.specs.between.Tallied.{is-less, tallied}
 use Rattle.service.proofs.TalliedLaws.{plainly, left-bounded}
 use Rattle.service.proofs.LessLaws.{less-lower}
-use Rattle.search.specs.Told.{Tells, Keeps-step}
+use Rattle.search.specs.between.Told.{Tells, Keeps-step}
 use Rattle.plan.specs.Readable.{Readable}
 
 -- whether a tally is the lower, by its order

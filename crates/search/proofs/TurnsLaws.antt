@@ -13,21 +13,21 @@ use Rattle.sas.specs.Task.{State}
 use Rattle.sas.specs.Plan.{satisfies, applicable, apply}
 use Rattle.sas.proofs.ActionLaws.{apply-length}
 use Rattle.reduction.specs.Reduction.{Reduction, kept, lower}
-use Rattle.reduction.specs.Search.{Tests, bound}
-use Rattle.reduction.specs.Search.Turn.{strike, keep}
+use Rattle.reduction.specs.between.Search.{Tests, bound}
+use Rattle.reduction.specs.between.Search.Turn.{strike, keep}
 use Rattle.reduction.proofs.ReductionLaws.{alike-behind}
 use Rattle.reduction.proofs.TurnLaws.{turns, strike-met, strike-unmet, strike-not-lower, keep-end}
 use Rattle.reduction.proofs.TurnLaws.{strike-flagged, strike-barred, strike-goes-on, keep-stuck, keep-barred, keep-goes-on}
 use Rattle.tally.specs.Tally.{comparison}
 use Rattle.sheet.specs.Decode.{goal, action}
-use Rattle.step.specs.Advance.{Advances}
+use Rattle.step.specs.between.Advance.{Advances}
 use Rattle.step.specs.State.{state-size, front}
 use Rattle.plan.specs.Valid.{steps}
 use Rattle.plan.proofs.FaultLaws.{drop-next}
-use Rattle.cuts.specs.Bits.{strikes}
+use Rattle.cuts.specs.between.Bits.{strikes}
 use Rattle.service.specs.declared.finish.Kept.{Kept}
-use Rattle.service.specs.Tallied.{is-less}
-use Rattle.search.specs.Told.{Tells, Keeps-step, code-tests, visit, Ready, Turn-told}
+use Rattle.service.specs.between.Tallied.{is-less}
+use Rattle.search.specs.between.Told.{Tells, Keeps-step, code-tests, visit, Ready, Turn-told}
 use Rattle.search.proofs.SoFarLaws.{tells-lower}
 
 -- what two reductions have from index i on alike they have from the next on

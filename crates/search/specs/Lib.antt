@@ -1,2 +1,3 @@
--- Told: what the functions of the search hand to each other, in terms of the search of `reduction`.
-pub mod Told
+-- Nothing here is to be believed: what this crate promises is between the code and the definitions of other crates.
+-- between: what functions hand to each other, which need not be believed.
+pub mod between

@@ -13,7 +13,7 @@ ghost use mathlib.Core.Path.{_≡_};
 ghost use lib.ListN.{length};
 ghost use Rattle.reduction.specs.Reduction.{whole};
 ghost use Rattle.plan.specs.Readable.{Readable};
-ghost use Rattle.search.specs.Told.{Tells, Finds};
+ghost use Rattle.search.specs.between.Told.{Tells, Finds};
 
 // The tally and the mask of the reduction that flags are.
 fn kept_of(words: &[u32], plan: &[u32], flags: &[bool]) -> Kept

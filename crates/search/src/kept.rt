@@ -7,8 +7,8 @@ use tally::Order;
 use tally::Tally;
 ghost use mathlib.Core.Path.{_≡_};
 ghost use Rattle.tally.specs.Tally.{comparison};
-ghost use Rattle.service.specs.Tallied.{is-less};
-ghost use Rattle.search.specs.Told.{Keeps-step};
+ghost use Rattle.service.specs.between.Tallied.{is-less};
+ghost use Rattle.search.specs.between.Told.{Keeps-step};
 
 // Whether the first of two tallies is the lower.
 pub(crate) fn is_lower(tally: Tally, other: Tally) -> bool

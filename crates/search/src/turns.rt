@@ -14,9 +14,9 @@ use step::state::size;
 ghost use mathlib.Core.Path.{_≡_};
 ghost use mathlib.Core.Bool.{false};
 ghost use lib.ListN.{getD};
-ghost use Rattle.reduction.specs.Search.Turn.{strike as striking, keep as keeping};
+ghost use Rattle.reduction.specs.between.Search.Turn.{strike as striking, keep as keeping};
 ghost use Rattle.step.specs.State.{front as front-of};
-ghost use Rattle.search.specs.Told.{Turn-told};
+ghost use Rattle.search.specs.between.Told.{Turn-told};
 
 // A copy of a lent state's array. A call's result has its length in its type; what is read behind a reference has not.
 fn copied(values: &[u32; Sheet::VARIABLES]) -> [u32; Sheet::VARIABLES]

@@ -14,11 +14,12 @@ use Rattle.plan.specs.declared.check.Answer.{Answer}
 use Rattle.plan.specs.declared.check.Answer.the-variants.{Valid, Refused}
 use Rattle.plan.specs.Checked.{told-answer}
 use Rattle.reduction.specs.Reduction.{Reduction}
-use Rattle.mask.specs.Mask.{mask-length, mask-bits, mask-words, ones-of, kept-by-words}
+use Rattle.mask.specs.Mask.{mask-length, mask-bits, mask-words, ones-of}
+use Rattle.mask.specs.between.Places.{kept-by-words}
 use Rattle.mask.proofs.MaskTheorem.{ones-are-kept, mask-keeps}
-use Rattle.service.specs.Tallied.{tallied}
+use Rattle.service.specs.between.Tallied.{tallied}
 use Rattle.service.specs.Reduced.{Answers}
-use Rattle.service.specs.Kept.{Keeps}
+use Rattle.service.specs.between.Kept.{Keeps}
 use Rattle.service.proofs.TalliedLaws.{plainly}
 use Rattle.plan.specs.Readable.{Readable}
 

@@ -9,7 +9,7 @@ use lib.Seq.{set-at, take-at}
 use Rattle.sheet.specs.Decode.{action}
 use Rattle.plan.specs.Valid.{steps}
 use Rattle.reduction.specs.Reduction.{Reduction}
-use Rattle.service.specs.Held.{mask, held, Leaves}
+use Rattle.service.specs.between.Held.{mask, held, Leaves}
 
 -- of `most` flags the first i are up
 abbrev pub raised : ℕ → ℕ → List Bool

@@ -10,7 +10,7 @@ use borrow.Author.Tests.{ltb-true, ltb-false, eq-eqb, ne-eqb}
 use Rattle.tally.specs.declared.Order.the-variants.{Less, Equal, Greater}
 use Rattle.tally.specs.Tally.{comparison}
 use Rattle.reduction.specs.Reduction.{Reduction, kept}
-use Rattle.service.specs.Tallied.{is-less}
+use Rattle.service.specs.between.Tallied.{is-less}
 
 -- the lower tally is that of the lower price, then of the fewer steps
 pub less-lower : (a x b y : ℕ) → is-less (comparison (record { cost = a; steps = x }) (record { cost = b; steps = y })) ≡ (ltb a b || (eqb a b && ltb x y))

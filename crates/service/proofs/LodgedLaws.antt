@@ -14,7 +14,8 @@ use Rattle.refusal.proofs.PlaceLaws.{when-nowhere}
 use Rattle.refusal.proofs.CheckLaws.{none-fires}
 use Rattle.sheet.specs.Decode.{initial, goal, task}
 use Rattle.plan.specs.Valid.{steps}
-use Rattle.plan.specs.Checked.{lodged-checks, told-answer, Checks-lodged}
+use Rattle.plan.specs.Checked.{lodged-checks, told-answer}
+use Rattle.plan.specs.between.Lodged.{Checks-lodged}
 use Rattle.plan.specs.declared.check.Answer.{Answer}
 use Rattle.plan.specs.declared.check.Answer.the-variants.{Valid}
 use Rattle.tally.specs.declared.Tally.{Tally}

@@ -17,7 +17,7 @@ use Rattle.plan.specs.Valid.{steps}
 use Rattle.plan.proofs.PlanLaws.{walked-tally}
 use Rattle.reduction.specs.Reduction.{Reduction, kept}
 use Rattle.reduction.proofs.ReductionLaws.{kept-none, kept-lodged, left-length}
-use Rattle.service.specs.Tallied.{tallied}
+use Rattle.service.specs.between.Tallied.{tallied}
 use Rattle.plan.specs.Readable.{Readable}
 
 kept-here : (m : Reduction) (l : List ℕ) (i : ℕ) → i < length l → getD m i false ≡ true → kept (drop i m) (drop i l) ≡ getD l i 0 ∷ kept (drop (suc i) m) (drop (suc i) l)

@@ -6,7 +6,7 @@ use mask::write_kept;
 use tally::Tally;
 ghost use mathlib.Core.Path.{_≡_};
 ghost use lib.ListN.{length};
-ghost use Rattle.service.specs.Kept.{Keeps};
+ghost use Rattle.service.specs.between.Kept.{Keeps};
 ghost use Rattle.plan.specs.Readable.{Readable};
 
 // The tally and the mask of a reduction.

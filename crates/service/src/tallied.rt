@@ -3,7 +3,7 @@ use access::flag;
 use sheet::layout::cost;
 use tally::Tally;
 ghost use mathlib.Core.Path.{_≡_};
-ghost use Rattle.service.specs.Tallied.{tallied};
+ghost use Rattle.service.specs.between.Tallied.{tallied};
 
 // The tally of the kept steps of a plan.
 pub fn tally_of(words: &[u32], plan: &[u32], flags: &[bool]) -> Tally

@@ -13,8 +13,8 @@ use Rattle.refusal.specs.declared.place.Place.the-variants.{Nowhere}
 use Rattle.refusal.specs.Place.{first-of}
 use Rattle.sas.specs.Task.{Fact, State, Action}
 use Rattle.sas.specs.Plan.{run}
-use Rattle.sas.specs.WellFormed.{Known, Rising, Within, Action-formed, Well-formed}
-use Rattle.sas.specs.WellFormed.Rising.{empty, fact}
+use Rattle.sas.specs.between.WellFormed.{Known, Rising, Within, Action-formed, Well-formed}
+use Rattle.sas.specs.between.WellFormed.Rising.{empty, fact}
 use Rattle.sas.proofs.RunLaws.{run-within}
 use Rattle.sheet.specs.Limits.{limits}
 use Rattle.sheet.specs.Layout.{word, variables, actions, domain, start, goal-start, goal-end, cost-word, precondition-start, effect-start, effect-end}

@@ -7,7 +7,7 @@ use mathlib.Core.List.{List, _∷_, _++_, map}
 use lib.ListN.{length, getD, length-append, length-map, List·getD-map}
 use Rattle.sheet.specs.Layout.{word, variables, actions, pairs, pairs-end, offset, size, part-end, goal-start, goal-end, precondition-count, precondition-start, effect-start, effect-end}
 use Rattle.sheet.specs.Decode.{table, fact-of, facts, domains, initial, goal, action, task}
-use Rattle.sheet.specs.Encode.{fact-word, fact-words, action-part, parts}
+use Rattle.sheet.specs.between.Encode.{fact-word, fact-words, action-part, parts}
 use Rattle.sheet.specs.Causes.{Accepted}
 use Rattle.sheet.proofs.TableLaws.{table-length, table-at, facts-length}
 use Rattle.sheet.proofs.Parts.{first-part, next-part, last-part, domains-size, initial-size, effect-inside}

@@ -7,7 +7,7 @@ use Rattle.refusal.specs.declared.place.Place.the-variants.{Nowhere, At}
 use Rattle.refusal.specs.Place.{first-of}
 use Rattle.sheet.specs.declared.group.Group.{Group}
 use Rattle.sheet.specs.Layout.{actions}
-use Rattle.sheet.specs.Group.{goal-group, needed-group, written-group}
+use Rattle.sheet.specs.between.Group.{goal-group, needed-group, written-group}
 use Rattle.sheet.specs.Causes.{group-place, action-place, fact-place}
 
 -- the place p is that of the first bad fact of a group

@@ -7,7 +7,7 @@ use Rattle.refusal.specs.Place.{first-of-next, first-of, first}
 use Rattle.refusal.specs.Check.{answer}
 use Rattle.sas.specs.Task.{Fact, Task}
 use Rattle.sheet.specs.Decode.{table, facts, domains, initial, goal, action, task}
-use Rattle.sheet.specs.Encode.{action-part, parts, pairs-of, body, sheet-of, encode, Encodable}
+use Rattle.sheet.specs.between.Encode.{action-part, parts, pairs-of, body, sheet-of, encode, Encodable}
 use Rattle.sheet.specs.Causes.{bad-length, bad-edition, bad-counts, due, wrong-size, bad-pair, pair-place, bad-variable, variable-place, bad-fact, group-place, action-place, fact-place, cost-place, sheet-checks, Accepted}
 use Rattle.sheet.proofs.EncodeTheorem.{accepted-encodable}
 

@@ -8,12 +8,12 @@ use mathlib.Core.List.{List, [], _∷_, _++_, map, List·Memᴰ, List·Memᴰ·h
 use lib.ListN.{length, getD, length-append, length-map}
 use lib.Seq.{ext-getD}
 use Rattle.sas.specs.Task.{Fact, Assignment, Action, Task}
-use Rattle.sas.specs.WellFormed.{Rising, Action-formed, Well-formed}
-use Rattle.sas.specs.WellFormed.Rising.{empty, fact}
+use Rattle.sas.specs.between.WellFormed.{Rising, Action-formed, Well-formed}
+use Rattle.sas.specs.between.WellFormed.Rising.{empty, fact}
 use Rattle.sheet.specs.Limits.{limits}
 use Rattle.sheet.specs.Layout.{word, variables, actions, offset, goal-start, goal-end, cost-word, precondition-count, precondition-start, effect-start, effect-end}
 use Rattle.sheet.specs.Decode.{table, fact-of, facts, domains, initial, goal, action, task}
-use Rattle.sheet.specs.Encode.{fact-word, fact-words, action-part, parts, Encodable}
+use Rattle.sheet.specs.between.Encode.{fact-word, fact-words, action-part, parts, Encodable}
 use Rattle.sheet.proofs.TableLaws.{table-length, table-at, facts-over, facts-next}
 use Rattle.sheet.proofs.LaidLaws.{Stands, stands-first, stands-second, Part, Laid}
 use Rattle.sheet.proofs.LaidLaws.Laid.{then}

@@ -8,10 +8,10 @@ use lib.ListN.{length, length-append, length-map}
 use borrow.Author.Tests.{eqb-true, not-false}
 use Rattle.refusal.specs.declared.place.Place.the-variants.{Nowhere}
 use Rattle.sas.specs.Task.{Action, Task}
-use Rattle.sas.specs.WellFormed.{Well-formed}
+use Rattle.sas.specs.between.WellFormed.{Well-formed}
 use Rattle.sheet.specs.Layout.{edition, actions, pairs-end}
 use Rattle.sheet.specs.Decode.{table, domains, action, task}
-use Rattle.sheet.specs.Encode.{fact-word, fact-words, action-part, parts, first-offset, sheet-of, encode, Encodable}
+use Rattle.sheet.specs.between.Encode.{fact-word, fact-words, action-part, parts, first-offset, sheet-of, encode, Encodable}
 use Rattle.sheet.specs.Causes.{bad-edition, pair-place, Accepted}
 use Rattle.sheet.proofs.TableLaws.{table-length}
 use Rattle.sheet.proofs.CauseLaws.{accepted-clear}

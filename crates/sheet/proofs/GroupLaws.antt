@@ -8,7 +8,7 @@ use Rattle.sas.specs.Task.{State}
 use Rattle.sas.specs.Plan.{assign, apply, written, needed}
 use Rattle.sheet.specs.declared.group.Group.{Group}
 use Rattle.sheet.specs.Decode.{fact-of, goal, action}
-use Rattle.sheet.specs.Group.{goal-group, needed-group, written-group, facts-in, first-fact, rest-of}
+use Rattle.sheet.specs.between.Group.{goal-group, needed-group, written-group, facts-in, first-fact, rest-of}
 use Rattle.sheet.proofs.TableLaws.{facts-over, facts-next}
 
 module _ (w : List ℕ) (g : Group) where

@@ -7,7 +7,7 @@ use mathlib.Core.List.{List, [], _∷_, _++_, flatten}
 use lib.ListN.{length, getD, length-append, List·getD-append}
 use lib.Seq.{getD-append-add, ext-getD}
 use Rattle.sheet.specs.Layout.{word, edition, variables, actions, stated-length, offset, size}
-use Rattle.sheet.specs.Encode.{pairs-of, first-offset, body, sheet-of}
+use Rattle.sheet.specs.between.Encode.{pairs-of, first-offset, body, sheet-of}
 
 -- the words l stand from word i on: word j = i + n is l's word n
 pub record Stands (w : List ℕ) (i : ℕ) (l : List ℕ) : Type 0 where

@@ -13,12 +13,12 @@ use Rattle.refusal.specs.Place.{when, first}
 use Rattle.refusal.proofs.PlaceLaws.{first-of-none, no-first, first-over, first-more}
 use Rattle.refusal.proofs.CheckLaws.{answer-passes, answer-nothing}
 use Rattle.sas.specs.Task.{Fact, Assignment}
-use Rattle.sas.specs.WellFormed.{Known, Rising, Action-formed}
-use Rattle.sas.specs.WellFormed.Rising.{empty, fact}
+use Rattle.sas.specs.between.WellFormed.{Known, Rising, Action-formed}
+use Rattle.sas.specs.between.WellFormed.Rising.{empty, fact}
 use Rattle.sheet.specs.Limits.{limits}
 use Rattle.sheet.specs.Layout.{word, edition, variables, actions, stated-length, pairs, pairs-end, offset, size, part-end, domain, start}
 use Rattle.sheet.specs.Decode.{fact-of, facts, domains, initial, goal, action, task}
-use Rattle.sheet.specs.Encode.{Encodable}
+use Rattle.sheet.specs.between.Encode.{Encodable}
 use Rattle.sheet.specs.Causes.{bad-length, bad-edition, bad-counts, due, wrong-size, bad-pair, pair-place, bad-variable, variable-place, bad-fact, group-place, action-place, fact-place, cost-place, sheet-checks, Accepted}
 use Rattle.sheet.proofs.TableLaws.{table-at, facts-length, facts-next}
 use Rattle.sheet.proofs.PairLaws.{due-first, due-later, pairs-fit}

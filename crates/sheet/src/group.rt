@@ -9,7 +9,7 @@ use crate::layout::size;
 use access::word;
 ghost use mathlib.Core.Path.{_≡_};
 ghost use Prim.Native.Nat.{_<_, _^_};
-ghost use Rattle.sheet.specs.Group.{goal-group, needed-group, written-group, first-fact, rest-of};
+ghost use Rattle.sheet.specs.between.Group.{goal-group, needed-group, written-group, first-fact, rest-of};
 
 // A group of facts, or what is left of one: from word `at` up to, not including, word `end`.
 pub struct Group {

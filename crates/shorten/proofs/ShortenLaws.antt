@@ -10,7 +10,7 @@ use Rattle.refusal.specs.Check.{answer}
 use Rattle.plan.specs.Limits.{most-steps}
 use Rattle.minimal.specs.declared.within.Minimised.{Minimised}
 use Rattle.minimal.specs.Minimised.{most-unmarked, minimal-checks, Minimises}
-use Rattle.minimal.specs.Written.{Refuses}
+use Rattle.minimal.specs.between.Written.{Refuses}
 use Rattle.shorten.specs.Shorten.{outcome-of, refused, shortened}
 
 pub refusal-told : (refusal : Refusal) (r : Minimised) → Refuses refusal r → outcome-of r ≡ refused (told-refusal refusal)

@@ -12,13 +12,13 @@ use Rattle.sas.proofs.FactLaws.{none-failing, one-failing}
 use Rattle.sas.proofs.ActionLaws.{apply-length, applicable-needed}
 use Rattle.sheet.specs.declared.group.Group.{Group}
 use Rattle.sheet.specs.Decode.{fact-of, goal, action}
-use Rattle.sheet.specs.Group.{goal-group, needed-group, written-group, facts-in}
+use Rattle.sheet.specs.between.Group.{goal-group, needed-group, written-group, facts-in}
 use Rattle.sheet.proofs.GroupLaws.{goal-facts, needed-facts, group-applied}
 use Rattle.step.specs.declared.facts.Failing.{Failing}
 use Rattle.step.specs.declared.facts.Failing.the-variants.{Nothing, Fact}
 use Rattle.step.specs.State.{state-size, front}
-use Rattle.step.specs.Failing.{failing}
-use Rattle.step.specs.Advance.{Advances}
+use Rattle.step.specs.between.Failing.{failing}
+use Rattle.step.specs.between.Advance.{Advances}
 use Rattle.step.proofs.StateLaws.{front-laid}
 
 module _ (w s : List ℕ) (a : ℕ) (g : Group) (f : Failing) (group : g ≡ needed-group w a) (found : failing f ≡ first-failing s (facts-in w g)) where

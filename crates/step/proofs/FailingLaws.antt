@@ -10,7 +10,7 @@ use Rattle.sas.specs.Plan.{holds, first-failing, assign}
 use Rattle.sas.proofs.FactLaws.{first-failing-nothing, first-failing-more, first-failing-here}
 use Rattle.sheet.specs.declared.group.Group.{Group}
 use Rattle.sheet.specs.Decode.{fact-of}
-use Rattle.sheet.specs.Group.{facts-in, first-fact, rest-of}
+use Rattle.sheet.specs.between.Group.{facts-in, first-fact, rest-of}
 use Rattle.sheet.proofs.GroupLaws.{group-over, group-next}
 
 module _ (w : List ℕ) (s : State) (g : Group) where

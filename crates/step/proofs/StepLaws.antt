@@ -18,8 +18,9 @@ use Rattle.sas.specs.Plan.{applicable}
 use Rattle.sheet.specs.Layout.{actions}
 use Rattle.sheet.specs.Decode.{action}
 use Rattle.sheet.specs.Causes.{sheet-checks}
-use Rattle.step.specs.Advance.{Advances}
-use Rattle.step.specs.Step.{own-checks, step-checks, state-after, Steps, Tries}
+use Rattle.step.specs.between.Advance.{Advances}
+use Rattle.step.specs.Step.{own-checks, step-checks, state-after, Steps}
+use Rattle.step.specs.between.Tries.{Tries}
 
 -- check 9 fires
 own-unknown : (w s : List ℕ) (a : ℕ) → actions w ≤ a → answer (own-checks w s a) ≡ some (record { number = 9; place = 1 })

@@ -15,7 +15,7 @@ use Rattle.refusal.proofs.PlaceLaws.{when-nowhere}
 use Rattle.refusal.proofs.CheckLaws.{none-fires, answer-second, first-none}
 use Rattle.sas.specs.Task.{Fact}
 use Rattle.sas.specs.Plan.{apply, may-write}
-use Rattle.sas.specs.WellFormed.{Action-formed}
+use Rattle.sas.specs.between.WellFormed.{Action-formed}
 use Rattle.sas.proofs.FactLaws.{holds-value}
 use Rattle.sas.proofs.ActionLaws.{apply-length, apply-other, apply-holds, written-known}
 use Rattle.sheet.specs.Layout.{variables, actions}

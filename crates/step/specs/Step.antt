@@ -33,8 +33,3 @@ state-after w s a = elim (answer (step-checks w s a)) [ none ↦ apply s (action
 pub record Steps (w before : List ℕ) (a : ℕ) (verdict : Verdict) (after : List ℕ) : Type 0 where
   pub verdict-told : told verdict ≡ answer (step-checks w before a)
   pub state : after ≡ state-after w before a
-
--- the same where the sheet is known to be accepted, so that only the step's own checks are left
-pub record Tries (w before : List ℕ) (a : ℕ) (verdict : Verdict) (after : List ℕ) : Type 0 where
-  pub verdict-told : told verdict ≡ answer (own-checks w before a)
-  pub state : after ≡ elim (answer (own-checks w before a)) [ none ↦ apply before (action w a) | some t ↦ before ]

@@ -9,7 +9,7 @@ ghost use mathlib.Core.Path.{_≡_};
 ghost use Rattle.sas.specs.Plan.{satisfies};
 ghost use Rattle.sheet.specs.Decode.{goal as goal-of};
 ghost use Rattle.step.specs.State.{front};
-ghost use Rattle.step.specs.Advance.{Advances};
+ghost use Rattle.step.specs.between.Advance.{Advances};
 
 // Does an action where it is applicable, and leaves the state where it is not; says which.
 pub fn advance(words: &[u32], state: &mut [u32], action: u32) -> bool

@@ -6,8 +6,8 @@ use sheet::limits::Sheet;
 ghost use mathlib.Core.Path.{_≡_};
 ghost use Rattle.sas.specs.Plan.{holds as holds-in, first-failing, assign};
 ghost use Rattle.sheet.specs.Decode.{fact-of};
-ghost use Rattle.sheet.specs.Group.{facts-in};
-ghost use Rattle.step.specs.Failing.{failing};
+ghost use Rattle.sheet.specs.between.Group.{facts-in};
+ghost use Rattle.step.specs.between.Failing.{failing};
 
 // Whether the fact that a word is holds in the state.
 pub fn holds(state: &[u32], fact: u32) -> bool

@@ -5,7 +5,8 @@ use refusal::Refusal;
 use refusal::Verdict;
 use sheet::check::check_sheet;
 use sheet::layout::actions;
-ghost use Rattle.step.specs.Step.{Tries, Steps};
+ghost use Rattle.step.specs.Step.{Steps};
+ghost use Rattle.step.specs.between.Tries.{Tries};
 
 // A step's answer, and the state after it.
 pub struct Stepped {

@@ -11,8 +11,8 @@ use Rattle.text.specs.declared.input.Turn.the-variants as turn
 use Rattle.text.specs.declared.reader.Reader.{Reader}
 use Rattle.text.specs.declared.reader.Ending.{Ending}
 use Rattle.text.specs.Text.{reading, reading-of}
-use Rattle.text.specs.Reading.{still, Reads, Starts}
-use Rattle.text.specs.Input.{chunk, Read-on, Turn-finds, Of-text}
+use Rattle.text.specs.between.Reading.{still, Reads, Starts}
+use Rattle.text.specs.between.Input.{chunk, Read-on, Turn-finds, Of-text}
 use Rattle.text.proofs.ReaderLaws.{reads-both, reads-whole}
 
 module _ (s r : Reader) (ws₀ ws ws′ : List ℕ) (t : Turn) (turns : Turn-finds r ws t ws′) (read : (text : List ℕ) × Reads s ws₀ text r ws) where

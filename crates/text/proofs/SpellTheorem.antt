@@ -12,7 +12,7 @@ use lib.Dec.{leb, lit<}
 use borrow.Author.Tests.{lt-ltb, le-leb, leb-true, ne-eqb}
 use Rattle.io.specs.Digits.{glyph, digits}
 use Rattle.text.specs.Text.{line-end, comment-sign, space, ascii-zero, ascii-nine, ascii-digit, all-digits, decimal-from, word-from, word-of, split, fields, not-empty, fields-from, Words, in-front, read, reading}
-use Rattle.text.specs.Reading.{ends-field, after-blank, after-comment, field-left, after-field, read-field, all-in-front}
+use Rattle.text.specs.between.Reading.{ends-field, after-blank, after-comment, field-left, after-field, read-field, all-in-front}
 use Rattle.text.specs.Pack.{Word-sized}
 use Rattle.text.specs.Pack as pack
 use Rattle.text.specs.Spell.{Numeral, Spells, nothing, word, Unbroken, Lays}

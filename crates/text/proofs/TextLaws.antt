@@ -5,7 +5,7 @@ use mathlib.Core.Bool.{Bool, true, false, _||_}
 use mathlib.Core.List.{List, [], _∷_, _++_}
 use Rattle.sheet.proofs.CauseLaws.{neither}
 use Rattle.text.specs.Text.{ends-line, begins-comment, blank, Split, runs, split, not-empty, uncommented, fields, on-line, fields-from}
-use Rattle.text.specs.Reading.{ends-field, line-left, lines-left, after-blank, after-comment, field-left, after-field}
+use Rattle.text.specs.between.Reading.{ends-field, line-left, lines-left, after-blank, after-comment, field-left, after-field}
 
 pub split-at : (test : ℕ → Bool) (b : ℕ) (bs : List ℕ) → test b ≡ true → split test (b ∷ bs) ≡ record { first = []; others = runs (split test bs) }
 unfolding split

@@ -7,7 +7,7 @@ use crate::reader::start;
 use libc::STDIN_FILENO;
 use program::framing::WORDS;
 ghost use Prim.Native.Nat.{_+_, _<_, _^_};
-ghost use Rattle.text.specs.Input.{chunk, Turn-finds, Input-finds};
+ghost use Rattle.text.specs.between.Input.{chunk, Turn-finds, Input-finds};
 
 // The most words of a text: one more than input that is whole has, so that a program which reads them still sees that
 // they run on.

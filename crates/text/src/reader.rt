@@ -6,7 +6,7 @@ ghost use mathlib.Core.List.{List, [], _∷_};
 ghost use Prim.Native.Nat.{ℕ, _+_, _<_, _^_};
 ghost use lib.ListN.{length};
 ghost use Rattle.text.specs.Text.{blank as is-blank, reading, reading-of};
-ghost use Rattle.text.specs.Reading.{ends-field, still, at-blank, at-comment, at-word, Reads, Starts, Stores};
+ghost use Rattle.text.specs.between.Reading.{ends-field, still, at-blank, at-comment, at-word, Reads, Starts, Stores};
 
 // What counts in a text.
 pub(crate) const LINE_END: u8 = b'\n';

@@ -1,5 +1,5 @@
 -- `is_wanted` meets its contract: the entry as read. Assumes nothing.
-use Rattle.fact_table.specs.Tables.{has-wanted}
+use Rattle.fact_table.specs.between.Tables.{has-wanted}
 use borrow.Author.Needs.{needs}
 use Rattle.fact_table.proofs.is_wanted.Statement.{statement}
 use Rattle.fact_table.proofs.is_wanted.Tie as tie

@@ -1,5 +1,5 @@
 -- `pass_back` meets its contract: one stamp, or both. Assumes nothing.
-use Rattle.fact_table.specs.Tables.{passed-back}
+use Rattle.fact_table.specs.between.Tables.{passed-back}
 use borrow.Author.Needs.{needs}
 use Rattle.fact_table.proofs.pass_back.Statement.{statement}
 use Rattle.fact_table.proofs.pass_back.Tie as tie

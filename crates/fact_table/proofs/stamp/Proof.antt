@@ -1,8 +1,8 @@
 -- `stamp` meets its contract. The loop's invariant: stamping what is left makes of the table what stamping all makes, and no length changes. The measure is the number of words left. Assumes nothing.
 use Rattle.fact_table.proofs.StampLaws.{stamped-over, stamped-next}
-use Rattle.fact_table.specs.Tables.{stamped}
+use Rattle.fact_table.specs.between.Tables.{stamped}
 use Rattle.sheet.proofs.GroupLaws.{rest-shorter}
-use Rattle.sheet.specs.Group.{facts-in}
+use Rattle.sheet.specs.between.Group.{facts-in}
 use lib.ListN.{length}
 use Prim.Native.Nat.{_-_}
 use mathlib.Core.Path.{_≡_, refl, sym, _∙_}

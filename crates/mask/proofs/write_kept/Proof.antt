@@ -7,7 +7,8 @@ use mathlib.Core.List.{[]}
 use lib.ListN.{length, getD}
 use lib.Seq.{sets}
 use borrow.Author.Needs.{needs}
-use Rattle.mask.specs.Mask.{mask-length, word-bits, at-places, kept-by-words}
+use Rattle.mask.specs.Mask.{mask-length, word-bits}
+use Rattle.mask.specs.between.Places.{at-places, kept-by-words}
 use Rattle.mask.proofs.LengthLaws.{words-length}
 use Rattle.mask.proofs.MaskWordLaws.{ones-at-few}
 use Rattle.mask.proofs.WriteLaws.{places-left, left-whole, left-length, left-none, word-passed, word-stored}

@@ -9,7 +9,8 @@ use borrow.Author.Needs.{needs}
 use lib.Count.{trailing-le}
 use Rattle.mask.proofs.MaskWordLaws.{ones-at-few}
 use Rattle.mask.proofs.WriteLaws.{Turn, turn, all-stored, all-passed}
-use Rattle.mask.specs.Mask.{word-bits, ones-at, at-places}
+use Rattle.mask.specs.Mask.{word-bits}
+use Rattle.mask.specs.between.Places.{ones-at, at-places}
 use Rattle.mask.proofs.write_word.Statement.{statement}
 use Rattle.mask.proofs.write_word.Tie as tie
 

@@ -2,8 +2,8 @@
 use borrow.Author.Needs.{needs}
 use mathlib.Core.Path.{_≡_, refl, sym, _∙_}
 use Prim.Native.Nat.{_-_}
-use Rattle.sheet.specs.Group.{facts-in}
-use Rattle.cuts.specs.Bits.{bits-hold}
+use Rattle.sheet.specs.between.Group.{facts-in}
+use Rattle.cuts.specs.between.Bits.{bits-hold}
 use Rattle.sheet.proofs.GroupLaws.{rest-shorter}
 use Rattle.cuts.proofs.HoldLaws.{none-left, all-tested, wanted-fails, wanted-passed}
 use Rattle.cuts.proofs.hold.wanted_hold.Statement.{statement}

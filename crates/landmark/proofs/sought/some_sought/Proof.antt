@@ -1,9 +1,9 @@
 -- `some_sought` meets its contract. The loop's invariant: what is left of the group has such a fact just where the group has. The measure is the number of words left. Assumes nothing.
 use Rattle.landmark.proofs.SoughtLaws.{none-left-passes, here-passes, later-passes}
-use Rattle.landmark.specs.Walks.{sought}
+use Rattle.landmark.specs.between.Walks.{sought}
 use Rattle.sheet.proofs.GroupLaws.{rest-shorter}
-use Rattle.sheet.specs.Group.{facts-in}
-use Rattle.reduction.specs.Wanted.{some-fact}
+use Rattle.sheet.specs.between.Group.{facts-in}
+use Rattle.reduction.specs.between.Wanted.{some-fact}
 use Prim.Native.Nat.{_-_}
 use mathlib.Core.Path.{_≡_, refl, sym, _∙_}
 use borrow.Author.Needs.{needs}

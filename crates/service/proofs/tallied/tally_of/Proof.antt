@@ -3,7 +3,7 @@ use borrow.Author.Needs.{needs}
 use mathlib.Core.Path.{_≡_, sym, _∙_}
 use Prim.Native.Nat.{_-_}
 use lib.ListN.{length}
-use Rattle.service.specs.Tallied.{tallied}
+use Rattle.service.specs.between.Tallied.{tallied}
 use Rattle.service.proofs.TalliedLaws.{tallied-from, tallied-start, tallied-kept, tallied-skip, tallied-over}
 use Rattle.service.proofs.tallied.tally_of.Statement.{statement}
 use Rattle.service.proofs.tallied.tally_of.Tie as tie

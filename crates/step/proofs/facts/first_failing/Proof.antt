@@ -1,7 +1,7 @@
 -- `first_failing` meets its contract. The loop's invariant: the first failing fact of what is left is that of the group. The measure is the number of words left. Assumes nothing.
 use Rattle.sheet.proofs.GroupLaws.{rest-shorter}
 use Rattle.step.proofs.FailingLaws.{failing-over, failing-here, failing-more}
-use Rattle.sheet.specs.Group.{facts-in}
+use Rattle.sheet.specs.between.Group.{facts-in}
 use Rattle.sas.specs.Plan.{first-failing}
 use Prim.Native.Nat.{_-_}
 use mathlib.Core.Path.{_≡_, refl, sym, _∙_}

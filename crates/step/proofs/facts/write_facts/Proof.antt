@@ -1,7 +1,7 @@
 -- `write_facts` meets its contract. The loop's invariant: writing what is left makes of the state what writing all makes, and no length changes. The measure is the number of words left. Assumes nothing.
 use Rattle.sheet.proofs.GroupLaws.{rest-shorter}
 use Rattle.step.proofs.FailingLaws.{assign-over, assign-next}
-use Rattle.sheet.specs.Group.{facts-in}
+use Rattle.sheet.specs.between.Group.{facts-in}
 use Rattle.sas.specs.Plan.{assign}
 use lib.ListN.{length}
 use Prim.Native.Nat.{_-_}

@@ -6,8 +6,8 @@ use mathlib.Core.Path.{_≡_, refl}
 use mathlib.Core.List.{List, []}
 use borrow.Author.Needs.{needs}
 use lib.ListN.{length}
-use Rattle.text.specs.Reading.{Reads}
-use Rattle.text.specs.Input.{chunk}
+use Rattle.text.specs.between.Reading.{Reads}
+use Rattle.text.specs.between.Input.{chunk}
 use Rattle.text.proofs.ReaderLaws.{reads-nothing}
 use Rattle.text.proofs.InputLaws.{read-further, lines-passed, read-to-end}
 use Rattle.text.proofs.input.read_text.Statement.{statement}

@@ -5,7 +5,7 @@ use mathlib.Core.Path.{_≡_, refl}
 use borrow.Author.Needs.{needs}
 use lib.ListN.{length, take, length-take}
 use lib.Seq.{take-all}
-use Rattle.text.specs.Reading.{Reads}
+use Rattle.text.specs.between.Reading.{Reads}
 use Rattle.text.proofs.ReaderLaws.{reads-nothing, reads-one-more}
 use Rattle.text.proofs.reader.feed_all.Statement.{statement}
 use Rattle.text.proofs.reader.feed_all.Tie as tie

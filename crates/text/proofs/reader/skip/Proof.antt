@@ -3,7 +3,7 @@ use borrow.Author.Needs.{needs}
 use mathlib.Core.Path.{_≡_, sym, _∙_}
 use mathlib.Core.Bool.{false}
 use borrow.Author.Tests.{eq-eqb, ne-eqb}
-use Rattle.text.specs.Reading.{ends-field}
+use Rattle.text.specs.between.Reading.{ends-field}
 use Rattle.text.proofs.ReaderLaws.{skips-line-end, skips-comment, skips-blank, skips-into-field}
 use Rattle.text.proofs.reader.skip.Statement.{statement}
 use Rattle.text.proofs.reader.skip.Tie as tie

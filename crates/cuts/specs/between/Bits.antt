@@ -9,12 +9,12 @@ use lib.Dec.{eqb}
 use Rattle.sas.specs.Task.{Fact, Assignment, State}
 use Rattle.sas.specs.Plan.{holds, written}
 use Rattle.reduction.specs.Reduction.{Reduction}
-use Rattle.reduction.specs.Search.{Visit}
+use Rattle.reduction.specs.between.Search.{Visit}
 use Rattle.mask.specs.Mask.{word-bits, binary}
 use Rattle.sheet.specs.Decode.{action}
-use Rattle.sheet.specs.Encode.{fact-word}
+use Rattle.sheet.specs.between.Encode.{fact-word}
 use Rattle.plan.specs.Limits.{most-steps}
-use Rattle.fact_table.specs.Tables.{has-wanted, wanted-before, goal-table}
+use Rattle.fact_table.specs.between.Tables.{has-wanted, wanted-before, goal-table}
 
 -- which facts of an assignment the table t has as wanted
 abbrev pub flagged : List ℕ → Assignment → List Bool

@@ -9,7 +9,7 @@ use Rattle.sas.specs.Task.{Assignment, Action}
 use Rattle.sas.specs.Plan.{written, needed}
 use Rattle.sheet.specs.Limits.{limits}
 use Rattle.sheet.specs.Decode.{goal}
-use Rattle.sheet.specs.Encode.{fact-word}
+use Rattle.sheet.specs.between.Encode.{fact-word}
 
 -- the facts for which a table has room
 abbrev pub most-facts : ℕ

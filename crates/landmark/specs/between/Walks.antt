@@ -9,11 +9,11 @@ use lib.Dec.{leb}
 use Rattle.sas.specs.Task.{Fact, State, Action}
 use Rattle.sas.specs.Plan.{holds, written}
 use Rattle.reduction.specs.Reduction.{Reduction}
-use Rattle.reduction.specs.Wanted.{some-fact}
-use Rattle.sheet.specs.Encode.{fact-word}
-use Rattle.fact_table.specs.Tables.{stamped, has-wanted, wanted-before}
+use Rattle.reduction.specs.between.Wanted.{some-fact}
+use Rattle.sheet.specs.between.Encode.{fact-word}
+use Rattle.fact_table.specs.between.Tables.{stamped, has-wanted, wanted-before}
 use Rattle.plan.specs.Valid.{steps}
-use Rattle.service.specs.Held.{held}
+use Rattle.service.specs.between.Held.{held}
 
 -- a table with, at each fact, the index of the first step that writes it, of the steps p, which begin at index i
 unfoldable pub written-first : List ℕ → ℕ → List Action → List ℕ

@@ -7,14 +7,14 @@ use mathlib.Core.List.{List}
 use lib.ListN.{length, getD, set, drop}
 use Rattle.sas.specs.Task.{State}
 use Rattle.reduction.specs.Reduction.{Reduction, meets}
-use Rattle.reduction.specs.Minimal.{minimal}
-use Rattle.reduction.specs.Search.{Visit, Tests, Turn, turn, bound}
-use Rattle.reduction.specs.Sound.{Flags-kept}
+use Rattle.reduction.specs.between.Found.{minimal}
+use Rattle.reduction.specs.between.Search.{Visit, Tests, Turn, turn, bound}
+use Rattle.reduction.specs.between.Sound.{Flags-kept}
 use Rattle.mask.specs.Mask.{mask-words}
 use Rattle.sheet.specs.Decode.{initial, goal}
 use Rattle.plan.specs.Readable.{Readable}
 use Rattle.plan.specs.Valid.{steps}
-use Rattle.cuts.specs.Bits.{wanted-test}
+use Rattle.cuts.specs.between.Bits.{wanted-test}
 use Rattle.service.specs.declared.finish.Kept.{Kept}
 use Rattle.service.specs.Reduced.{tally-left}
 

@@ -8,8 +8,8 @@ use lib.ListN.{length, getD, take, drop}
 use Rattle.sas.specs.Task.{Fact, Assignment, State, Action}
 use Rattle.sas.specs.Plan.{holds}
 use Rattle.reduction.specs.Reduction.{Reduction, kept, lower, Valid-for, Contains, Before}
-use Rattle.reduction.specs.Wanted.{wanted}
-use Rattle.reduction.specs.Search.{Visit, Tests}
+use Rattle.reduction.specs.between.Wanted.{wanted}
+use Rattle.reduction.specs.between.Search.{Visit, Tests}
 
 -- every valid reduction of the plan p from s keeps the flagged steps
 abbrev pub Flags-kept : (State → Bool) → State → List Action → Reduction → Type 0

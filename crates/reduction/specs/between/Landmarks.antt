@@ -6,7 +6,7 @@ use mathlib.Core.List.{List, [], _∷_}
 use Rattle.sas.specs.Task.{Fact, Assignment, State, Action}
 use Rattle.sas.specs.Plan.{holds, written}
 use Rattle.reduction.specs.Reduction.{Reduction}
-use Rattle.reduction.specs.Wanted.{some-fact, has, wanted}
+use Rattle.reduction.specs.between.Wanted.{some-fact, has, wanted}
 
 -- the flags of the steps p, where `held` tells the facts that hold at the start or that a step before p writes: a step
 -- is flagged when some fact of its effect is none of those and is wanted behind the step

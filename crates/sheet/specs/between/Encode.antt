@@ -4,7 +4,7 @@ use Prim.Native.Nat.{ℕ, _+_, _*_, _≤_, _<_}
 use mathlib.Core.List.{List, [], _∷_, _++_, map, flatten, List·Memᴰ}
 use lib.ListN.{length, getD}
 use Rattle.sas.specs.Task.{Fact, Assignment, Action, Task}
-use Rattle.sas.specs.WellFormed.{Well-formed}
+use Rattle.sas.specs.between.WellFormed.{Well-formed}
 use Rattle.sheet.specs.Limits.{limits}
 
 -- a fact is one word, variable × 256 + value

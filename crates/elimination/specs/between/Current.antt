@@ -11,7 +11,7 @@ use Rattle.plan.specs.Limits.{most-steps}
 use Rattle.plan.specs.Valid.{steps}
 use Rattle.reduction.specs.Reduction.{Reduction, kept, valid, Before}
 use Rattle.reduction.specs.Elimination.{trial}
-use Rattle.service.specs.Held.{mask, held}
+use Rattle.service.specs.between.Held.{mask, held}
 
 -- flags that are a valid reduction of the plan l
 pub record Current (w l : List ℕ) (flags : Reduction) : Type 0 where

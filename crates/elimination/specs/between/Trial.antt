@@ -11,7 +11,7 @@ use Rattle.sheet.specs.Decode.{goal}
 use Rattle.reduction.specs.Reduction.{Reduction}
 use Rattle.reduction.specs.Elimination.{walk, after}
 use Rattle.plan.specs.Valid.{steps}
-use Rattle.elimination.specs.Walk.{Fits, Balanced}
+use Rattle.elimination.specs.between.Walk.{Fits, Balanced}
 
 pub record Tries (w l : List ℕ) (i : ℕ) (m : Reduction) (s : List ℕ)
     (succeeds : Bool) (left : Reduction) (struck : Tally) : Type 0 where

@@ -7,7 +7,8 @@ use lib.ListN.{replicate}
 use lib.Seq.{sets}
 use Rattle.refusal.specs.declared.Refusal.{Refusal}
 use Rattle.tally.specs.Tally.{nothing}
-use Rattle.mask.specs.Mask.{mask-length, ones-of, kept-by-words}
+use Rattle.mask.specs.Mask.{mask-length, ones-of}
+use Rattle.mask.specs.between.Places.{kept-by-words}
 use Rattle.plan.specs.declared.check.Answer.the-variants.{Refused}
 use Rattle.service.specs.declared.finish.Kept.{Kept}
 use Rattle.minimal.specs.declared.within.Minimised.{Minimised}

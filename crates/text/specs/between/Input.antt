@@ -11,7 +11,7 @@ use Rattle.text.specs.declared.input.Turn.{Turn}
 use Rattle.text.specs.declared.input.Turn.the-variants as turn
 use Rattle.text.specs.declared.reader.Reader.{Reader}
 use Rattle.text.specs.Text.{Reading, reading, reading-of}
-use Rattle.text.specs.Reading.{Reads}
+use Rattle.text.specs.between.Reading.{Reads}
 
 -- the most words of a text, one more than input that is whole has
 abbrev pub most : ℕ

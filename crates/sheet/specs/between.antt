@@ -1,0 +1,5 @@
+-- What stands between the code and the definitions to be believed: laws and theorems tie the two together.
+-- Encode: how a task is written as a sheet, and which tasks can be. Group: a sheet's groups of facts, as the code goes
+-- through them.
+pub mod Encode
+pub mod Group
