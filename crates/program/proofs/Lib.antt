@@ -12,3 +12,5 @@ pub mod OpeningLaws
 pub mod ReplyLaws
 -- ReplyTheorem: what is answered to the bytes that are read is what is answered to the whole input.
 pub mod ReplyTheorem
+-- BytesTheorem: reading the bytes of words gives the words back.
+pub mod BytesTheorem

@@ -7,7 +7,7 @@ use mathlib.Core.List.{List, [], _∷_, _++_, append-assoc, append-nil}
 use lib.ListN.{length, take, getD, set, length-set}
 use lib.Seq.{take-suc, take-suc-set}
 use Rattle.program.specs.Form.{word-bytes, byte-values}
-use Rattle.text.specs.Pack.{bytes-of, all-bytes}
+use Rattle.program.specs.Bytes.{bytes-of, all-bytes}
 
 -- one byte is stored behind those that are there
 pub stored-next : (l l′ : List ℕ) (i j b : ℕ) → i < length l → j ≡ i + 1 → l′ ≡ set l i b → take j l′ ≡ take i l ++ (b ∷ [])

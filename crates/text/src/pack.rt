@@ -6,7 +6,8 @@ use program::word::WORD;
 ghost use Prim.Native.Nat.{_+_, _*_, _≤_, _<_};
 ghost use lib.ListN.{length};
 ghost use Rattle.program.specs.Form.{word-bytes};
-ghost use Rattle.text.specs.Pack.{Puts, Packs, bytes-of};
+ghost use Rattle.program.specs.Bytes.{bytes-of};
+ghost use Rattle.text.specs.Pack.{Puts, Packs};
 
 // Writes a word at index `at`, its lowest byte first.
 fn put_word(bytes: &mut [u8], at: usize, x: u32)

@@ -7,7 +7,7 @@ use borrow.Author.Needs.{needs}
 use lib.ListN.{length, take}
 use lib.Seq.{take-length}
 use Rattle.program.specs.Form.{word-bytes}
-use Rattle.text.specs.Pack.{all-bytes}
+use Rattle.program.specs.Bytes.{all-bytes}
 use Rattle.text.proofs.PackLaws.{bytes-nothing, bytes-next}
 use Rattle.text.proofs.pack.pack.Statement.{statement}
 use Rattle.text.proofs.pack.pack.Tie as tie
