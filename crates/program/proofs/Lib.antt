@@ -14,3 +14,5 @@ pub mod ReplyLaws
 pub mod ReplyTheorem
 -- BytesTheorem: reading the bytes of words gives the words back.
 pub mod BytesTheorem
+-- PrintedLaws: the line of a refusal, and what has been read.
+pub mod PrintedLaws

@@ -1,8 +1,9 @@
--- What a program answers to its input, from what the opening of the input found, which is a variable here. Assumes nothing.
+-- What a program prints for its input, from what the opening of the input found, which is a variable here. Assumes nothing.
 use Prim.Native.Nat.{ℕ, _+_, _≤_}
-use mathlib.Core.Path.{_≡_, refl, sym, _∙_, ap}
+use mathlib.Core.Path.{_≡_, refl, sym, _∙_, ap, subst}
 use mathlib.Core.List.{List}
 use lib.ListN.{length, take, drop}
+use Rattle.lines.specs.Prints.{Prints}
 use Rattle.refusal.specs.declared.Refusal.{Refusal}
 use Rattle.refusal.specs.Refusal.{Told, told-refusal}
 use Rattle.sheet.proofs.TableLaws.{table-length}
@@ -35,18 +36,20 @@ module _ (further : ℕ) (bytes words : List ℕ) (o : Opened) (opens : opening-
   pub lodged-few : (n m : ℕ) (l : List ℕ) → o ≡ opened.Lodged n m → l ≡ take m (drop (n + 1) words) → length l ≤ most-steps
   lodged-few n m l is plan = rw plan (rw (sym opens ∙ ap (λ x. opening-of further x words) is) at (few-found further bytes))
 
-  module _ {A : Type 0} (refused : Told → A) (answered : List ℕ → List ℕ → List ℕ → A) where
+  module _ (refused : Told → List ℕ) (answered : List ℕ → List ℕ → List ℕ → List ℕ) where
     -- by what is found
-    replied : (f : Opening) → opening further bytes ≡ f → reply-further further refused answered bytes ≡ elim f [ Refused t ↦ refused t | Lodged w l rest ↦ answered w l rest ]
+    replied : (f : Opening) → opening further bytes ≡ f → elim f [ Refused t ↦ refused t | Lodged w l rest ↦ answered w l rest ] ≡ reply-further further refused answered bytes
     unfolding reply-further
     replied f is = rw (is, reply-further)
 
     -- the input is refused
-    pub replies-refused : (r : Refusal) (x : A) → o ≡ opened.Refused r → x ≡ refused (told-refusal r) → x ≡ reply-further further refused answered bytes
-    replies-refused r x is refuses = refuses ∙ sym (replied (Refused (told-refusal r)) (sym opens ∙ ap (λ x. opening-of further x words) is))
+    pub prints-refused : {at : ℕ} {before after : List ℕ} {end : ℕ} (r : Refusal) → o ≡ opened.Refused r → Prints (refused (told-refusal r)) at before after end
+        → Prints (reply-further further refused answered bytes) at before after end
+    prints-refused {at} {before} {after} {end} r is prints =
+        subst (λ t. Prints t at before after end) (replied (Refused (told-refusal r)) (sym opens ∙ ap (λ x. opening-of further x words) is)) prints
 
     -- or a task w, a plan l and further words are answered
-    pub replies-lodged : (n m : ℕ) (w l rest : List ℕ) (x : A) → o ≡ opened.Lodged n m → w ≡ take n words → l ≡ take m (drop (n + 1) words) → rest ≡ take further (drop (n + 1 + m) words)
-        → x ≡ answered w l rest → x ≡ reply-further further refused answered bytes
-    replies-lodged n m w l rest x is task plan behind answers =
-        answers ∙ rw (task, plan, behind) (sym (replied (Lodged _ _ _) (sym opens ∙ ap (λ x. opening-of further x words) is)))
+    pub prints-lodged : {at : ℕ} {before after : List ℕ} {end : ℕ} (n m : ℕ) (w l rest : List ℕ) → o ≡ opened.Lodged n m → w ≡ take n words → l ≡ take m (drop (n + 1) words) → rest ≡ take further (drop (n + 1 + m) words)
+        → Prints (answered w l rest) at before after end → Prints (reply-further further refused answered bytes) at before after end
+    prints-lodged {at} {before} {after} {end} n m w l rest is task plan behind prints =
+        subst (λ t. Prints t at before after end) (replied (Lodged _ _ _) (sym opens ∙ ap (λ x. opening-of further x words) is)) (rw (task, plan, behind) at prints)

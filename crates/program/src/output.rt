@@ -1,47 +1,39 @@
-// The lines that a program prints: a line is texts and numbers, one space before each number that does not begin it,
-// and a line end.
+// What programs print: the lines of a tally and of a refusal, and the writing of what has been put into lent bytes.
+use libc::STDERR_FILENO;
 use libc::STDOUT_FILENO;
+use lines::put_line;
 use refusal::Refusal;
+use tally::Tally;
+ghost use Rattle.lines.specs.Prints.{Prints};
+ghost use Rattle.refusal.specs.Refusal.{told-refusal};
+ghost use Rattle.program.specs.Printed.{tally-line, refusal-line};
 
-// A text, at the start of a line or further on.
-pub fn print_text(text: &[u8]) {
-    io::write_all(STDOUT_FILENO, text);
+// The most bytes of a line of a word and two numbers, or of three numbers, that a program prints.
+pub const LINE: usize = 40;
+
+// Puts a line of a word, and the steps and the cost of a tally.
+pub fn put_tally(out: &mut [u8], at: usize, word: &[u8], tally: Tally) -> usize
+    ensures { λ r. ⌜ Prints (tally-line (now (word .entry)) tally) at (now (out .entry)) (now (out .exit)) r ⌝ }
+{
+    put_line(out, at, word, &[tally.steps as u64, tally.cost as u64])
 }
 
-// A number after what the line has so far.
-pub fn print_number(number: u64) {
-    print_text(b" ");
-    io::print_decimal(STDOUT_FILENO, number);
+// Puts the line of a refusal: its number and its place.
+pub fn put_refusal(out: &mut [u8], at: usize, refusal: Refusal) -> usize
+    ensures { λ r. ⌜ Prints (refusal-line (told-refusal refusal)) at (now (out .entry)) (now (out .exit)) r ⌝ }
+{
+    put_line(
+        out,
+        at,
+        b"refused",
+        &[refusal.number() as u64, refusal.place() as u64],
+    )
 }
 
-fn end_line() {
-    print_text(b"\n");
-}
-
-// A line of a word and a number.
-pub fn print_one(word: &[u8], number: u64) {
-    print_text(word);
-    print_number(number);
-    end_line();
-}
-
-// A line of a word and two numbers.
-pub fn print_line(word: &[u8], first: u64, second: u64) {
-    print_text(word);
-    print_number(first);
-    print_number(second);
-    end_line();
-}
-
-// A line of three numbers.
-pub fn print_three(first: u64, second: u64, third: u64) {
-    io::print_decimal(STDOUT_FILENO, first);
-    print_number(second);
-    print_number(third);
-    end_line();
-}
-
-// The line of a refusal: its number and its place.
-pub fn print_refusal(refusal: Refusal) {
-    print_line(b"refused", refusal.number() as u64, refusal.place() as u64);
+// Writes a text to standard output, and says on standard error where that can't be done.
+pub fn write_text(text: &[u8]) {
+    if io::write_all(STDOUT_FILENO, text) {
+        return;
+    }
+    io::write_all(STDERR_FILENO, b"the answer can't be written\n");
 }

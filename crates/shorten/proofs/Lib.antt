@@ -1,4 +1,4 @@
--- ShortenLaws: the services tell what the program answers to a task and a plan.
+-- ReportLaws: the lines of a report, put one by one.
+pub mod ReportLaws
+-- ShortenLaws: what the service tells of a list is what is printed for it.
 pub mod ShortenLaws
--- ShortenTheorem: what it answers to the bytes that it reads is what is due to the whole input.
-pub mod ShortenTheorem

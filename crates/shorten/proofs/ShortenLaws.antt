@@ -1,28 +1,73 @@
--- The service of the minimal reduction tells what the program answers to a list, and a refusal what it answers to one, field by field. Assumes nothing.
-use Prim.Native.Nat.{ℕ}
-use mathlib.Core.Path.{_≡_, refl}
-use mathlib.Core.Option.{Option, none, some}
+-- What the service of the minimal reduction tells of a list is what the program prints for it: the report of the reduction, or the line of the refusal. Assumes nothing.
+use Prim.Native.Nat.{ℕ, _≤_}
+use native.Mathlib.Omega.{arith}
+use mathlib.Core.Path.{_≡_, refl, sym, _∙_, ap, subst}
+use mathlib.Core.Bool.{Bool, true}
+use mathlib.Core.Option.{Option, none, some, Option·getD}
 use mathlib.Core.List.{List}
-use lib.ListN.{length}
+use lib.ListN.{length, length-replicate, length-map}
+use Rattle.lines.specs.Prints.{Prints}
 use Rattle.refusal.specs.declared.Refusal.{Refusal}
-use Rattle.refusal.specs.Refusal.{Told, told-refusal}
+use Rattle.refusal.specs.Refusal.{told-refusal}
 use Rattle.refusal.specs.Check.{answer}
+use Rattle.refusal.proofs.CheckLaws.{first-none}
+use Rattle.sas.specs.Task.{State, Action}
+use Rattle.tally.specs.declared.Tally.{Tally}
+use Rattle.reduction.specs.Reduction.{Reduction, whole, meets}
+use Rattle.reduction.specs.between.Found.{found, minimal}
+use Rattle.reduction.proofs.MinimalTheorem.{found-minimal}
+use Rattle.mask.specs.Mask.{mask-bits}
+use Rattle.sheet.specs.Decode.{initial, goal, action}
 use Rattle.plan.specs.Limits.{most-steps}
+use Rattle.plan.specs.Valid.{steps}
+use Rattle.plan.specs.Readable.{Readable}
+use Rattle.plan.specs.declared.check.Answer.the-variants.{Valid, Refused}
+use Rattle.plan.specs.Checked.{told-answer, told-tally}
+use Rattle.plan.proofs.PlanLaws.{passed-readable}
+use Rattle.service.specs.Reduced.{room-checks, reduction-checks}
 use Rattle.minimal.specs.declared.within.Minimised.{Minimised}
-use Rattle.minimal.specs.Minimised.{most-unmarked, minimal-checks, Minimises}
-use Rattle.minimal.specs.between.Written.{Refuses}
-use Rattle.shorten.specs.Shorten.{outcome-of, refused, shortened}
+use Rattle.minimal.specs.Minimised.{most-unmarked, unmarked-checks, minimal-checks, minimal-of, Minimises}
+use Rattle.program.specs.Printed.{refusal-line}
+use Rattle.shorten.specs.Shorten.{report, shortened}
+use Rattle.shorten.specs.between.Reported.{Reports}
 
-pub refusal-told : (refusal : Refusal) (r : Minimised) → Refuses refusal r → outcome-of r ≡ refused (told-refusal refusal)
-refusal-told refusal r refuses = rw (refuses .answer, refuses .mask, refuses .lodged, refuses .marked)
-
-pub answers-shortened : (w l before : List ℕ) (r : Minimised) (after : List ℕ) → length before ≡ most-steps → Minimises most-unmarked w l before r after
-    → outcome-of r ≡ shortened w l
-unfolding shortened
-answers-shortened w l before r after room minimises = by-case (answer (minimal-checks most-unmarked w l (length before))) refl
+-- the minimal reduction has a flag for each step
+minimal-length : (ends : State → Bool) (s : State) (p : List Action) → length (minimal ends s p) ≡ length p
+unfolding minimal
+minimal-length ends s p = by-case (found ends s p) refl
   where
-    by-case : (t : Option Told) → answer (minimal-checks most-unmarked w l (length before)) ≡ t → outcome-of r ≡ shortened w l
-    by-case none e =
-        rw (← room, e, shortened, minimises .answers .refusal, minimises .answers .tally, minimises .answers .told-by, minimises .lodged, minimises .marks, e)
-    by-case (some t) e =
-        rw (← room, e, shortened, minimises .answers .refusal, minimises .answers .tally, minimises .answers .told-by, minimises .lodged, minimises .marks, e)
+    by-case : (o : Option Reduction) → found ends s p ≡ o → length (Option·getD (found ends s p) (whole p)) ≡ length p
+    by-case none e = rw e (length-replicate (length p) true)
+    by-case (some m) e = rw e (found-minimal ends s p e .valid .fits)
+
+module _ (w l before : List ℕ) (r : Minimised) (after : List ℕ) (room : length before ≡ most-steps) (minimises : Minimises most-unmarked w l before r after) where
+  -- the list is shortened
+  module _ (kept : Tally) (is : r .answer ≡ Valid kept) where
+    passes : answer (minimal-checks most-unmarked w l (length before)) ≡ none
+    passes = sym (minimises .answers .refusal) ∙ ap told-answer is
+
+    readable : Readable w l
+    unfolding minimal-checks
+    readable = passed-readable (room-checks (length l) (length before)) w l (first-none (reduction-checks w l (length before)) (unmarked-checks most-unmarked w l) _ passes refl)
+
+    pub reports-minimal : Reports w l (minimal-of w l) r kept
+    reports-minimal =
+        let fits : length (minimal-of w l) ≡ length l = minimal-length (meets (goal w)) (initial w) (steps w l) ∙ length-map l (action w) in
+        record {
+          lodged = rw passes at (minimises .lodged);
+          marks = rw passes at (minimises .marks);
+          left = rw (is, passes) at (minimises .answers .tally);
+          steps = record { fits = fits; few = omega (arith, readable .few); told-by = rw passes at (minimises .answers .told-by) };
+        }
+
+    pub shortened-report : {out out′ : List ℕ} {end : ℕ} → Prints (report w l (minimal-of w l)) 0 out out′ end → Prints (shortened w l) 0 out out′ end
+    unfolding shortened
+    shortened-report prints = rw (shortened, ← room, passes) prints
+
+  -- or refused
+  pub shortened-refusal : (refusal : Refusal) → r .answer ≡ Refused refusal → {out out′ : List ℕ} {end : ℕ}
+      → Prints (refusal-line (told-refusal refusal)) 0 out out′ end → Prints (shortened w l) 0 out out′ end
+  unfolding shortened
+  shortened-refusal refusal is prints =
+      let fires : answer (minimal-checks most-unmarked w l (length before)) ≡ some (told-refusal refusal) = sym (minimises .answers .refusal) ∙ ap told-answer is in
+      rw (shortened, ← room, fires) prints

@@ -1,25 +1,22 @@
 // The program that shortens a plan of a task by the minimal reduction (document 01: exact reduction). It reads both
 // from standard input (document 01, "Worked lists", on the program) and prints what is kept, or the refusal.
-// shortened: what it answers to the bytes of its input. report: the lines that it prints.
+// report: the lines of a plan that is shortened. shortened: what is printed for the bytes of the input.
 mod report;
 mod shortened;
 
-use crate::report::print_shortened;
-use crate::shortened::shorten_input;
-use plan::check::Answer;
-use program::framing::ALONE;
+use crate::shortened::answer_input;
+use plan::limits::Plan;
 use program::framing::BYTES;
-use program::input::read;
-use program::output::print_refusal;
+use program::output::LINE;
+use program::output::write_text;
+
+// The most bytes that are printed: three lines, and one for each step.
+const TEXT: usize = LINE * (3 + Plan::STEPS);
 
 fn main() {
     let mut bytes = [0u8; BYTES];
-    let n = read(&mut bytes, 0, ALONE);
-    let input = &bytes[..n];
-    let shortened = shorten_input(input);
-    let answer = shortened.answer;
-    match answer {
-        Answer::Valid(kept) => print_shortened(input, shortened, kept),
-        Answer::Refused(refusal) => print_refusal(refusal),
-    }
+    let mut text = [0u8; TEXT];
+    let done = answer_input(&mut bytes, &mut text);
+    let n = done.written;
+    write_text(&text[..n]);
 }

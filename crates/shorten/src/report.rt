@@ -1,45 +1,70 @@
-// What the program prints of an input whose plan is shortened.
-use access::front;
+// The lines that are printed of a plan that is shortened.
 use access::word;
+use lines::put_line;
+use lines::put_row;
 use mask::Mask;
 use minimal::within::Minimised;
-use program::framing::WORDS;
-use program::opened::Opened;
-use program::opened::open_input;
-use program::output::print_line;
-use program::output::print_one;
-use program::output::print_three;
-use program::parts::plan_part;
+use program::output::put_tally;
 use sheet::layout::cost;
 use tally::Tally;
+ghost use mathlib.Core.List.{[], _∷_};
+ghost use Prim.Native.Nat.{_+_, _≤_, _<_};
+ghost use lib.ListN.{length, getD};
+ghost use Rattle.lines.specs.Prints.{Prints};
+ghost use Rattle.reduction.specs.Reduction.{Reduction};
+ghost use Rattle.shorten.specs.Shorten.{step-lines, report};
+ghost use Rattle.shorten.specs.between.Reported.{Masks-steps, Reports};
+ghost use Rattle.lines.specs.Lines.{row};
+ghost use Rattle.sheet.specs.Layout.{cost-word};
 
-// A line for each kept step: its position, its action and its cost.
-fn print_steps(words: &[u32], plan: &[u32], mask: Mask) {
+// Puts the line of the step at index i: its position, its action and its cost.
+fn put_step(words: &[u32], plan: &[u32], i: usize, out: &mut [u8], at: usize) -> usize
+    requires { ⌜ i < length (now plan) ⌝ }
+    ensures { λ r. ⌜ Prints (row (i + 1) (getD (now (plan .entry)) i 0
+        ∷ cost-word (now (words .entry)) (getD (now (plan .entry)) i 0) ∷ [])) at (now (out .entry)) (now (out .exit)) r ⌝ }
+{
+    let action = word(plan, i);
+    put_row(
+        out,
+        at,
+        (i + 1) as u64,
+        &[action as u64, cost(words, action) as u64],
+    )
+}
+
+// Puts a line for each kept step.
+fn put_steps(words: &[u32], plan: &[u32], mask: Mask, out: &mut [u8], at: usize) -> usize
+    ensures { λ r. ⌜ ((m : Reduction) → Masks-steps (now (plan .entry)) m mask → at ≤ length (now (out .entry))
+        → Prints (step-lines (now (words .entry)) 1 (now (plan .entry)) m) at (now (out .entry)) (now (out .exit)) r) ⌝ }
+{
+    let mut end = at;
     let mut i = 0;
     while i < plan.len() {
         if mask.keeps(i) {
-            let action = word(plan, i);
-            print_three((i + 1) as u64, action as u64, cost(words, action) as u64);
+            end = put_step(words, plan, i, out, end);
+            i += 1;
+        } else {
+            i += 1;
         }
-        i += 1;
     }
+    end
 }
 
-// A line of the steps and the cost of a list.
-fn print_tally(word: &[u8], tally: Tally) {
-    print_line(word, tally.steps as u64, tally.cost as u64);
-}
-
-// Prints what is told of the plan in the bytes of the input.
-pub(crate) fn print_shortened(bytes: &[u8], shortened: Minimised, kept: Tally) {
+// Puts all lines of a plan, of which `kept` is the tally left.
+pub(crate) fn put_report(
+    words: &[u32],
+    plan: &[u32],
+    shortened: Minimised,
+    kept: Tally,
+    out: &mut [u8],
+) -> usize
+    ensures { λ r. ⌜ ((m : Reduction) → Reports (now (words .entry)) (now (plan .entry)) m shortened kept
+        → Prints (report (now (words .entry)) (now (plan .entry)) m) 0 (now (out .entry)) (now (out .exit)) r) ⌝ }
+{
     let lodged = shortened.lodged;
     let mask = shortened.mask;
-    print_tally(b"lodged", lodged);
-    print_one(b"marked", shortened.marked as u64);
-    print_tally(b"kept", kept);
-    let mut words = [0u32; WORDS];
-    let opened = open_input(bytes, 0, &mut words);
-    if let Opened::Lodged { task, plan } = opened {
-        print_steps(front(&words, task), plan_part(&words, task, plan), mask);
-    }
+    let marks = put_tally(out, 0, b"lodged", lodged);
+    let left = put_line(out, marks, b"marked", &[shortened.marked as u64]);
+    let steps = put_tally(out, left, b"kept", kept);
+    put_steps(words, plan, mask, out, steps)
 }

@@ -1,35 +1,57 @@
-// What the program answers to the bytes of its input.
+// What the program prints for the bytes of its input, put into lent bytes.
+use crate::report::put_report;
 use access::front;
 use minimal::reduce::minimal_reduction;
-use minimal::within::Minimised;
-use minimal::within::refused;
+use plan::check::Answer;
 use plan::limits::Plan;
+use program::framing::ALONE;
 use program::framing::WORDS;
+use program::input::Done;
+use program::input::read;
 use program::opened::Opened;
 use program::opened::open_input;
+use program::output::put_refusal;
 use program::parts::plan_part;
-ghost use mathlib.Core.Path.{_≡_};
-ghost use Rattle.shorten.specs.Shorten.{outcome-of, shortened, outcome};
+ghost use Rattle.lines.specs.Prints.{Prints};
+ghost use Rattle.program.specs.Printed.{Has-done};
+ghost use Rattle.shorten.specs.Shorten.{shortened, printed};
 
-// Shortens a plan. The output here has room for the longest that is read.
-fn shorten(words: &[u32], plan: &[u32]) -> Minimised
-    ensures { λ r. ⌜ outcome-of r ≡ shortened (now (words .entry)) (now (plan .entry)) ⌝ }
+// Shortens a plan. The list left has room for the longest that is read.
+fn shorten(words: &[u32], plan: &[u32], out: &mut [u8]) -> usize
+    ensures { λ r. ⌜ Prints (shortened (now (words .entry)) (now (plan .entry))) 0
+        (now (out .entry)) (now (out .exit)) r ⌝ }
 {
-    let mut out = [0u32; Plan::STEPS];
-    minimal_reduction(words, plan, &mut out)
+    let mut left = [0u32; Plan::STEPS];
+    let reduced = minimal_reduction(words, plan, &mut left);
+    let answer = reduced.answer;
+    match answer {
+        Answer::Valid(kept) => put_report(words, plan, reduced, kept, out),
+        Answer::Refused(refusal) => put_refusal(out, 0, refusal),
+    }
 }
 
 // Shortens the plan, unless the input is refused before.
-pub(crate) fn shorten_input(bytes: &[u8]) -> Minimised
-    ensures { λ r. ⌜ outcome-of r ≡ outcome (now (bytes .entry)) ⌝ }
+fn shorten_input(bytes: &[u8], out: &mut [u8]) -> usize
+    ensures { λ r. ⌜ Prints (printed (now (bytes .entry))) 0 (now (out .entry)) (now (out .exit)) r ⌝ }
 {
     let mut words = [0u32; WORDS];
     let opened = open_input(bytes, 0, &mut words);
     match opened {
-        Opened::Refused(refusal) => refused(refusal),
+        Opened::Refused(refusal) => put_refusal(out, 0, refusal),
         Opened::Lodged { task, plan } => shorten(
             front(&words, task),
             plan_part(&words, task, plan),
+            out,
         ),
     }
+}
+
+// Reads the input to the front of `bytes`, and puts what is printed for it to the front of `out`.
+pub(crate) fn answer_input(bytes: &mut [u8], out: &mut [u8]) -> Done
+    ensures { λ r. ⌜ Has-done printed (now (bytes .exit)) r (now (out .entry)) (now (out .exit)) ⌝ }
+{
+    let input = read(bytes, 0, ALONE);
+    let n = input.count;
+    let written = shorten_input(&bytes[..n], out);
+    Done { input, written }
 }

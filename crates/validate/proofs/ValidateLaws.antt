@@ -1,10 +1,30 @@
--- The check of a plan tells what the program answers to it, field by field. Assumes nothing.
+-- What the check of a list tells is what the program prints for it. Assumes nothing.
 use Prim.Native.Nat.{ℕ}
-use mathlib.Core.Path.{_≡_}
+use mathlib.Core.Path.{_≡_, sym, _∙_, ap}
+use mathlib.Core.Option.{none, some}
 use mathlib.Core.List.{List}
+use Rattle.lines.specs.Lines.{ascii}
+use Rattle.lines.specs.Prints.{Prints}
+use Rattle.refusal.specs.declared.Refusal.{Refusal}
+use Rattle.refusal.specs.Refusal.{told-refusal}
+use Rattle.refusal.specs.Check.{answer}
+use Rattle.tally.specs.declared.Tally.{Tally}
 use Rattle.plan.specs.declared.check.Answer.{Answer}
-use Rattle.plan.specs.Checked.{plan-checks, Checks}
-use Rattle.validate.specs.Validate.{outcome-of, checked}
+use Rattle.plan.specs.declared.check.Answer.the-variants.{Valid, Refused}
+use Rattle.plan.specs.Checked.{plan-checks, told-answer, lodged-tally, Checks}
+use Rattle.program.specs.Printed.{tally-line, refusal-line}
+use Rattle.validate.specs.Validate.{checked}
 
-pub answers-checked : (w l : List ℕ) (given : Answer) (state : List ℕ) → Checks (plan-checks w l) w l given state → outcome-of given ≡ checked w l
-answers-checked w l given state checks = rw (checks .refusal, checks .tally)
+module _ (w l : List ℕ) (given : Answer) (state : List ℕ) (checks : Checks (plan-checks w l) w l given state) {out out′ : List ℕ} {end : ℕ} where
+  pub checked-tally : (t : Tally) → given ≡ Valid t → Prints (tally-line (ascii "lodged") t) 0 out out′ end → Prints (checked w l) 0 out out′ end
+  unfolding checked
+  checked-tally t is prints =
+      let passes : answer (plan-checks w l) ≡ none = sym (checks .refusal) ∙ ap told-answer is in
+      let counted : t ≡ lodged-tally w l = rw (is, passes) at (checks .tally) in
+      rw (checked, passes) (rw counted at prints)
+
+  pub checked-refusal : (r : Refusal) → given ≡ Refused r → Prints (refusal-line (told-refusal r)) 0 out out′ end → Prints (checked w l) 0 out out′ end
+  unfolding checked
+  checked-refusal r is prints =
+      let fires : answer (plan-checks w l) ≡ some (told-refusal r) = sym (checks .refusal) ∙ ap told-answer is in
+      rw (checked, fires) prints

@@ -1,2 +1,2 @@
--- Validate: what the program answers to the bytes of its input.
+-- Validate: what the program prints for the bytes of its input.
 pub mod Validate

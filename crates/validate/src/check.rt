@@ -1,25 +1,55 @@
-// What the program answers to the bytes of its input.
+// What the program prints for the bytes of its input, put into lent bytes.
 use access::front;
 use plan::check::Answer;
 use plan::check::check_plan;
+use program::framing::ALONE;
 use program::framing::WORDS;
+use program::input::Done;
+use program::input::read;
 use program::opened::Opened;
 use program::opened::open_input;
+use program::output::put_refusal;
+use program::output::put_tally;
 use program::parts::plan_part;
-ghost use mathlib.Core.Path.{_≡_};
-ghost use Rattle.validate.specs.Validate.{outcome-of, outcome};
+ghost use Rattle.lines.specs.Prints.{Prints};
+ghost use Rattle.program.specs.Printed.{Has-done};
+ghost use Rattle.validate.specs.Validate.{checked, printed};
 
-// The check of the plan, unless the input is refused before it.
-pub(crate) fn check_input(bytes: &[u8]) -> Answer
-    ensures { λ r. ⌜ outcome-of r ≡ outcome (now (bytes .entry)) ⌝ }
+// Checks a plan.
+fn check(words: &[u32], plan: &[u32], out: &mut [u8]) -> usize
+    ensures { λ r. ⌜ Prints (checked (now (words .entry)) (now (plan .entry))) 0
+        (now (out .entry)) (now (out .exit)) r ⌝ }
+{
+    let checked = check_plan(words, plan);
+    let answer = checked.answer;
+    match answer {
+        Answer::Valid(tally) => put_tally(out, 0, b"lodged", tally),
+        Answer::Refused(refusal) => put_refusal(out, 0, refusal),
+    }
+}
+
+// Checks the plan, unless the input is refused before it.
+fn check_input(bytes: &[u8], out: &mut [u8]) -> usize
+    ensures { λ r. ⌜ Prints (printed (now (bytes .entry))) 0 (now (out .entry)) (now (out .exit)) r ⌝ }
 {
     let mut words = [0u32; WORDS];
     let opened = open_input(bytes, 0, &mut words);
     match opened {
-        Opened::Refused(refusal) => Answer::Refused(refusal),
-        Opened::Lodged { task, plan } => {
-            let checked = check_plan(front(&words, task), plan_part(&words, task, plan));
-            checked.answer
-        }
+        Opened::Refused(refusal) => put_refusal(out, 0, refusal),
+        Opened::Lodged { task, plan } => check(
+            front(&words, task),
+            plan_part(&words, task, plan),
+            out,
+        ),
     }
+}
+
+// Reads the input to the front of `bytes`, and puts what is printed for it to the front of `out`.
+pub(crate) fn answer_input(bytes: &mut [u8], out: &mut [u8]) -> Done
+    ensures { λ r. ⌜ Has-done printed (now (bytes .exit)) r (now (out .entry)) (now (out .exit)) ⌝ }
+{
+    let input = read(bytes, 0, ALONE);
+    let n = input.count;
+    let written = check_input(&bytes[..n], out);
+    Done { input, written }
 }

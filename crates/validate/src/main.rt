@@ -1,22 +1,17 @@
 // The program that checks a plan of a task. It reads both from standard input (document 01, "Worked lists", on the
 // program) and prints the steps and the cost of a valid plan, or the refusal.
-// check: what it answers to the bytes of its input.
+// check: what is printed for the bytes of the input.
 mod check;
 
-use crate::check::check_input;
-use plan::check::Answer;
-use program::framing::ALONE;
+use crate::check::answer_input;
 use program::framing::BYTES;
-use program::input::read;
-use program::output::print_line;
-use program::output::print_refusal;
+use program::output::LINE;
+use program::output::write_text;
 
 fn main() {
     let mut bytes = [0u8; BYTES];
-    let n = read(&mut bytes, 0, ALONE);
-    let answer = check_input(&bytes[..n]);
-    match answer {
-        Answer::Valid(tally) => print_line(b"lodged", tally.steps as u64, tally.cost as u64),
-        Answer::Refused(refusal) => print_refusal(refusal),
-    }
+    let mut text = [0u8; LINE];
+    let done = answer_input(&mut bytes, &mut text);
+    let n = done.written;
+    write_text(&text[..n]);
 }

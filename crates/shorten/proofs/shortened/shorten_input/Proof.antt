@@ -1,7 +1,6 @@
 -- `shorten_input` meets its contract: the input is refused, or the plan is shortened. Assumes nothing.
-use Rattle.shorten.proofs.ShortenLaws.{refusal-told}
-use Rattle.program.proofs.ReplyLaws.{replies-refused, replies-lodged}
 use mathlib.Core.Path.{refl}
+use Rattle.program.proofs.ReplyLaws.{prints-refused, prints-lodged}
 use borrow.Author.Needs.{needs}
 use Rattle.shorten.proofs.shortened.shorten_input.Statement.{statement}
 use Rattle.shorten.proofs.shortened.shorten_input.Tie as tie
@@ -15,8 +14,8 @@ open-input-requires c κs = search needs
 enum-known-opened : tie.Need-enum-known-opened
 enum-known-opened c = search needs
 
-refused-requires : tie.Need-refused-requires
-refused-requires c κs = search needs
+put-refusal-requires : tie.Need-put-refusal-requires
+put-refusal-requires c κs = search needs
 
 enum-known-opened-2 : tie.Need-enum-known-opened-2
 enum-known-opened-2 c = search needs
@@ -36,11 +35,19 @@ plan-part-requires c κs = search needs
 shorten-requires : tie.Need-shorten-requires
 shorten-requires c κs = search needs
 
+same-length : tie.Need-same-length
+same-length c = search needs
+
 returns : tie.Need-returns
-returns c = replies-refused _ _ _ _ (c .before .before .before .before .before .open-input .ensures .0) _ _ _ _ (c .before .before .opened .given .1) (refusal-told _ _ (c .refused .ensures))
+returns c = prints-refused _ _ _ _ (c .before .before .before .before .before .before .before .before .open-input .ensures .0) _ _ _ (c .before .before .before .before .before .opened .given .1) (c .before .before .put-refusal .ensures)
+
+same-length-2 : tie.Need-same-length-2
+same-length-2 c = search needs
 
 returns-2 : tie.Need-returns-2
-returns-2 c = replies-lodged _ _ _ _ (c .before .before .before .before .before .before .before .before .before .open-input .ensures .0) _ _ _ _ _ _ _ _ (c .before .before .before .before .before .before .opened2 .given .1) (c .before .before .before .front .ensures) (c .before .plan-part .ensures) refl (c .shorten .ensures)
+returns-2 c =
+    prints-lodged _ _ _ _ (c .before .before .before .before .before .before .before .before .before .before .before .before .open-input .ensures .0) _ _ _ _ _ _ _ (c .before .before .before .before .before .before .before .before .before .opened2 .given .1) (c .before .before .before .before .before .before .front .ensures) (c .before .before .before .before .plan-part .ensures) refl
+    (c .before .before .shorten .ensures)
 
 pub shorten-input-spec : {M : Type 1} → statement M
 shorten-input-spec =
@@ -49,12 +56,14 @@ shorten-input-spec =
     slice-aggregate-open-input
     open-input-requires
     enum-known-opened
-    refused-requires
+    put-refusal-requires
     enum-known-opened-2
     slice-aggregate-front
     front-requires
     slice-aggregate-plan-part
     plan-part-requires
     shorten-requires
+    same-length
     returns
+    same-length-2
     returns-2)

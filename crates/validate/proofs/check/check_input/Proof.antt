@@ -1,7 +1,6 @@
 -- `check_input` meets its contract: the input is refused, or the plan is checked. Assumes nothing.
 use mathlib.Core.Path.{refl}
-use Rattle.program.proofs.ReplyLaws.{replies-refused, replies-lodged}
-use Rattle.validate.proofs.ValidateLaws.{answers-checked}
+use Rattle.program.proofs.ReplyLaws.{prints-refused, prints-lodged}
 use borrow.Author.Needs.{needs}
 use Rattle.validate.proofs.check.check_input.Statement.{statement}
 use Rattle.validate.proofs.check.check_input.Tie as tie
@@ -14,6 +13,9 @@ open-input-requires c κs = search needs
 
 enum-known-opened : tie.Need-enum-known-opened
 enum-known-opened c = search needs
+
+put-refusal-requires : tie.Need-put-refusal-requires
+put-refusal-requires c κs = search needs
 
 enum-known-opened-2 : tie.Need-enum-known-opened-2
 enum-known-opened-2 c = search needs
@@ -30,14 +32,22 @@ slice-aggregate-plan-part c = search needs
 plan-part-requires : tie.Need-plan-part-requires
 plan-part-requires c κs = search needs
 
-check-plan-requires : tie.Need-check-plan-requires
-check-plan-requires c κs = search needs
+check-requires : tie.Need-check-requires
+check-requires c κs = search needs
+
+same-length : tie.Need-same-length
+same-length c = search needs
 
 returns : tie.Need-returns
-returns c = replies-refused _ _ _ _ (c .before .before .before .before .open-input .ensures .0) _ _ _ _ (c .before .opened .given .1) refl
+returns c = prints-refused _ _ _ _ (c .before .before .before .before .before .before .before .before .open-input .ensures .0) _ _ _ (c .before .before .before .before .before .opened .given .1) (c .before .before .put-refusal .ensures)
+
+same-length-2 : tie.Need-same-length-2
+same-length-2 c = search needs
 
 returns-2 : tie.Need-returns-2
-returns-2 c = let opens = c .before .before .before .before .before .before .before .before .before .open-input .ensures .0 in replies-lodged _ _ _ _ opens _ _ _ _ _ _ _ _ (c .before .before .before .before .before .before .opened2 .given .1) (c .before .before .before .front .ensures) (c .before .plan-part .ensures) refl (answers-checked _ _ (c .check-plan .result .answer) _ (c .check-plan .ensures))
+returns-2 c =
+    prints-lodged _ _ _ _ (c .before .before .before .before .before .before .before .before .before .before .before .before .open-input .ensures .0) _ _ _ _ _ _ _ (c .before .before .before .before .before .before .before .before .before .opened2 .given .1) (c .before .before .before .before .before .before .front .ensures) (c .before .before .before .before .plan-part .ensures) refl
+    (c .before .before .check .ensures)
 
 pub check-input-spec : {M : Type 1} → statement M
 check-input-spec =
@@ -46,11 +56,14 @@ check-input-spec =
     slice-aggregate-open-input
     open-input-requires
     enum-known-opened
+    put-refusal-requires
     enum-known-opened-2
     slice-aggregate-front
     front-requires
     slice-aggregate-plan-part
     plan-part-requires
-    check-plan-requires
+    check-requires
+    same-length
     returns
+    same-length-2
     returns-2)

@@ -1,0 +1,35 @@
+-- The line of a refusal, by its number and its place; and what must have been read, where it has. Assumes nothing.
+use Prim.Native.Nat.{ℕ, _≤_}
+use mathlib.Core.Path.{_≡_, sym}
+use mathlib.Core.Bool.{true, false, false≢true}
+use mathlib.Core.List.{List, [], _∷_}
+use lib.ListN.{length, take}
+use lib.Seq.{length-take-le}
+use Rattle.io.specs.Counts.{Counts}
+use Rattle.lines.specs.Lines.{ascii, line}
+use Rattle.lines.specs.Prints.{Prints}
+use Rattle.lines.proofs.PrintLaws.{prints-within}
+use Rattle.refusal.specs.Refusal.{Told}
+use Rattle.program.specs.Form.{bytes-to-read}
+use Rattle.program.specs.Printed.{refusal-line, Has-read, Has-done}
+use Rattle.program.specs.declared.input.Input.{Input}
+
+pub refusal-printed : {at : ℕ} {before after : List ℕ} {end : ℕ} (t : Told) {number place : ℕ} → number ≡ t .number → place ≡ t .place
+    → Prints (line (ascii "refused") (number ∷ place ∷ [])) at before after end → Prints (refusal-line t) at before after end
+refusal-printed t numbered placed prints = rw (← numbered, ← placed) prints
+
+-- so many bytes at the front
+pub front-counts : (n : ℕ) (bytes : List ℕ) → n ≤ length bytes → Counts n bytes
+front-counts n bytes h = (h, sym (length-take-le n bytes h))
+
+module _ (further beyond : ℕ) (bytes : List ℕ) (n : ℕ) (there : n ≤ length bytes) where
+  pub read-to-end : Has-read further beyond bytes (record { count = n; ended = true })
+  read-to-end = record { counted = front-counts n bytes there; enough = λ e. absurd (false≢true (sym e)) }
+
+  pub read-enough : (want : ℕ) → want ≡ bytes-to-read further beyond (take n bytes) → want ≤ n → Has-read further beyond bytes (record { count = n; ended = false })
+  read-enough want is low = record { counted = front-counts n bytes there; enough = λ e. rw (← is) low }
+
+-- a program that has read, and has printed its answer to what it has read
+pub has-done : {text : List ℕ → List ℕ} {bytes : List ℕ} {input : Input} {before after : List ℕ} {written : ℕ} → Has-read 0 1 bytes input
+    → Prints (text (take (input .count) bytes)) 0 before after written → Has-done text bytes (record { input = input; written = written }) before after
+has-done read prints = record { read = read; printed = prints; counted = front-counts _ _ (prints-within prints) }

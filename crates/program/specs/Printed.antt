@@ -1,0 +1,35 @@
+-- What a program prints of a tally and of a refusal, and what it has read and printed. Assumes nothing.
+use Prim.Native.Nat.{ℕ, _≤_}
+use mathlib.Core.Path.{_≡_}
+use mathlib.Core.Bool.{Bool, false}
+use mathlib.Core.List.{List, [], _∷_}
+use lib.ListN.{take}
+use Rattle.io.specs.Counts.{Counts}
+use Rattle.lines.specs.Lines.{ascii, line}
+use Rattle.lines.specs.Prints.{Prints}
+use Rattle.refusal.specs.Refusal.{Told}
+use Rattle.tally.specs.declared.Tally.{Tally}
+use Rattle.program.specs.declared.input.Input.{Input}
+use Rattle.program.specs.declared.input.Done.{Done}
+use Rattle.program.specs.Form.{bytes-to-read}
+
+-- a line of a word, and the steps and the price of a tally
+abbrev pub tally-line : List ℕ → Tally → List ℕ
+tally-line word t = line word (t .steps ∷ t .cost ∷ [])
+
+-- "A refusal prints `refused`, number, place"
+abbrev pub refusal-line : Told → List ℕ
+refusal-line t = line (ascii "refused") (t .number ∷ t .place ∷ [])
+
+-- what has been read stands at the front of the bytes lent: all that must be read to tell the form of the input, unless
+-- the input ended before
+pub record Has-read (further beyond : ℕ) (bytes : List ℕ) (input : Input) : Type 0 where
+  pub counted : Counts (input .count) bytes
+  pub enough : input .ended ≡ false → bytes-to-read further beyond (take (input .count) bytes) ≤ input .count
+
+-- what a program that prints this text of its input has done: what it has read, and what is printed, which is that of
+-- the bytes read
+pub record Has-done (text : List ℕ → List ℕ) (bytes : List ℕ) (done : Done) (before after : List ℕ) : Type 0 where
+  pub read : Has-read 0 1 bytes (done .input)
+  pub printed : Prints (text (take (done .input .count) bytes)) 0 before after (done .written)
+  pub counted : Counts (done .written) after
