@@ -1,0 +1,194 @@
+-- Document 01's worked lists that carry a star, 1 to 9, as one table: each row has the words of a sheet, a list, and
+-- what document 01 says of them. What it means that this holds is told by the definitions that the services' contracts
+-- cite and by the rules of document 01. Assumes nothing.
+use Prim.Native.Nat.{ℕ, _+_}
+use mathlib.Core.Path.{_≡_}
+use mathlib.Core.Logic.{_↔_, _⊎_}
+use mathlib.Core.Bool.{false}
+use mathlib.Core.Option.{none, some}
+use mathlib.Core.List.{List, [], _∷_, List·Memᴰ}
+use lib.ListN.{length}
+use Rattle.refusal.specs.Check.{Check, answer}
+use Rattle.sas.specs.Task.{State}
+use Rattle.sas.specs.Plan.{satisfies, run, Plan, Stuck}
+use Rattle.reduction.specs.Reduction.{Reduction, keeps}
+use Rattle.reduction.specs.Minimal.{First-difference, Minimal-reduction}
+use Rattle.mask.specs.Mask.{mask-words}
+use Rattle.sheet.specs.Decode.{initial, goal, task}
+use Rattle.sheet.specs.Causes.{Accepted}
+use Rattle.plan.specs.Valid.{steps}
+use Rattle.plan.specs.Checked.{plan-checks, lodged-tally}
+use Rattle.service.specs.Reduced.{reduction-checks, tally-left}
+use Rattle.landmark.specs.Marks.{marks}
+use Rattle.elimination.specs.Eliminations.{elimination-of, greedy-elimination-of}
+use Rattle.minimal.specs.Minimised.{most-unmarked, minimal-checks, minimal-of}
+use Rattle.minimal.specs.Statement.{Is-marked, Valid-striking}
+use Rattle.starred.specs.Sheets.{sheet-p, gate-alone, two-writers, one-for-both}
+
+-- the three ways of striking
+pub data Way : Type 0 where
+  elimination : Way
+  greedily : Way
+  minimally : Way
+
+abbrev pub all-three : List Way
+all-three = elimination ∷ greedily ∷ minimally ∷ []
+
+-- what document 01 says of a list
+pub data Claim : Type 0 where
+  -- it is valid, at this price with so many steps
+  valid-at : ℕ → ℕ → Claim
+  -- these positions are marked, and no others; the words of the mask
+  marked-at : List ℕ → List ℕ → Claim
+  -- each of these ways keeps these positions, and no others, at this price; the words of the mask
+  keep : List Way → List ℕ → ℕ → List ℕ → Claim
+  -- to keep these positions is valid at this price, and loses at this position
+  loses-at : List ℕ → ℕ → ℕ → Claim
+  -- it is refused by number 11, at this place
+  refused-at : ℕ → Claim
+
+-- the words of a sheet, a list, and what is said of it
+pub record Row : Type 0 where
+  pub sheet : List ℕ
+  pub list : List ℕ
+  pub says : List Claim
+
+-- each element of a list passes
+abbrev pub Each : {A : Type 0} → (A → Type 0) → List A → Type 0
+Each P [] = Unit
+Each P (a ∷ l) = P a × Each P l
+
+-- of the steps just those at these positions pass; the step at index i stands at position i + 1
+abbrev pub Just-at : List ℕ → (ℕ → Type 0) → Type 0
+Just-at positions P = (i : ℕ) → P i ↔ List·Memᴰ (i + 1) positions
+
+-- of the list l of the sheet w
+module _ (w l : List ℕ) where
+  -- what a way of striking leaves
+  abbrev pub left : Way → Reduction
+  left elimination = elimination-of w l
+  left greedily = greedy-elimination-of w l
+  left minimally = minimal-of w l
+
+  -- the checks of its service, with an output as long as the list
+  abbrev pub checks-of : Way → List Check
+  checks-of elimination = reduction-checks w l (length l)
+  checks-of greedily = reduction-checks w l (length l)
+  checks-of minimally = minimal-checks most-unmarked w l (length l)
+
+  -- it is valid, and the exact reduction is that of document 01's rule
+  abbrev pub By-rule : Way → Type 0
+  By-rule elimination = Valid-striking w l (elimination-of w l)
+  By-rule greedily = Valid-striking w l (greedy-elimination-of w l)
+  By-rule minimally = Minimal-reduction (initial w) (goal w) (steps w l) (minimal-of w l)
+
+  -- a way of striking answers, and keeps just these positions, at this price, told by these words
+  pub record Keeps-at (positions : List ℕ) (price : ℕ) (words : List ℕ) (way : Way) : Type 0 where
+    pub answers : answer (checks-of way) ≡ none
+    pub by-rule : By-rule way
+    pub just : Just-at positions (keeps (left way))
+    pub tally : tally-left w l (left way) ≡ record { cost = price; steps = length positions }
+    pub mask : mask-words (left way) ≡ words
+
+  -- a valid reduction m that keeps just these positions has the price and the steps of the exact reduction, and keeps
+  -- the step at index i, the first at which the two differ
+  pub record Loses (positions : List ℕ) (price : ℕ) (m : Reduction) (i : ℕ) : Type 0 where
+    pub just : Just-at positions (keeps m)
+    pub valid : Valid-striking w l m
+    pub tally : tally-left w l m ≡ record { cost = price; steps = length positions }
+    pub same-tally : tally-left w l m ≡ tally-left w l (minimal-of w l)
+    pub difference : First-difference (minimal-of w l) m i
+    pub kept-there : keeps m i
+
+  -- the list runs to a state in which the goal does not hold
+  pub record Goal-unmet : Type 0 where
+    pub end : State
+    pub reached : run (initial w) (steps w l) ≡ some end
+    pub unmet : satisfies end (goal w) ≡ false
+
+  -- the list is not valid in SAS+'s words: the step at this place is the first that can't be done, or the place is one
+  -- past the last step and the goal is unmet
+  abbrev pub Invalid-at : ℕ → Type 0
+  Invalid-at place = Stuck (initial w) (steps w l) place ⊎ ((place ≡ length l + 1) × Goal-unmet)
+
+  -- what is said holds
+  abbrev pub Holds : Claim → Type 0
+  Holds (valid-at price n) =
+      (answer (plan-checks w l) ≡ none) × Plan (task w) (steps w l)
+      × (lodged-tally w l ≡ record { cost = price; steps = n })
+  Holds (marked-at positions words) = Just-at positions (Is-marked w l) × (mask-words (marks w l) ≡ words)
+  Holds (keep ways positions price words) = Each (Keeps-at positions price words) ways
+  Holds (loses-at positions price place) =
+      (m : Reduction) × (i : ℕ) × (place ≡ i + 1) × Loses positions price m i
+  Holds (refused-at place) =
+      (answer (plan-checks w l) ≡ some (record { number = 11; place = place })) × Invalid-at place
+
+-- a row holds: its sheet is accepted, and all that is said of its list holds
+abbrev pub Row-holds : Row → Type 0
+Row-holds r = Accepted (r .sheet) × Each (Holds (r .sheet) (r .list)) (r .says)
+
+-- the words of a mask that has ones in its first word alone
+abbrev pub words : ℕ → List ℕ
+words first = first ∷ 0 ∷ 0 ∷ 0 ∷ []
+
+abbrev pub list-1 : List ℕ
+list-1 = 3 ∷ 0 ∷ 2 ∷ 0 ∷ 1 ∷ 2 ∷ []
+
+-- worked list 1
+abbrev pub row-1 : Row
+row-1 = record { sheet = sheet-p; list = list-1; says = valid-at 23 6 ∷ marked-at (5 ∷ []) (words 16) ∷ [] }
+
+-- worked list 2
+abbrev pub row-2 : Row
+row-2 =
+    record {
+      sheet = sheet-p;
+      list = list-1;
+      says = keep all-three (4 ∷ 5 ∷ 6 ∷ []) 12 (words 56) ∷ loses-at (2 ∷ 5 ∷ 6 ∷ []) 12 2 ∷ [];
+    }
+
+-- worked list 3
+abbrev pub row-3 : Row
+row-3 =
+    record {
+      sheet = sheet-p;
+      list = 0 ∷ 1 ∷ 2 ∷ [];
+      says = marked-at (1 ∷ 2 ∷ []) (words 3) ∷ keep all-three (1 ∷ 2 ∷ 3 ∷ []) 12 (words 7) ∷ [];
+    }
+
+-- worked list 4
+abbrev pub row-4 : Row
+row-4 = record { sheet = sheet-p; list = []; says = refused-at 1 ∷ [] }
+
+-- worked list 5
+abbrev pub row-5 : Row
+row-5 = record { sheet = sheet-p; list = 0 ∷ 0 ∷ []; says = refused-at 2 ∷ [] }
+
+-- worked list 6
+abbrev pub row-6 : Row
+row-6 = record { sheet = sheet-p; list = 0 ∷ 1 ∷ []; says = refused-at 3 ∷ [] }
+
+-- worked list 7
+abbrev pub row-7 : Row
+row-7 =
+    record {
+      sheet = two-writers;
+      list = 0 ∷ 1 ∷ [];
+      says = keep (elimination ∷ []) (2 ∷ []) 9 (words 2) ∷ keep (greedily ∷ minimally ∷ []) (1 ∷ []) 1 (words 1) ∷ [];
+    }
+
+-- worked list 8
+abbrev pub row-8 : Row
+row-8 =
+    record {
+      sheet = one-for-both;
+      list = 0 ∷ 1 ∷ 2 ∷ [];
+      says = keep (greedily ∷ []) (1 ∷ 3 ∷ []) 8 (words 5) ∷ keep (minimally ∷ []) (2 ∷ []) 6 (words 2) ∷ [];
+    }
+
+-- worked list 9
+abbrev pub row-9 : Row
+row-9 = record { sheet = gate-alone; list = 0 ∷ 2 ∷ []; says = keep all-three [] 0 (words 0) ∷ [] }
+
+abbrev pub rows : List Row
+rows = row-1 ∷ row-2 ∷ row-3 ∷ row-4 ∷ row-5 ∷ row-6 ∷ row-7 ∷ row-8 ∷ row-9 ∷ []
