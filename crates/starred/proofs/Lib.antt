@@ -4,3 +4,7 @@ pub mod RowLaws
 pub mod RefusalTheorem
 -- Starred: what document 01 says of each worked list that carries a star.
 pub mod Starred
+-- DemandMet: the premises of demand 3 hold of sheet P and worked list 1.
+pub mod DemandMet
+-- SheetP: sheet P and its task, computed.
+pub mod SheetP

@@ -15,28 +15,28 @@ pub _also_ : {A B : Type 0} → A → B → A × B
 x also y = (x, y)
 
 -- the positions of the kept steps, where the first stands at k
-unfoldable pub positions : ℕ → Reduction → List ℕ
-positions k [] = []
-positions k (true ∷ m) = k ∷ positions (suc k) m
-positions k (false ∷ m) = positions (suc k) m
+unfoldable pub positions-from : ℕ → Reduction → List ℕ
+positions-from k [] = []
+positions-from k (true ∷ m) = k ∷ positions-from (suc k) m
+positions-from k (false ∷ m) = positions-from (suc k) m
 
-kept-listed : (k : ℕ) (m : Reduction) (i : ℕ) → keeps m i → List·Memᴰ (i + k) (positions k m)
-unfolding positions
+kept-listed : (k : ℕ) (m : Reduction) (i : ℕ) → keeps m i → List·Memᴰ (i + k) (positions-from k m)
+unfolding positions-from
 kept-listed k [] i h = absurd (false≢true h)
 kept-listed k (true ∷ m) zero h = List·Memᴰ·head (zero-add k)
 kept-listed k (false ∷ m) zero h = absurd (false≢true h)
 kept-listed k (true ∷ m) (suc i) h = List·Memᴰ·tail (Memᴰ·cast (omega arith) (kept-listed (suc k) m i h))
 kept-listed k (false ∷ m) (suc i) h = Memᴰ·cast (omega arith) (kept-listed (suc k) m i h)
 
-listed-past : {j : ℕ} (k : ℕ) (m : Reduction) → List·Memᴰ j (positions k m) → k ≤ j
-unfolding positions
+listed-past : {j : ℕ} (k : ℕ) (m : Reduction) → List·Memᴰ j (positions-from k m) → k ≤ j
+unfolding positions-from
 listed-past k [] d = absurd (List·Memᴰ·not-nil d)
 listed-past k (true ∷ m) (List·Memᴰ·head e) = omega arith
 listed-past k (true ∷ m) (List·Memᴰ·tail d) = omega (arith, listed-past (suc k) m d)
 listed-past k (false ∷ m) d = omega (arith, listed-past (suc k) m d)
 
-listed-kept : (k : ℕ) (m : Reduction) (i : ℕ) → List·Memᴰ (i + k) (positions k m) → keeps m i
-unfolding positions
+listed-kept : (k : ℕ) (m : Reduction) (i : ℕ) → List·Memᴰ (i + k) (positions-from k m) → keeps m i
+unfolding positions-from
 listed-kept k [] i d = absurd (List·Memᴰ·not-nil d)
 listed-kept k (true ∷ m) zero d = refl
 listed-kept k (false ∷ m) zero d = absurd (omega (arith, listed-past (suc k) m d))
@@ -45,5 +45,5 @@ listed-kept k (true ∷ m) (suc i) (List·Memᴰ·tail d) = listed-kept (suc k) 
 listed-kept k (false ∷ m) (suc i) d = listed-kept (suc k) m i (Memᴰ·cast (omega arith) d)
 
 -- a reduction keeps just the steps at its positions
-pub kept-just : (m : Reduction) → Just-at (positions 1 m) (keeps m)
+pub kept-just : (m : Reduction) → Just-at (positions-from 1 m) (keeps m)
 kept-just m i = (kept-listed 1 m i, listed-kept 1 m i)

@@ -35,68 +35,85 @@ use Rattle.elimination.specs.Eliminations.{elimination-of, greedy-elimination-o
 use Rattle.minimal.specs.Minimised.{unmarked-checks, minimal-checks, minimal-of}
 use Rattle.minimal.specs.Statement.{Is-marked, Valid-striking}
 use Rattle.starred.specs.Sheets.{sheet-p, gate-alone, two-writers, one-for-both}
-use Rattle.starred.specs.Rows.{Way, Each, Just-at, left, checks-of, By-rule, Keeps-at, Loses, Holds, Row-holds, list-1, rows}
+use Rattle.starred.specs.Rows.{Way, Each, Just-at, struck-by, checks-of, By-rule, Keeps-at, Loses, Holds, Row-holds, list-1, rows}
 use Rattle.starred.specs.Rows.Way.{elimination, greedily, minimally}
 use Rattle.starred.specs.Rows.Claim.{valid-at, refused-at}
-use Rattle.starred.proofs.RowLaws.{_also_, positions, kept-just}
+use Rattle.starred.proofs.RowLaws.{_also_, positions-from, kept-just}
 
 module _ (w l : List ℕ) where
-  passes : {price n : ℕ} → answer (plan-checks w l) ≡ none → lodged-tally w l ≡ record { cost = price; steps = n } → Holds w l (valid-at price n)
-  passes passed tally = (passed, passes-exactly w l .0 passed .1, tally)
+  valid-truly : {price n : ℕ} → answer (plan-checks w l) ≡ none → lodged-tally w l ≡ record { cost = price; steps = n } → Holds w l (valid-at price n)
+  valid-truly passed tally = (passed, passes-exactly w l .0 passed .1, tally)
 
-  fails : {k : ℕ} → answer (read-checks most-steps w l) ≡ none → answer (plan-checks w l) ≡ some (record { number = 11; place = k })
+  refused-truly : {k : ℕ} → answer (read-checks most-steps w l) ≡ none → answer (plan-checks w l) ≡ some (record { number = 11; place = k })
       → Holds w l (refused-at k)
-  fails read told =
-      (told, ⊎-elim
-      (λ stuck. inl stuck)
-      (λ (past, unmet). inr (past, record { end = unmet .end; reached = unmet .reached; unmet = unmet .goal-fails }))
-      (plan-theorem w l (read-readable most-steps w l read) .first-failing _ told .1))
+  refused-truly read told = (
+    told,
+    ⊎-elim
+        (λ stuck. inl stuck)
+        (λ (past, unmet). inr (past, record { end = unmet .end; reached = unmet .reached; unmet = unmet .goal-fails }))
+        (plan-theorem w l (read-readable most-steps w l read) .first-failing _ told .1),
+  )
 
-  marks-just : Just-at (positions 1 (marks w l)) (Is-marked w l)
+  marks-just : Just-at (positions-from 1 (marks w l)) (Is-marked w l)
   marks-just i =
       let (to, from) = marks-theorem w l i in
       let (listed, flagged) = kept-just (marks w l) i in
       (λ m. listed (from m), λ d. to (flagged d))
 
-  strikes : (way : Way) → valid (initial w) (goal w) (steps w l) ≡ true → By-rule w l way
-  strikes elimination v = eliminate-shortens (initial w) (goal w) (steps w l) v .reduction
-  strikes greedily v = greedy-shortens (initial w) (goal w) (steps w l) v .reduction
-  strikes minimally v = minimal-found (meets (goal w)) (initial w) (steps w l) v
+  way-by-rule : (way : Way) → valid (initial w) (goal w) (steps w l) ≡ true → By-rule w l way
+  way-by-rule elimination v = eliminate-shortens (initial w) (goal w) (steps w l) v .reduction
+  way-by-rule greedily v = greedy-shortens (initial w) (goal w) (steps w l) v .reduction
+  way-by-rule minimally v = minimal-found (meets (goal w)) (initial w) (steps w l) v
 
   kept-by : {price : ℕ} {words : List ℕ} (way : Way) → answer (checks-of w l way) ≡ none → valid (initial w) (goal w) (steps w l) ≡ true
-      → tally-left w l (left w l way) ≡ record { cost = price; steps = length (positions 1 (left w l way)) } → mask-words (left w l way) ≡ words
-      → Keeps-at w l (positions 1 (left w l way)) price words way
+      → tally-left w l (struck-by w l way) ≡ record { cost = price; steps = length (positions-from 1 (struck-by w l way)) } → mask-words (struck-by w l way) ≡ words
+      → Keeps-at w l (positions-from 1 (struck-by w l way)) price words way
   kept-by way answers v tally mask =
-      record { answers = answers; by-rule = strikes way v; just = kept-just (left w l way); tally = tally; mask = mask }
+      record { answers = answers; by-rule = way-by-rule way v; just = kept-just (struck-by w l way); tally = tally; mask = mask }
 
 -- what document 01 says of each list holds
 pub starred : Each Row-holds rows
-unfolding answer sheet-checks bad-length bad-edition bad-counts due wrong-size bad-pair pair-place bad-variable variable-place bad-fact group-place action-place fact-place cost-place first first-of first-of-next table facts initial goal action fault unknown-place list-checks read-checks valid-checks lodged-checks room-checks unmarked-checks minimal-checks holds first-failing satisfies applicable assign apply written needed result run cost kept count valid-for lower walk after trial eliminated eliminate better best rounds greedy found minimal some-fact same-fact has wanted landmarks-behind landmarks marks positions binary words-of mask-words
+unfolding answer sheet-checks bad-length bad-edition bad-counts due wrong-size bad-pair pair-place bad-variable variable-place bad-fact group-place action-place fact-place cost-place first first-of first-of-next table facts initial goal action fault unknown-place list-checks read-checks valid-checks lodged-checks room-checks unmarked-checks minimal-checks holds first-failing satisfies applicable assign apply written needed result run cost kept count valid-for lower walk after trial eliminated eliminate better best rounds greedy found minimal some-fact same-fact has wanted landmarks-behind landmarks marks positions-from binary words-of mask-words
 starred =
-    (refl, passes sheet-p list-1 refl refl also (marks-just sheet-p list-1, refl) also tt)
-    also (refl, (kept-by sheet-p list-1 elimination refl refl refl refl also kept-by sheet-p list-1 greedily refl refl refl refl also kept-by sheet-p list-1 minimally refl refl refl refl also tt)
-    also (keeps-2-5-6, 1, refl, lost)
-    also tt)
-    also (refl, (marks-just sheet-p (0 ∷ 1 ∷ 2 ∷ []), refl)
-    also (kept-by sheet-p (0 ∷ 1 ∷ 2 ∷ []) elimination refl refl refl refl
-    also kept-by sheet-p (0 ∷ 1 ∷ 2 ∷ []) greedily refl refl refl refl
-    also kept-by sheet-p (0 ∷ 1 ∷ 2 ∷ []) minimally refl refl refl refl
-    also tt)
-    also tt)
-    also (refl, fails sheet-p [] refl refl also tt)
-    also (refl, fails sheet-p (0 ∷ 0 ∷ []) refl refl also tt)
-    also (refl, fails sheet-p (0 ∷ 1 ∷ []) refl refl also tt)
-    also (refl, (kept-by two-writers (0 ∷ 1 ∷ []) elimination refl refl refl refl also tt)
-    also (kept-by two-writers (0 ∷ 1 ∷ []) greedily refl refl refl refl also kept-by two-writers (0 ∷ 1 ∷ []) minimally refl refl refl refl also tt)
-    also tt)
-    also (refl, (kept-by one-for-both (0 ∷ 1 ∷ 2 ∷ []) greedily refl refl refl refl also tt)
-    also (kept-by one-for-both (0 ∷ 1 ∷ 2 ∷ []) minimally refl refl refl refl also tt)
-    also tt)
-    also (refl, (kept-by gate-alone (0 ∷ 2 ∷ []) elimination refl refl refl refl
-    also kept-by gate-alone (0 ∷ 2 ∷ []) greedily refl refl refl refl
-    also kept-by gate-alone (0 ∷ 2 ∷ []) minimally refl refl refl refl
-    also tt)
-    also tt)
+    (refl, valid-truly sheet-p list-1 refl refl also (marks-just sheet-p list-1, refl) also tt)
+    also (
+      refl,
+      (kept-by sheet-p list-1 elimination refl refl refl refl also kept-by sheet-p list-1 greedily refl refl refl refl also kept-by sheet-p list-1 minimally refl refl refl refl also tt)
+          also (keeps-2-5-6, 1, refl, lost)
+          also tt,
+    )
+    also (
+      refl,
+      (marks-just sheet-p (0 ∷ 1 ∷ 2 ∷ []), refl)
+          also (kept-by sheet-p (0 ∷ 1 ∷ 2 ∷ []) elimination refl refl refl refl
+          also kept-by sheet-p (0 ∷ 1 ∷ 2 ∷ []) greedily refl refl refl refl
+          also kept-by sheet-p (0 ∷ 1 ∷ 2 ∷ []) minimally refl refl refl refl
+          also tt)
+          also tt,
+    )
+    also (refl, refused-truly sheet-p [] refl refl also tt)
+    also (refl, refused-truly sheet-p (0 ∷ 0 ∷ []) refl refl also tt)
+    also (refl, refused-truly sheet-p (0 ∷ 1 ∷ []) refl refl also tt)
+    also (
+      refl,
+      (kept-by two-writers (0 ∷ 1 ∷ []) elimination refl refl refl refl also tt)
+          also (kept-by two-writers (0 ∷ 1 ∷ []) greedily refl refl refl refl also kept-by two-writers (0 ∷ 1 ∷ []) minimally refl refl refl refl also tt)
+          also tt,
+    )
+    also (
+      refl,
+      (kept-by one-for-both (0 ∷ 1 ∷ 2 ∷ []) greedily refl refl refl refl also tt)
+          also (kept-by one-for-both (0 ∷ 1 ∷ 2 ∷ []) minimally refl refl refl refl also tt)
+          also tt,
+    )
+    also (
+      refl,
+      (kept-by gate-alone (0 ∷ 2 ∷ []) elimination refl refl refl refl
+          also kept-by gate-alone (0 ∷ 2 ∷ []) greedily refl refl refl refl
+          also kept-by gate-alone (0 ∷ 2 ∷ []) minimally refl refl refl refl
+          also tt)
+          also tt,
+    )
     also tt
   where
     keeps-2-5-6 : Reduction

@@ -65,10 +65,10 @@ Just-at positions P = (i : ℕ) → P i ↔ List·Memᴰ (i + 1) positions
 -- of the list l of the sheet w
 module _ (w l : List ℕ) where
   -- what a way of striking leaves
-  abbrev pub left : Way → Reduction
-  left elimination = elimination-of w l
-  left greedily = greedy-elimination-of w l
-  left minimally = minimal-of w l
+  abbrev pub struck-by : Way → Reduction
+  struck-by elimination = elimination-of w l
+  struck-by greedily = greedy-elimination-of w l
+  struck-by minimally = minimal-of w l
 
   -- the checks of its service, with an output as long as the list
   abbrev pub checks-of : Way → List Check
@@ -86,9 +86,9 @@ module _ (w l : List ℕ) where
   pub record Keeps-at (positions : List ℕ) (price : ℕ) (words : List ℕ) (way : Way) : Type 0 where
     pub answers : answer (checks-of way) ≡ none
     pub by-rule : By-rule way
-    pub just : Just-at positions (keeps (left way))
-    pub tally : tally-left w l (left way) ≡ record { cost = price; steps = length positions }
-    pub mask : mask-words (left way) ≡ words
+    pub just : Just-at positions (keeps (struck-by way))
+    pub tally : tally-left w l (struck-by way) ≡ record { cost = price; steps = length positions }
+    pub mask : mask-words (struck-by way) ≡ words
 
   -- a valid reduction m that keeps just these positions has the price and the steps of the exact reduction, and keeps
   -- the step at index i, the first at which the two differ
@@ -128,15 +128,15 @@ abbrev pub Row-holds : Row → Type 0
 Row-holds r = Accepted (r .sheet) × Each (Holds (r .sheet) (r .list)) (r .says)
 
 -- the words of a mask that has ones in its first word alone
-abbrev pub words : ℕ → List ℕ
-words first = first ∷ 0 ∷ 0 ∷ 0 ∷ []
+abbrev pub in-first-word : ℕ → List ℕ
+in-first-word first = first ∷ 0 ∷ 0 ∷ 0 ∷ []
 
 abbrev pub list-1 : List ℕ
 list-1 = 3 ∷ 0 ∷ 2 ∷ 0 ∷ 1 ∷ 2 ∷ []
 
 -- worked list 1
 abbrev pub row-1 : Row
-row-1 = record { sheet = sheet-p; list = list-1; says = valid-at 23 6 ∷ marked-at (5 ∷ []) (words 16) ∷ [] }
+row-1 = record { sheet = sheet-p; list = list-1; says = valid-at 23 6 ∷ marked-at (5 ∷ []) (in-first-word 16) ∷ [] }
 
 -- worked list 2
 abbrev pub row-2 : Row
@@ -144,7 +144,7 @@ row-2 =
     record {
       sheet = sheet-p;
       list = list-1;
-      says = keep all-three (4 ∷ 5 ∷ 6 ∷ []) 12 (words 56) ∷ loses-at (2 ∷ 5 ∷ 6 ∷ []) 12 2 ∷ [];
+      says = keep all-three (4 ∷ 5 ∷ 6 ∷ []) 12 (in-first-word 56) ∷ loses-at (2 ∷ 5 ∷ 6 ∷ []) 12 2 ∷ [];
     }
 
 -- worked list 3
@@ -153,7 +153,7 @@ row-3 =
     record {
       sheet = sheet-p;
       list = 0 ∷ 1 ∷ 2 ∷ [];
-      says = marked-at (1 ∷ 2 ∷ []) (words 3) ∷ keep all-three (1 ∷ 2 ∷ 3 ∷ []) 12 (words 7) ∷ [];
+      says = marked-at (1 ∷ 2 ∷ []) (in-first-word 3) ∷ keep all-three (1 ∷ 2 ∷ 3 ∷ []) 12 (in-first-word 7) ∷ [];
     }
 
 -- worked list 4
@@ -174,7 +174,7 @@ row-7 =
     record {
       sheet = two-writers;
       list = 0 ∷ 1 ∷ [];
-      says = keep (elimination ∷ []) (2 ∷ []) 9 (words 2) ∷ keep (greedily ∷ minimally ∷ []) (1 ∷ []) 1 (words 1) ∷ [];
+      says = keep (elimination ∷ []) (2 ∷ []) 9 (in-first-word 2) ∷ keep (greedily ∷ minimally ∷ []) (1 ∷ []) 1 (in-first-word 1) ∷ [];
     }
 
 -- worked list 8
@@ -183,12 +183,12 @@ row-8 =
     record {
       sheet = one-for-both;
       list = 0 ∷ 1 ∷ 2 ∷ [];
-      says = keep (greedily ∷ []) (1 ∷ 3 ∷ []) 8 (words 5) ∷ keep (minimally ∷ []) (2 ∷ []) 6 (words 2) ∷ [];
+      says = keep (greedily ∷ []) (1 ∷ 3 ∷ []) 8 (in-first-word 5) ∷ keep (minimally ∷ []) (2 ∷ []) 6 (in-first-word 2) ∷ [];
     }
 
 -- worked list 9
 abbrev pub row-9 : Row
-row-9 = record { sheet = gate-alone; list = 0 ∷ 2 ∷ []; says = keep all-three [] 0 (words 0) ∷ [] }
+row-9 = record { sheet = gate-alone; list = 0 ∷ 2 ∷ []; says = keep all-three [] 0 (in-first-word 0) ∷ [] }
 
 abbrev pub rows : List Row
 rows = row-1 ∷ row-2 ∷ row-3 ∷ row-4 ∷ row-5 ∷ row-6 ∷ row-7 ∷ row-8 ∷ row-9 ∷ []
