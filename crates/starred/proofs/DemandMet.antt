@@ -31,7 +31,7 @@ use Rattle.starred.proofs.Starred.{starred}
 module _ (before : List ℕ) (six : length before ≡ 6) where
   pub premises-met : Readable sheet-p list-1 × Plan (task sheet-p) (steps sheet-p list-1) × (length list-1 ≤ length before)
   premises-met =
-      let (readable, plan) = passes-exactly sheet-p list-1 .0 (starred .0 .1 .0 .0) in
+      let (readable, plan) = passes-exactly sheet-p list-1 .0 (starred .0 .1 .0) in
       (readable, plan, omega arith)
 
   module _ (given : Answer) (mask after : List ℕ) (demand : Demand-three most-unmarked sheet-p list-1 before given mask after) where

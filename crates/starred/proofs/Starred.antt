@@ -1,7 +1,7 @@
 -- The worked lists of document 01 that carry a star: what it says of each holds. By computing what the definitions give from the words of the sheets; what is
 -- told by a rule follows by the theorem that ties the rule to what is computed: `passes-exactly` for plans, `first-failing` for lists that are none,
 -- `marks-theorem` for marks, `minimal-found` for the minimal reduction. Assumes nothing.
-use Prim.Native.Nat.{ℕ, zero, suc, _+_}
+use Prim.Native.Nat.{ℕ, zero, suc}
 use native.Mathlib.Omega.{arith}
 use mathlib.Core.Path.{_≡_, refl}
 use mathlib.Core.Logic.{inl, inr, ⊎-elim}
@@ -11,18 +11,17 @@ use mathlib.Core.List.{List, [], _∷_}
 use lib.ListN.{length}
 use Rattle.refusal.specs.Place.{first-of-next, first-of, first}
 use Rattle.refusal.specs.Check.{answer}
-use Rattle.sas.specs.Plan.{holds, first-failing, satisfies, applicable, assign, apply, written, needed, result, run, cost, Plan}
+use Rattle.sas.specs.Plan.{holds, first-failing, satisfies, applicable, assign, apply, written, needed, result, run, cost}
 use Rattle.reduction.specs.Reduction.{Reduction, kept, count, valid-for, valid, lower, meets}
 use Rattle.reduction.specs.Elimination.{walk, after, trial, eliminated, eliminate, better, best, rounds, greedy}
-use Rattle.reduction.specs.Minimal.{Minimal-reduction}
 use Rattle.reduction.specs.between.Wanted.{some-fact, same-fact, has, wanted}
 use Rattle.reduction.specs.between.Landmarks.{landmarks-behind, landmarks}
 use Rattle.reduction.specs.between.Found.{found, minimal}
 use Rattle.reduction.proofs.EliminationTheorem.{eliminate-shortens, greedy-shortens}
 use Rattle.reduction.proofs.MinimalTheorem.{minimal-found}
 use Rattle.mask.specs.Mask.{binary, words-of, mask-words}
-use Rattle.sheet.specs.Decode.{table, facts, initial, goal, action, task}
-use Rattle.sheet.specs.Causes.{bad-length, bad-edition, bad-counts, due, wrong-size, bad-pair, pair-place, bad-variable, variable-place, bad-fact, group-place, action-place, fact-place, cost-place, sheet-checks, Accepted}
+use Rattle.sheet.specs.Decode.{table, facts, initial, goal, action}
+use Rattle.sheet.specs.Causes.{bad-length, bad-edition, bad-counts, due, wrong-size, bad-pair, pair-place, bad-variable, variable-place, bad-fact, group-place, action-place, fact-place, cost-place, sheet-checks}
 use Rattle.plan.specs.Limits.{most-steps}
 use Rattle.plan.specs.Valid.{steps, fault}
 use Rattle.plan.specs.Checked.{unknown-place, list-checks, read-checks, valid-checks, lodged-checks, plan-checks, lodged-tally}
@@ -31,9 +30,8 @@ use Rattle.plan.proofs.PlanTheorem.{plan-theorem, passes-exactly}
 use Rattle.service.specs.Reduced.{room-checks, tally-left}
 use Rattle.landmark.specs.Marks.{marks}
 use Rattle.landmark.proofs.MarkTheorem.{marks-theorem}
-use Rattle.elimination.specs.Eliminations.{elimination-of, greedy-elimination-of}
-use Rattle.minimal.specs.Minimised.{unmarked-checks, minimal-checks, minimal-of}
-use Rattle.minimal.specs.Statement.{Is-marked, Valid-striking}
+use Rattle.minimal.specs.Minimised.{unmarked-checks, minimal-checks}
+use Rattle.minimal.specs.Statement.{Is-marked}
 use Rattle.starred.specs.Sheets.{sheet-p, gate-alone, two-writers, one-for-both}
 use Rattle.starred.specs.Rows.{Way, Each, Just-at, struck-by, checks-of, By-rule, Keeps-at, Loses, Holds, Row-holds, list-1, rows}
 use Rattle.starred.specs.Rows.Way.{elimination, greedily, minimally}
@@ -75,43 +73,36 @@ module _ (w l : List ℕ) where
 pub starred : Each Row-holds rows
 unfolding answer sheet-checks bad-length bad-edition bad-counts due wrong-size bad-pair pair-place bad-variable variable-place bad-fact group-place action-place fact-place cost-place first first-of first-of-next table facts initial goal action fault unknown-place list-checks read-checks valid-checks lodged-checks room-checks unmarked-checks minimal-checks holds first-failing satisfies applicable assign apply written needed result run cost kept count valid-for lower walk after trial eliminated eliminate better best rounds greedy found minimal some-fact same-fact has wanted landmarks-behind landmarks marks positions-from binary words-of mask-words
 starred =
-    (refl, valid-truly sheet-p list-1 refl refl also (marks-just sheet-p list-1, refl) also tt)
+    (refl, valid-truly sheet-p list-1 refl refl)
+    also (refl, (marks-just sheet-p list-1, refl))
     also (
       refl,
-      (kept-by sheet-p list-1 elimination refl refl refl refl also kept-by sheet-p list-1 greedily refl refl refl refl also kept-by sheet-p list-1 minimally refl refl refl refl also tt)
-          also (keeps-2-5-6, 1, refl, lost)
+      kept-by sheet-p list-1 elimination refl refl refl refl
+          also kept-by sheet-p list-1 greedily refl refl refl refl
+          also kept-by sheet-p list-1 minimally refl refl refl refl
           also tt,
     )
+    also (refl, (keeps-2-5-6, 1, refl, lost))
+    also (refl, (marks-just sheet-p (0 ∷ 1 ∷ 2 ∷ []), refl))
     also (
       refl,
-      (marks-just sheet-p (0 ∷ 1 ∷ 2 ∷ []), refl)
-          also (kept-by sheet-p (0 ∷ 1 ∷ 2 ∷ []) elimination refl refl refl refl
+      kept-by sheet-p (0 ∷ 1 ∷ 2 ∷ []) elimination refl refl refl refl
           also kept-by sheet-p (0 ∷ 1 ∷ 2 ∷ []) greedily refl refl refl refl
           also kept-by sheet-p (0 ∷ 1 ∷ 2 ∷ []) minimally refl refl refl refl
-          also tt)
           also tt,
     )
-    also (refl, refused-truly sheet-p [] refl refl also tt)
-    also (refl, refused-truly sheet-p (0 ∷ 0 ∷ []) refl refl also tt)
-    also (refl, refused-truly sheet-p (0 ∷ 1 ∷ []) refl refl also tt)
+    also (refl, refused-truly sheet-p [] refl refl)
+    also (refl, refused-truly sheet-p (0 ∷ 0 ∷ []) refl refl)
+    also (refl, refused-truly sheet-p (0 ∷ 1 ∷ []) refl refl)
+    also (refl, kept-by two-writers (0 ∷ 1 ∷ []) elimination refl refl refl refl also tt)
+    also (refl, kept-by two-writers (0 ∷ 1 ∷ []) greedily refl refl refl refl also kept-by two-writers (0 ∷ 1 ∷ []) minimally refl refl refl refl also tt)
+    also (refl, kept-by one-for-both (0 ∷ 1 ∷ 2 ∷ []) greedily refl refl refl refl also tt)
+    also (refl, kept-by one-for-both (0 ∷ 1 ∷ 2 ∷ []) minimally refl refl refl refl also tt)
     also (
       refl,
-      (kept-by two-writers (0 ∷ 1 ∷ []) elimination refl refl refl refl also tt)
-          also (kept-by two-writers (0 ∷ 1 ∷ []) greedily refl refl refl refl also kept-by two-writers (0 ∷ 1 ∷ []) minimally refl refl refl refl also tt)
-          also tt,
-    )
-    also (
-      refl,
-      (kept-by one-for-both (0 ∷ 1 ∷ 2 ∷ []) greedily refl refl refl refl also tt)
-          also (kept-by one-for-both (0 ∷ 1 ∷ 2 ∷ []) minimally refl refl refl refl also tt)
-          also tt,
-    )
-    also (
-      refl,
-      (kept-by gate-alone (0 ∷ 2 ∷ []) elimination refl refl refl refl
+      kept-by gate-alone (0 ∷ 2 ∷ []) elimination refl refl refl refl
           also kept-by gate-alone (0 ∷ 2 ∷ []) greedily refl refl refl refl
           also kept-by gate-alone (0 ∷ 2 ∷ []) minimally refl refl refl refl
-          also tt)
           also tt,
     )
     also tt

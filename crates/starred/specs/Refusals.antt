@@ -27,7 +27,8 @@ changed i x = set sheet-p i x
 
 -- a cause of the sheet check, met by P with one word changed
 abbrev pub by-word : ℕ → ℕ → ℕ → ℕ → Cause
-by-word i x number place = record { checks = sheet-checks (changed i x); refusal = record { number = number; place = place } }
+by-word i x number place =
+    record { checks = sheet-checks (changed i x); refusal = record { number = number; place = place } }
 
 -- a cause of the list check, met by a list of P
 abbrev pub by-list : List ℕ → ℕ → ℕ → Cause

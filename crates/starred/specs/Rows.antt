@@ -51,7 +51,7 @@ pub data Claim : Type 0 where
 pub record Row : Type 0 where
   pub sheet : List ℕ
   pub list : List ℕ
-  pub says : List Claim
+  pub claim : Claim
 
 -- each element of a list passes
 abbrev pub Each : {A : Type 0} → (A → Type 0) → List A → Type 0
@@ -123,9 +123,9 @@ module _ (w l : List ℕ) where
   Holds (refused-at place) =
       (answer (plan-checks w l) ≡ some (record { number = 11; place = place })) × Invalid-at place
 
--- a row holds: its sheet is accepted, and all that is said of its list holds
+-- a row holds: its sheet is accepted, and what is said of its list holds
 abbrev pub Row-holds : Row → Type 0
-Row-holds r = Accepted (r .sheet) × Each (Holds (r .sheet) (r .list)) (r .says)
+Row-holds r = Accepted (r .sheet) × Holds (r .sheet) (r .list) (r .claim)
 
 -- the words of a mask that has ones in its first word alone
 abbrev pub in-first-word : ℕ → List ℕ
@@ -134,61 +134,32 @@ in-first-word first = first ∷ 0 ∷ 0 ∷ 0 ∷ []
 abbrev pub list-1 : List ℕ
 list-1 = 3 ∷ 0 ∷ 2 ∷ 0 ∷ 1 ∷ 2 ∷ []
 
--- worked list 1
-abbrev pub row-1 : Row
-row-1 = record { sheet = sheet-p; list = list-1; says = valid-at 23 6 ∷ marked-at (5 ∷ []) (in-first-word 16) ∷ [] }
+abbrev pub row : List ℕ → List ℕ → Claim → Row
+row w l c = record { sheet = w; list = l; claim = c }
 
--- worked list 2
-abbrev pub row-2 : Row
-row-2 =
-    record {
-      sheet = sheet-p;
-      list = list-1;
-      says = keep all-three (4 ∷ 5 ∷ 6 ∷ []) 12 (in-first-word 56) ∷ loses-at (2 ∷ 5 ∷ 6 ∷ []) 12 2 ∷ [];
-    }
-
--- worked list 3
-abbrev pub row-3 : Row
-row-3 =
-    record {
-      sheet = sheet-p;
-      list = 0 ∷ 1 ∷ 2 ∷ [];
-      says = marked-at (1 ∷ 2 ∷ []) (in-first-word 3) ∷ keep all-three (1 ∷ 2 ∷ 3 ∷ []) 12 (in-first-word 7) ∷ [];
-    }
-
--- worked list 4
-abbrev pub row-4 : Row
-row-4 = record { sheet = sheet-p; list = []; says = refused-at 1 ∷ [] }
-
--- worked list 5
-abbrev pub row-5 : Row
-row-5 = record { sheet = sheet-p; list = 0 ∷ 0 ∷ []; says = refused-at 2 ∷ [] }
-
--- worked list 6
-abbrev pub row-6 : Row
-row-6 = record { sheet = sheet-p; list = 0 ∷ 1 ∷ []; says = refused-at 3 ∷ [] }
-
--- worked list 7
-abbrev pub row-7 : Row
-row-7 =
-    record {
-      sheet = two-writers;
-      list = 0 ∷ 1 ∷ [];
-      says = keep (elimination ∷ []) (2 ∷ []) 9 (in-first-word 2) ∷ keep (greedily ∷ minimally ∷ []) (1 ∷ []) 1 (in-first-word 1) ∷ [];
-    }
-
--- worked list 8
-abbrev pub row-8 : Row
-row-8 =
-    record {
-      sheet = one-for-both;
-      list = 0 ∷ 1 ∷ 2 ∷ [];
-      says = keep (greedily ∷ []) (1 ∷ 3 ∷ []) 8 (in-first-word 5) ∷ keep (minimally ∷ []) (2 ∷ []) 6 (in-first-word 2) ∷ [];
-    }
-
--- worked list 9
-abbrev pub row-9 : Row
-row-9 = record { sheet = gate-alone; list = 0 ∷ 2 ∷ []; says = keep all-three [] 0 (in-first-word 0) ∷ [] }
-
+-- the worked lists 1 to 9, in order
 abbrev pub rows : List Row
-rows = row-1 ∷ row-2 ∷ row-3 ∷ row-4 ∷ row-5 ∷ row-6 ∷ row-7 ∷ row-8 ∷ row-9 ∷ []
+rows =
+    -- 1: "valid, price 23; only step 5 marked"
+    row sheet-p list-1 (valid-at 23 6)
+    ∷ row sheet-p list-1 (marked-at (5 ∷ []) (in-first-word 16))
+    -- 2: "elimination, greedy and exact all keep steps 4, 5, 6, price 12, first mask word 56. Keeping 2, 5, 6 also costs
+    -- 12; it loses at step 2"
+    ∷ row sheet-p list-1 (keep all-three (4 ∷ 5 ∷ 6 ∷ []) 12 (in-first-word 56))
+    ∷ row sheet-p list-1 (loses-at (2 ∷ 5 ∷ 6 ∷ []) 12 2)
+    -- 3: "steps 1 and 2 marked; nothing struck"
+    ∷ row sheet-p (0 ∷ 1 ∷ 2 ∷ []) (marked-at (1 ∷ 2 ∷ []) (in-first-word 3))
+    ∷ row sheet-p (0 ∷ 1 ∷ 2 ∷ []) (keep all-three (1 ∷ 2 ∷ 3 ∷ []) 12 (in-first-word 7))
+    -- 4 to 6: "refusal 11", at the places 1, 2 and 3
+    ∷ row sheet-p [] (refused-at 1)
+    ∷ row sheet-p (0 ∷ 0 ∷ []) (refused-at 2)
+    ∷ row sheet-p (0 ∷ 1 ∷ []) (refused-at 3)
+    -- 7: "elimination keeps step 2, price 9; greedy and exact keep step 1, price 1"
+    ∷ row two-writers (0 ∷ 1 ∷ []) (keep (elimination ∷ []) (2 ∷ []) 9 (in-first-word 2))
+    ∷ row two-writers (0 ∷ 1 ∷ []) (keep (greedily ∷ minimally ∷ []) (1 ∷ []) 1 (in-first-word 1))
+    -- 8: "greedy keeps 1 and 3, price 8; exact keeps 2, price 6"
+    ∷ row one-for-both (0 ∷ 1 ∷ 2 ∷ []) (keep (greedily ∷ []) (1 ∷ 3 ∷ []) 8 (in-first-word 5))
+    ∷ row one-for-both (0 ∷ 1 ∷ 2 ∷ []) (keep (minimally ∷ []) (2 ∷ []) 6 (in-first-word 2))
+    -- 9: "all three strike everything"
+    ∷ row gate-alone (0 ∷ 2 ∷ []) (keep all-three [] 0 (in-first-word 0))
+    ∷ []

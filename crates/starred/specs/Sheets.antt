@@ -1,5 +1,5 @@
--- The job sheets of document 01, "Worked lists", as words: the header, the pairs, the domain sizes, the starting values,
--- the goal, and an action to a line. Assumes nothing.
+-- The job sheets of document 01, "Worked lists", as words: the header, the pairs, the domain sizes, the starting
+-- values, the goal, and an action to a line. Assumes nothing.
 use Prim.Native.Nat.{ℕ}
 use mathlib.Core.List.{List, [], _∷_}
 
