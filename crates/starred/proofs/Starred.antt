@@ -48,7 +48,7 @@ module _ (w l : List ℕ) where
     told,
     ⊎-elim
         (λ stuck. inl stuck)
-        (λ (past, unmet). inr (past, record { end = unmet .end; reached = unmet .reached; unmet = unmet .goal-fails }))
+        (λ (past, unmet). inr (unmet .end, unmet .reached, unmet .goal-fails, past))
         (plan-theorem w l (read-readable most-steps w l read) .first-failing _ told .1),
   )
 
@@ -116,7 +116,7 @@ starred =
           just = kept-just keeps-2-5-6;
           valid = record { fits = refl; valid-left = refl };
           tally = refl;
-          same-tally = refl;
+          as-low = refl;
           difference = record { before = λ k. elim k [ zero ↦ λ less. refl | suc k ↦ λ less. absurd (omega arith) ]; here = false≢true };
           kept-there = refl;
         }

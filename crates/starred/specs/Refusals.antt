@@ -38,6 +38,7 @@ by-list l number place = record { checks = plan-checks sheet-p l; refusal = reco
 abbrev pub twenty-lamps : List ℕ
 twenty-lamps = replicate 20 3 ++ (0 ∷ 1 ∷ 2 ∷ [])
 
+-- the causes 1 to 12, in order: of a word changed its index and the new word, then number and place
 abbrev pub causes : List Cause
 causes =
     -- N is not the length

@@ -41,7 +41,7 @@ pub data Claim : Type 0 where
   -- these positions are marked, and no others; the words of the mask
   marked-at : List ℕ → List ℕ → Claim
   -- each of these ways keeps these positions, and no others, at this price; the words of the mask
-  keep : List Way → List ℕ → ℕ → List ℕ → Claim
+  keep-at : List Way → List ℕ → ℕ → List ℕ → Claim
   -- to keep these positions is valid at this price, and loses at this position
   loses-at : List ℕ → ℕ → ℕ → Claim
   -- it is refused by number 11, at this place
@@ -96,20 +96,17 @@ module _ (w l : List ℕ) where
     pub just : Just-at positions (keeps m)
     pub valid : Valid-striking w l m
     pub tally : tally-left w l m ≡ record { cost = price; steps = length positions }
-    pub same-tally : tally-left w l m ≡ tally-left w l (minimal-of w l)
+    pub as-low : tally-left w l m ≡ tally-left w l (minimal-of w l)
     pub difference : First-difference (minimal-of w l) m i
     pub kept-there : keeps m i
 
-  -- the list runs to a state in which the goal does not hold
-  pub record Goal-unmet : Type 0 where
-    pub end : State
-    pub reached : run (initial w) (steps w l) ≡ some end
-    pub unmet : satisfies end (goal w) ≡ false
-
   -- the list is not valid in SAS+'s words: the step at this place is the first that can't be done, or the place is one
-  -- past the last step and the goal is unmet
+  -- past the last step and the list runs to a state in which the goal does not hold
   abbrev pub Invalid-at : ℕ → Type 0
-  Invalid-at place = Stuck (initial w) (steps w l) place ⊎ ((place ≡ length l + 1) × Goal-unmet)
+  Invalid-at place =
+      Stuck (initial w) (steps w l) place
+      ⊎ ((end : State) × (run (initial w) (steps w l) ≡ some end) × (satisfies end (goal w) ≡ false)
+      × (place ≡ length l + 1))
 
   -- what is said holds
   abbrev pub Holds : Claim → Type 0
@@ -117,7 +114,7 @@ module _ (w l : List ℕ) where
       (answer (plan-checks w l) ≡ none) × Plan (task w) (steps w l)
       × (lodged-tally w l ≡ record { cost = price; steps = n })
   Holds (marked-at positions words) = Just-at positions (Is-marked w l) × (mask-words (marks w l) ≡ words)
-  Holds (keep ways positions price words) = Each (Keeps-at positions price words) ways
+  Holds (keep-at ways positions price words) = Each (Keeps-at positions price words) ways
   Holds (loses-at positions price place) =
       (m : Reduction) × (i : ℕ) × (place ≡ i + 1) × Loses positions price m i
   Holds (refused-at place) =
@@ -131,35 +128,37 @@ Row-holds r = Accepted (r .sheet) × Holds (r .sheet) (r .list) (r .claim)
 abbrev pub in-first-word : ℕ → List ℕ
 in-first-word first = first ∷ 0 ∷ 0 ∷ 0 ∷ []
 
+-- the list of the worked lists 1 and 2: lamp, lift, drop, lift, drain, drop
 abbrev pub list-1 : List ℕ
 list-1 = 3 ∷ 0 ∷ 2 ∷ 0 ∷ 1 ∷ 2 ∷ []
 
-abbrev pub row : List ℕ → List ℕ → Claim → Row
-row w l c = record { sheet = w; list = l; claim = c }
+-- one row
+abbrev pub said-of : List ℕ → List ℕ → Claim → Row
+said-of w l c = record { sheet = w; list = l; claim = c }
 
 -- the worked lists 1 to 9, in order
 abbrev pub rows : List Row
 rows =
     -- 1: "valid, price 23; only step 5 marked"
-    row sheet-p list-1 (valid-at 23 6)
-    ∷ row sheet-p list-1 (marked-at (5 ∷ []) (in-first-word 16))
-    -- 2: "elimination, greedy and exact all keep steps 4, 5, 6, price 12, first mask word 56. Keeping 2, 5, 6 also costs
-    -- 12; it loses at step 2"
-    ∷ row sheet-p list-1 (keep all-three (4 ∷ 5 ∷ 6 ∷ []) 12 (in-first-word 56))
-    ∷ row sheet-p list-1 (loses-at (2 ∷ 5 ∷ 6 ∷ []) 12 2)
+    said-of sheet-p list-1 (valid-at 23 6)
+    ∷ said-of sheet-p list-1 (marked-at (5 ∷ []) (in-first-word 16))
+    -- 2: "elimination, greedy and exact all keep steps 4, 5, 6, price 12, first mask word 56. Keeping 2, 5, 6 also
+    -- costs 12; it loses at step 2"
+    ∷ said-of sheet-p list-1 (keep-at all-three (4 ∷ 5 ∷ 6 ∷ []) 12 (in-first-word 56))
+    ∷ said-of sheet-p list-1 (loses-at (2 ∷ 5 ∷ 6 ∷ []) 12 2)
     -- 3: "steps 1 and 2 marked; nothing struck"
-    ∷ row sheet-p (0 ∷ 1 ∷ 2 ∷ []) (marked-at (1 ∷ 2 ∷ []) (in-first-word 3))
-    ∷ row sheet-p (0 ∷ 1 ∷ 2 ∷ []) (keep all-three (1 ∷ 2 ∷ 3 ∷ []) 12 (in-first-word 7))
+    ∷ said-of sheet-p (0 ∷ 1 ∷ 2 ∷ []) (marked-at (1 ∷ 2 ∷ []) (in-first-word 3))
+    ∷ said-of sheet-p (0 ∷ 1 ∷ 2 ∷ []) (keep-at all-three (1 ∷ 2 ∷ 3 ∷ []) 12 (in-first-word 7))
     -- 4 to 6: "refusal 11", at the places 1, 2 and 3
-    ∷ row sheet-p [] (refused-at 1)
-    ∷ row sheet-p (0 ∷ 0 ∷ []) (refused-at 2)
-    ∷ row sheet-p (0 ∷ 1 ∷ []) (refused-at 3)
+    ∷ said-of sheet-p [] (refused-at 1)
+    ∷ said-of sheet-p (0 ∷ 0 ∷ []) (refused-at 2)
+    ∷ said-of sheet-p (0 ∷ 1 ∷ []) (refused-at 3)
     -- 7: "elimination keeps step 2, price 9; greedy and exact keep step 1, price 1"
-    ∷ row two-writers (0 ∷ 1 ∷ []) (keep (elimination ∷ []) (2 ∷ []) 9 (in-first-word 2))
-    ∷ row two-writers (0 ∷ 1 ∷ []) (keep (greedily ∷ minimally ∷ []) (1 ∷ []) 1 (in-first-word 1))
+    ∷ said-of two-writers (0 ∷ 1 ∷ []) (keep-at (elimination ∷ []) (2 ∷ []) 9 (in-first-word 2))
+    ∷ said-of two-writers (0 ∷ 1 ∷ []) (keep-at (greedily ∷ minimally ∷ []) (1 ∷ []) 1 (in-first-word 1))
     -- 8: "greedy keeps 1 and 3, price 8; exact keeps 2, price 6"
-    ∷ row one-for-both (0 ∷ 1 ∷ 2 ∷ []) (keep (greedily ∷ []) (1 ∷ 3 ∷ []) 8 (in-first-word 5))
-    ∷ row one-for-both (0 ∷ 1 ∷ 2 ∷ []) (keep (minimally ∷ []) (2 ∷ []) 6 (in-first-word 2))
+    ∷ said-of one-for-both (0 ∷ 1 ∷ 2 ∷ []) (keep-at (greedily ∷ []) (1 ∷ 3 ∷ []) 8 (in-first-word 5))
+    ∷ said-of one-for-both (0 ∷ 1 ∷ 2 ∷ []) (keep-at (minimally ∷ []) (2 ∷ []) 6 (in-first-word 2))
     -- 9: "all three strike everything"
-    ∷ row gate-alone (0 ∷ 2 ∷ []) (keep all-three [] 0 (in-first-word 0))
+    ∷ said-of gate-alone (0 ∷ 2 ∷ []) (keep-at all-three [] 0 (in-first-word 0))
     ∷ []
