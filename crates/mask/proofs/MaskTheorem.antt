@@ -5,13 +5,13 @@ use native.Mathlib.Nat.{zero-add}
 use native.Mathlib.Omega.{arith}
 use mathlib.Core.Path.{_≡_, refl, _∙_}
 use mathlib.Core.Bool.{Bool, true, false}
-use mathlib.Core.List.{List, [], _∷_, _++_}
+use mathlib.Core.List.{List, _++_}
 use lib.ListN.{length, getD, drop}
 use lib.Seq.{sets, sets-eq, getD-take, getD-drop}
 use lib.Dec.{eqb}
 use Rattle.reduction.specs.Reduction.{Reduction, kept, count}
 use Rattle.reduction.proofs.ReductionLaws.{kept-length}
-use Rattle.mask.specs.Mask.{mask-length, word-bits, mask-bits, digit, binary, words-of, mask-words, ones-of, bit-up}
+use Rattle.mask.specs.Mask.{mask-length, word-bits, mask-bits, digit, mask-words, ones-of, bit-up}
 use Rattle.mask.specs.between.Places.{kept-by-words}
 use Rattle.mask.proofs.MaskWordLaws.{binary-bit}
 use Rattle.mask.proofs.MaskLaws.{words-at, words-fit, words-ones}
@@ -57,8 +57,3 @@ module _ (m : Reduction) (plan : List ℕ) (few : length m ≤ mask-bits) (fits 
   front-and-rest before room =
       let long : length (kept m plan) ≡ count m = kept-length m plan fits in
       sets-eq (kept m plan) before 0 (omega arith) ∙ rw (long, zero-add)
-
--- document 01's second example: of six steps 4, 5 and 6 are kept, and the first mask word is 56
-pub second-example : mask-words (false ∷ false ∷ false ∷ true ∷ true ∷ true ∷ []) ≡ 56 ∷ 0 ∷ 0 ∷ 0 ∷ []
-unfolding mask-words words-of binary
-second-example = refl

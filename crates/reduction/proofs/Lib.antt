@@ -34,5 +34,3 @@ pub mod TurnLaws
 pub mod CutLaws
 -- SearchTheorem: the search returns the minimal reduction.
 pub mod SearchTheorem
--- Starred: the worked lists of document 01 that carry a star.
-pub mod Starred

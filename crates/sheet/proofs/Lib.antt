@@ -22,5 +22,3 @@ pub mod PassLaws
 pub mod AcceptedLaid
 -- EncodeTheorem: a task is written as an accepted sheet that means it, and an accepted sheet is how the task that it means is written.
 pub mod EncodeTheorem
--- EncodeExamples: document 01's sheet P and its task, computed.
-pub mod EncodeExamples

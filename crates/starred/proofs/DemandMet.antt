@@ -1,0 +1,47 @@
+-- Demand 3 asks nothing that can't be had: its premises hold of sheet P, worked list 1 and every output of six words. So whoever has it has, of that list,
+-- all that it promises, and the service's answer is document 01's. The check of the list passes, by computing, and `passes-exactly` tells what that means.
+-- Assumes nothing.
+use Prim.Native.Nat.{ℕ, _≤_}
+use native.Mathlib.Omega.{arith}
+use mathlib.Core.Path.{_≡_}
+use mathlib.Core.Option.{none}
+use mathlib.Core.List.{List, [], _∷_}
+use lib.ListN.{length, drop}
+use lib.Dec.{lit≤}
+use Rattle.sas.specs.Plan.{holds, first-failing, satisfies, applicable, assign, apply, written, needed, cost, Plan}
+use Rattle.reduction.specs.Reduction.{kept, count, lower}
+use Rattle.reduction.specs.Elimination.{better}
+use Rattle.reduction.specs.between.Wanted.{some-fact, same-fact, has, wanted}
+use Rattle.reduction.specs.between.Landmarks.{landmarks-behind, landmarks}
+use Rattle.reduction.specs.between.Found.{found, minimal}
+use Rattle.mask.specs.Mask.{binary, words-of, mask-words}
+use Rattle.landmark.specs.Marks.{marks}
+use Rattle.sheet.specs.Decode.{table, facts, initial, goal, action, task}
+use Rattle.plan.specs.declared.check.Answer.{Answer}
+use Rattle.plan.specs.Readable.{Readable}
+use Rattle.plan.specs.Valid.{steps}
+use Rattle.plan.specs.Checked.{told-answer, told-tally}
+use Rattle.plan.proofs.PlanTheorem.{passes-exactly}
+use Rattle.minimal.specs.Minimised.{most-unmarked}
+use Rattle.minimal.specs.Statement.{Answered, Demand-three-of, Demand-three}
+use Rattle.starred.specs.Sheets.{sheet-p}
+use Rattle.starred.specs.Rows.{list-1}
+use Rattle.starred.proofs.Starred.{starred}
+
+module _ (before : List ℕ) (six : length before ≡ 6) where
+  pub premises-met : Readable sheet-p list-1 × Plan (task sheet-p) (steps sheet-p list-1) × (length list-1 ≤ length before)
+  premises-met =
+      let (readable, plan) = passes-exactly sheet-p list-1 .0 (starred .0 .1 .0) in
+      (readable, plan, omega arith)
+
+  module _ (given : Answer) (mask after : List ℕ) (demand : Demand-three most-unmarked sheet-p list-1 before given mask after) where
+    pub demand-three-met : Demand-three-of sheet-p list-1 most-unmarked before given mask after
+    demand-three-met = let (readable, plan, roomy) = premises-met in demand readable plan roomy
+
+    -- and so the service answers as document 01 says of worked list 2
+    pub answer-met : (told-answer given ≡ none) × (told-tally given ≡ record { cost = 12; steps = 3 })
+        × (mask ≡ 56 ∷ 0 ∷ 0 ∷ 0 ∷ []) × (after ≡ 0 ∷ 1 ∷ 2 ∷ drop 3 before)
+    unfolding table facts initial goal action holds first-failing satisfies applicable assign apply written needed cost kept count lower better found minimal some-fact same-fact has wanted landmarks-behind landmarks marks binary words-of mask-words
+    answer-met =
+        let answered : Answered sheet-p list-1 before given mask after = demand-three-met .answered (lit≤ tt) in
+        (answered .answers, answered .tally, answered .told-by, answered .output)

@@ -1,0 +1,10 @@
+-- RowLaws: proofs of one row after the other, and the positions of the steps that a reduction keeps.
+pub mod RowLaws
+-- RefusalTheorem: each cause of refusal is met, at its number and place.
+pub mod RefusalTheorem
+-- Starred: what document 01 says of each worked list that carries a star.
+pub mod Starred
+-- DemandMet: the premises of demand 3 hold of sheet P and worked list 1.
+pub mod DemandMet
+-- SheetP: sheet P and its task, computed.
+pub mod SheetP

@@ -1,0 +1,22 @@
+-- Each cause of refusal of the table is met, at its number and place: by computing what the checks give. Assumes nothing.
+use mathlib.Core.Path.{refl}
+use Rattle.refusal.specs.Place.{first-of-next, first-of, first}
+use Rattle.refusal.specs.Check.{answer}
+use Rattle.sas.specs.Plan.{holds, first-failing, satisfies, applicable, assign, apply, written, needed}
+use Rattle.reduction.specs.Reduction.{count}
+use Rattle.reduction.specs.between.Wanted.{some-fact, same-fact, has, wanted}
+use Rattle.reduction.specs.between.Landmarks.{landmarks-behind, landmarks}
+use Rattle.sheet.specs.Decode.{table, facts, initial, goal, action}
+use Rattle.sheet.specs.Causes.{bad-length, bad-edition, bad-counts, due, wrong-size, bad-pair, pair-place, bad-variable, variable-place, bad-fact, group-place, action-place, fact-place, cost-place, sheet-checks}
+use Rattle.plan.specs.Valid.{fault}
+use Rattle.plan.specs.Checked.{unknown-place, list-checks, read-checks, valid-checks, lodged-checks}
+use Rattle.service.specs.Reduced.{room-checks}
+use Rattle.landmark.specs.Marks.{marks}
+use Rattle.minimal.specs.Minimised.{unmarked-checks, minimal-checks}
+use Rattle.starred.specs.Rows.{Each}
+use Rattle.starred.specs.Refusals.{Cause-met, causes}
+use Rattle.starred.proofs.RowLaws.{_also_}
+
+pub refusals : Each Cause-met causes
+unfolding answer sheet-checks bad-length bad-edition bad-counts due wrong-size bad-pair pair-place bad-variable variable-place bad-fact group-place action-place fact-place cost-place first first-of first-of-next table facts initial goal action fault unknown-place list-checks read-checks valid-checks lodged-checks room-checks holds first-failing satisfies applicable assign apply written needed count some-fact same-fact has wanted landmarks-behind landmarks marks unmarked-checks minimal-checks
+refusals = refl also refl also refl also refl also refl also refl also refl also refl also refl also refl also refl also refl also tt

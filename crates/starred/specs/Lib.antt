@@ -1,0 +1,5 @@
+-- Sheets: the words of document 01's worked sheets. Rows: what it says of each starred list, and what that means.
+-- Refusals: each cause of refusal, met by words.
+pub mod Sheets
+pub mod Rows
+pub mod Refusals
