@@ -41,13 +41,13 @@ module _ (w l : List ℕ) (readable : Readable w l) (plan : Plan (task w) (steps
   unfolding task
   valid-list = plan-valid (task w) (steps w l) plan
 
-  is-minimal : Minimal-reduction (initial w) (goal w) (steps w l) (minimal-of w l)
+  pub is-minimal : Minimal-reduction (initial w) (goal w) (steps w l) (minimal-of w l)
   is-minimal = minimal-found (meets (goal w)) (initial w) (steps w l) valid-list
 
   fits : length (minimal-of w l) ≡ length l
   fits = is-minimal .valid .fits ∙ length-map l (action w)
 
-  plan-left : Plan (task w) (kept (minimal-of w l) (steps w l))
+  pub plan-left : Plan (task w) (kept (minimal-of w l) (steps w l))
   unfolding task
   plan-left = reduced-plan (task w) (steps w l) (minimal-of w l) plan (is-minimal .valid)
 
@@ -59,26 +59,29 @@ module _ (w l : List ℕ) (readable : Readable w l) (plan : Plan (task w) (steps
       let fits-in : answer (room-checks (length l) room) ≡ none = answer-passes _ [] (rw (le-ltb room (length l) roomy)) ∙ answer-nothing in
       faultless-passes _ w l readable fits-in (passes-faultless [] w l readable answer-nothing passes)
 
-  module _ (limit : ℕ) (before : List ℕ) (roomy : length l ≤ length before) (given : Answer) (mask after : List ℕ)
-      (answers : Answers (minimal-checks limit w l (length before)) w l (minimal-of w l) before given mask after) where
-    only-unmarked : answer (minimal-checks limit w l (length before)) ≡ answer (unmarked-checks limit w l)
+  -- so only the number of unmarked steps decides
+  module _ (limit room : ℕ) (roomy : length l ≤ room) where
+    only-unmarked : answer (minimal-checks limit w l room) ≡ answer (unmarked-checks limit w l)
     unfolding minimal-checks
-    only-unmarked = answer-second (reduction-checks w l (length before)) _ (checks-pass (length before) roomy)
+    only-unmarked = answer-second (reduction-checks w l room) _ (checks-pass room roomy)
 
-    few-pass : unmarked w l ≤ limit → answer (minimal-checks limit w l (length before)) ≡ none
+    pub few-pass : unmarked w l ≤ limit → answer (minimal-checks limit w l room) ≡ none
     unfolding unmarked-checks
     few-pass h = only-unmarked ∙ answer-passes _ [] (rw (le-ltb limit (unmarked w l) h)) ∙ answer-nothing
 
-    many-refused : limit < unmarked w l → answer (minimal-checks limit w l (length before)) ≡ some (record { number = 12; place = unmarked w l })
+    pub many-refused : limit < unmarked w l → answer (minimal-checks limit w l room) ≡ some (record { number = 12; place = unmarked w l })
     unfolding unmarked-checks
     many-refused h = only-unmarked ∙ answer-fires _ [] (unmarked w l) (rw (lt-ltb limit (unmarked w l) h))
 
+  module _ (limit : ℕ) (before : List ℕ) (roomy : length l ≤ length before) (given : Answer) (mask after : List ℕ)
+      (answers : Answers (minimal-checks limit w l (length before)) w l (minimal-of w l) before given mask after) where
     answered : unmarked w l ≤ limit → Answered w l before given mask after
     answered h =
-        let passes : answer (minimal-checks limit w l (length before)) ≡ none = few-pass h in
+        let passes : answer (minimal-checks limit w l (length before)) ≡ none = few-pass limit (length before) roomy h in
         let long : length (minimal-of w l) ≤ mask-bits = omega (arith, fits, readable .few) in
         let room : count (minimal-of w l) ≤ length before = omega (arith, kept-length (minimal-of w l) l fits, left-length (minimal-of w l) l fits) in
         record {
+          left = minimal-of w l;
           answers = answers .refusal ∙ passes;
           minimal = is-minimal;
           plan-left = plan-left;
@@ -89,7 +92,7 @@ module _ (w l : List ℕ) (readable : Readable w l) (plan : Plan (task w) (steps
 
     refused : limit < unmarked w l → Refused-unmarked w l before given mask after
     refused h =
-        let refuses : answer (minimal-checks limit w l (length before)) ≡ some (record { number = 12; place = unmarked w l }) = many-refused h in
+        let refuses : answer (minimal-checks limit w l (length before)) ≡ some (record { number = 12; place = unmarked w l }) = many-refused limit (length before) roomy h in
         record {
           refuses = answers .refusal ∙ refuses;
           tally = rw refuses at (answers .tally);
@@ -102,7 +105,7 @@ module _ (w l : List ℕ) (readable : Readable w l) (plan : Plan (task w) (steps
       where
         by-case : (b : Bool) → ltb limit (unmarked w l) ≡ b → limit < unmarked w l
         by-case true e = ltb-true limit (unmarked w l) e
-        by-case false e = absurd (Option·some-ne-none t (sym h ∙ answers .refusal ∙ few-pass (ltb-false limit (unmarked w l) e)))
+        by-case false e = absurd (Option·some-ne-none t (sym h ∙ answers .refusal ∙ few-pass limit (length before) roomy (ltb-false limit (unmarked w l) e)))
 
 pub demand-three : (limit : ℕ) (w l before : List ℕ) (r : Minimised) (after : List ℕ) → Minimises limit w l before r after
     → Demand-three limit w l before (r .answer) (r .mask .words) after

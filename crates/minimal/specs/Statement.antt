@@ -19,7 +19,6 @@ use Rattle.plan.specs.Valid.{steps}
 use Rattle.plan.specs.Checked.{told-answer, told-tally}
 use Rattle.service.specs.Reduced.{tally-left}
 use Rattle.landmark.specs.Marks.{marks, unmarked}
-use Rattle.minimal.specs.Minimised.{minimal-of}
 use Rattle.plan.specs.Readable.{Readable}
 
 module _ (w l : List ℕ) where
@@ -31,18 +30,19 @@ module _ (w l : List ℕ) where
   abbrev pub Valid-striking : Reduction → Type 0
   Valid-striking m = Valid-reduction (initial w) (goal w) (steps w l) m
 
-  -- the service answers with the minimal reduction
+  -- the service answers with the minimal reduction: `left` is one, and all that is told and written is that of `left`
   pub record Answered (before : List ℕ) (given : Answer) (mask after : List ℕ) : Type 0 where
-    pub answers : told-answer given ≡ none
+    pub left : Reduction
     -- it is valid and wins against every valid reduction: it costs no more, at equal cost it has no more steps, and
     -- where both are equal the other one keeps the step at the first place where the two differ
-    pub minimal : Minimal-reduction (initial w) (goal w) (steps w l) (minimal-of w l)
+    pub minimal : Minimal-reduction (initial w) (goal w) (steps w l) left
     -- the list left is a plan of the task, and it is the lodged list with steps struck
-    pub plan-left : Plan (task w) (kept (minimal-of w l) (steps w l))
-    pub tally : told-tally given ≡ tally-left w l (minimal-of w l)
-    pub told-by : mask ≡ mask-words (minimal-of w l)
+    pub plan-left : Plan (task w) (kept left (steps w l))
+    pub answers : told-answer given ≡ none
+    pub tally : told-tally given ≡ tally-left w l left
+    pub told-by : mask ≡ mask-words left
     -- the kept action numbers are the output's first words, one for each kept step, and every other word stays
-    pub output : after ≡ kept (minimal-of w l) l ++ drop (count (minimal-of w l)) before
+    pub output : after ≡ kept left l ++ drop (count left) before
 
   -- the service refuses with 12 and the number of unmarked steps, with zeros, and the output stays
   pub record Refused-unmarked (before : List ℕ) (given : Answer) (mask after : List ℕ) : Type 0 where

@@ -4,7 +4,7 @@ pub mod InputWordLaws
 pub mod FormLaws
 -- LongLaws: the refusal of a plan that is too long to be read, by cases, and against the check of a plan.
 pub mod LongLaws
--- FormTheorem: what is read, as far as it must be, tells the form of the record in the whole input, and three stages are enough.
+-- FormTheorem: what is read, as far as it must be, tells the form of the record in the whole input.
 pub mod FormTheorem
 -- OpeningLaws: what a program finds of its input, by the input's form.
 pub mod OpeningLaws

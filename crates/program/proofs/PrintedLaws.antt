@@ -8,7 +8,6 @@ use lib.Seq.{length-take-le}
 use Rattle.io.specs.Counts.{Counts}
 use Rattle.lines.specs.Lines.{ascii, line}
 use Rattle.lines.specs.Prints.{Prints}
-use Rattle.lines.proofs.PrintLaws.{prints-within}
 use Rattle.refusal.specs.Refusal.{Told}
 use Rattle.program.specs.Form.{bytes-to-read}
 use Rattle.program.specs.Printed.{refusal-line, Has-read, Has-done}
@@ -19,7 +18,7 @@ pub refusal-printed : {at : ℕ} {before after : List ℕ} {end : ℕ} (t : Told
 refusal-printed t numbered placed prints = rw (← numbered, ← placed) prints
 
 -- so many bytes at the front
-pub front-counts : (n : ℕ) (bytes : List ℕ) → n ≤ length bytes → Counts n bytes
+front-counts : (n : ℕ) (bytes : List ℕ) → n ≤ length bytes → Counts n bytes
 front-counts n bytes h = (h, sym (length-take-le n bytes h))
 
 module _ (further beyond : ℕ) (bytes : List ℕ) (n : ℕ) (there : n ≤ length bytes) where
@@ -32,4 +31,4 @@ module _ (further beyond : ℕ) (bytes : List ℕ) (n : ℕ) (there : n ≤ leng
 -- a program that has read, and has printed its answer to what it has read
 pub has-done : {text : List ℕ → List ℕ} {bytes : List ℕ} {input : Input} {before after : List ℕ} {written : ℕ} → Has-read 0 1 bytes input
     → Prints (text (take (input .count) bytes)) 0 before after written → Has-done text bytes (record { input = input; written = written }) before after
-has-done read prints = record { read = read; printed = prints; counted = front-counts _ _ (prints-within prints) }
+has-done read prints = record { read = read; printed = prints }

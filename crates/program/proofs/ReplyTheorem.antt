@@ -1,10 +1,11 @@
--- What a program finds of the bytes that have been read is what it finds of the whole input, once all that must be read are there; so what it answers after three
--- stages of reading is right. Assumes nothing.
+-- What a program finds of the bytes that have been read is what it finds of the whole input, once all that must be read are there; so what it answers to them is right. Assumes nothing.
 use Prim.Native.Nat.{ℕ, _+_, _≤_}
 use native.Mathlib.Omega.{arith}
 use mathlib.Core.Path.{_≡_, refl, sym, _∙_, ap}
+use mathlib.Core.Bool.{Bool, true, false}
 use mathlib.Core.List.{List, _++_}
-use lib.ListN.{length, length-append}
+use lib.ListN.{length, take, length-append}
+use lib.Seq.{take-all}
 use Rattle.refusal.specs.Refusal.{Told}
 use Rattle.program.specs.declared.frame.Frame.{Frame}
 use Rattle.program.specs.declared.frame.Frame.the-variants.{Broken, Long, Whole}
@@ -12,9 +13,11 @@ use Rattle.program.specs.Form.{record-form, bytes-to-read}
 use Rattle.program.specs.Long.{long-refusal}
 use Rattle.program.specs.Opening.{Refused, opening}
 use Rattle.program.specs.Reply.{reply-further}
+use Rattle.program.specs.Printed.{Has-read, Read-from}
+use Rattle.program.specs.declared.input.Input.{Input}
 use Rattle.program.proofs.InputWordLaws.{words-stay}
 use Rattle.program.proofs.FormLaws.{input-from, input-runs-on, Task-there, form-says, whole-reads}
-use Rattle.program.proofs.FormTheorem.{settled, enough, read-after, three-stages}
+use Rattle.program.proofs.FormTheorem.{settled, enough}
 use Rattle.program.proofs.OpeningLaws.{opening-broken, opening-long}
 
 -- once all bytes that must be read are there, with one beyond the record, no further byte changes what is found
@@ -38,12 +41,13 @@ module _ (further : ℕ) (xs ys : List ℕ) (read : bytes-to-read further 1 xs �
 opening-settled : (further : ℕ) (xs ys : List ℕ) → bytes-to-read further 1 xs ≤ length xs → opening further (xs ++ ys) ≡ opening further xs
 opening-settled further xs ys read = by-form further xs ys read (record-form further xs) refl
 
--- the bytes that a program reads of its input, in three stages, with one beyond the record
-abbrev pub input-read : ℕ → List ℕ → List ℕ
-input-read further input = read-after further 1 3 input
-
--- so, of every input, they tell what is answered to it
-module _ {A : Type 0} (further : ℕ) (refused : Told → A) (answered : List ℕ → List ℕ → List ℕ → A) where
-  pub reply-in-stages : (input : List ℕ) → reply-further further refused answered (input-read further input) ≡ reply-further further refused answered input
-  unfolding read-after reply-further
-  reply-in-stages input = rw (enough further 1 (opening further) (opening-settled further) (bytes-to-read further 1 (read-after further 1 2 input)) input (three-stages further 1 input), reply-further)
+-- so what a program answers to the bytes that it has read is what it answers to the whole input
+module _ {A : Type 0} (further : ℕ) (refused : Told → A) (answered : List ℕ → List ℕ → List ℕ → A) (whole bytes : List ℕ) (input : Input)
+    (has : Has-read further 1 bytes input) (reads : Read-from whole bytes input) where
+  pub reply-to-all : reply-further further refused answered (take (input .count) bytes) ≡ reply-further further refused answered whole
+  unfolding reply-further
+  reply-to-all = rw (reads .in-order, by-end (input .ended) refl, reply-further)
+    where
+      by-end : (b : Bool) → input .ended ≡ b → opening further (take (input .count) whole) ≡ opening further whole
+      by-end true e = ap (opening further) (take-all (input .count) whole (reads .at-end e))
+      by-end false e = enough further 1 (opening further) (opening-settled further) (input .count) whole (rw (reads .in-order) at (has .enough e))

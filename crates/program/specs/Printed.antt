@@ -1,9 +1,9 @@
 -- What a program prints of a tally and of a refusal, and what it has read and printed. Assumes nothing.
 use Prim.Native.Nat.{ℕ, _≤_}
 use mathlib.Core.Path.{_≡_}
-use mathlib.Core.Bool.{Bool, false}
+use mathlib.Core.Bool.{true, false}
 use mathlib.Core.List.{List, [], _∷_}
-use lib.ListN.{take}
+use lib.ListN.{length, take}
 use Rattle.io.specs.Counts.{Counts}
 use Rattle.lines.specs.Lines.{ascii, line}
 use Rattle.lines.specs.Prints.{Prints}
@@ -32,4 +32,9 @@ pub record Has-read (further beyond : ℕ) (bytes : List ℕ) (input : Input) : 
 pub record Has-done (text : List ℕ → List ℕ) (bytes : List ℕ) (done : Done) (before after : List ℕ) : Type 0 where
   pub read : Has-read 0 1 bytes (done .input)
   pub printed : Prints (text (take (done .input .count) bytes)) 0 before after (done .written)
-  pub counted : Counts (done .written) after
+
+-- what is assumed of the C library's `read`: the bytes read are the input's first, in order, and where the reading ended
+-- early they are all that it has
+pub record Read-from (whole bytes : List ℕ) (input : Input) : Type 0 where
+  pub in-order : take (input .count) bytes ≡ take (input .count) whole
+  pub at-end : input .ended ≡ true → length whole ≤ input .count

@@ -31,9 +31,18 @@ pub fn put_refusal(out: &mut [u8], at: usize, refusal: Refusal) -> usize
 }
 
 // Writes a text to standard output, and says on standard error where that can't be done.
-pub fn write_text(text: &[u8]) {
+fn write_text(text: &[u8]) {
     if io::write_all(STDOUT_FILENO, text) {
         return;
     }
     io::write_all(STDERR_FILENO, b"the answer can't be written\n");
+}
+
+// Writes the first n bytes, or all where there are fewer.
+pub fn write_front(bytes: &[u8], n: usize) {
+    if n < bytes.len() {
+        write_text(&bytes[..n]);
+    } else {
+        write_text(bytes);
+    }
 }

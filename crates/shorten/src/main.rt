@@ -8,7 +8,7 @@ use crate::shortened::answer_input;
 use plan::limits::Plan;
 use program::framing::BYTES;
 use program::output::LINE;
-use program::output::write_text;
+use program::output::write_front;
 
 // The most bytes that are printed: three lines, and one for each step.
 const TEXT: usize = LINE * (3 + Plan::STEPS);
@@ -17,6 +17,5 @@ fn main() {
     let mut bytes = [0u8; BYTES];
     let mut text = [0u8; TEXT];
     let done = answer_input(&mut bytes, &mut text);
-    let n = done.written;
-    write_text(&text[..n]);
+    write_front(&text, done.written);
 }

@@ -6,12 +6,11 @@ mod check;
 use crate::check::answer_input;
 use program::framing::BYTES;
 use program::output::LINE;
-use program::output::write_text;
+use program::output::write_front;
 
 fn main() {
     let mut bytes = [0u8; BYTES];
     let mut text = [0u8; LINE];
     let done = answer_input(&mut bytes, &mut text);
-    let n = done.written;
-    write_text(&text[..n]);
+    write_front(&text, done.written);
 }
