@@ -1,0 +1,2 @@
+-- One: demand 1, what is lent and when a service refuses.
+pub mod One
