@@ -1,4 +1,8 @@
 -- FireLaws: a list of checks answers by the first that fires.
 pub mod FireLaws
+-- FitLaws: what is left of a list has a flag for each of its steps.
+pub mod FitLaws
 -- OneTheorem: demand 1 holds of all services.
 pub mod OneTheorem
+-- TwoTheorem: demand 2 holds of all services.
+pub mod TwoTheorem

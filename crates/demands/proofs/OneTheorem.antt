@@ -14,7 +14,7 @@ use Rattle.refusal.specs.Check.{Check, answer, unless-refused}
 use Rattle.refusal.proofs.CheckLaws.{first-none}
 use Rattle.sheet.specs.Causes.{sheet-checks}
 use Rattle.sheet.specs.Decode.{initial, goal, action}
-use Rattle.step.specs.Step.{own-checks, step-checks, Steps}
+use Rattle.step.specs.Step.{own-checks, step-checks}
 use Rattle.step.proofs.StepTheorem.{step-theorem}
 use Rattle.plan.specs.Valid.{steps}
 use Rattle.plan.specs.Checked.{list-checks, read-checks, valid-checks, lodged-checks, plan-checks}
@@ -36,9 +36,10 @@ use Rattle.elimination.specs.declared.single.Elimination.the-variants.{Plain, G
 use Rattle.elimination.specs.Eliminations.{elimination-of, greedy-elimination-of, left-by, Reduces-both, cheaper-part}
 use Rattle.elimination.proofs.LeavesLaws.{left-fits}
 use Rattle.minimal.specs.Minimised.{most-unmarked, unmarked-checks, minimal-checks, minimal-of}
-use Rattle.demands.specs.One.{Refuses-just, Output-lent, State-lent, Demand-one}
+use Rattle.demands.specs.One.{Output-lent, Demand-one}
 use Rattle.demands.specs.One.{sheet-numbers, step-numbers, list-numbers, greedy-numbers, exact-numbers}
 use Rattle.demands.proofs.FireLaws.{refuses-just}
+use Rattle.demands.proofs.FitLaws.{Flags-each, elimination-flags, minimal-flags}
 
 abbrev number-of : Check → ℕ
 number-of c = c .number
@@ -65,44 +66,19 @@ exact-numbered limit w l room = refl
 
 -- an output that is given by a definition, of a reduction that has a flag for each step where nothing is refused
 output-lent : (refusal : Option Told) (l : List ℕ) (m : Reduction) (before after : List ℕ) → after ≡ unless-refused refusal (output-left l m before) before
-    → (refusal ≡ none → (length m ≡ length l) × (length l ≤ most-steps) × (length l ≤ length before)) → Output-lent refusal l m before after
+    → (refusal ≡ none → (room : ℕ) × (room ≤ length before) × Flags-each l m room) → Output-lent refusal l m before after
 output-lent refusal l m before after is known =
     record {
       refused = λ t h. rw h at is;
-      first-words = λ h. let (fits, few, roomy) = known h in rw h at is ∙ front-and-rest m l (omega arith) fits before (room-left fits roomy);
-      one-each = λ h. kept-length m l (known h .0);
-      room = λ h. let (fits, few, roomy) = known h in room-left fits roomy;
+      first-words = λ h. let (room, enough, each) = known h in rw h at is ∙ front-and-rest m l (omega (arith, each .fits, each .few)) (each .fits) before (has-room h);
+      one-each = λ h. let (room, enough, each) = known h in kept-length m l (each .fits);
+      room = has-room;
     }
   where
-    room-left : length m ≡ length l → length l ≤ length before → count m ≤ length before
-    room-left fits roomy = omega (arith, kept-length m l fits, left-length m l fits)
-
-module _ (w l : List ℕ) (room : ℕ) (passed : answer (reduction-checks w l room) ≡ none) where
-  -- so of a list that passes the checks 1 to 11, for whatever output has that room
-  known-lent : (m : Reduction) (before : List ℕ) → length m ≡ length (steps w l) → room ≤ length before
-      → (length m ≡ length l) × (length l ≤ most-steps) × (length l ≤ length before)
-  known-lent m before fits enough =
-      (fits ∙ length-map l (action w), passed-readable _ w l passed .few, omega (arith, roomy w l room passed))
-
-  by-elimination : (by : Elimination) (before : List ℕ) → room ≤ length before → (length (left-by by w l) ≡ length l) × (length l ≤ most-steps) × (length l ≤ length before)
-  by-elimination by before enough = known-lent (left-by by w l) before (left-fits _ w l passed by) enough
-
-by-minimal : (w l before : List ℕ) → answer (minimal-checks most-unmarked w l (length before)) ≡ none
-    → (length (minimal-of w l) ≡ length l) × (length l ≤ most-steps) × (length l ≤ length before)
-unfolding minimal-checks
-by-minimal w l before passes =
-    let passed : answer (reduction-checks w l (length before)) ≡ none = first-none _ (unmarked-checks most-unmarked w l) _ passes refl in
-    known-lent w l (length before) passed (minimal-of w l) before
-    (minimal-found (meets (goal w)) (initial w) (steps w l) (lodged-valid _ w l passed) .valid .fits) (omega arith)
-
-state-lent : (w before : List ℕ) (a : ℕ) (refusal : Option Told) (after : List ℕ) → refusal ≡ answer (step-checks w before a) → after ≡ Rattle.step.specs.Step.state-after w before a
-    → State-lent refusal w a before after
-state-lent w before a refusal after is state =
-    record {
-      refused = λ t h. state ∙ step-theorem w before a .refused t (sym is ∙ h);
-      others = λ v unnamed. rw state (step-theorem w before a .others v unnamed);
-      complete = rw state (step-theorem w before a .complete);
-    }
+    has-room : refusal ≡ none → count m ≤ length before
+    has-room h =
+        let (room, enough, each) = known h in
+        omega (arith, kept-length m l (each .fits), left-length m l (each .fits), each .roomy)
 
 part-shown : (first second : List ℕ) (t u : Tally) (o : Order) → comparison u t ≡ o
     → (cheaper-part first second t u ≡ take (t .steps) first) ⊎ (cheaper-part first second t u ≡ take (u .steps) second)
@@ -117,26 +93,26 @@ demand-one =
       sheet-check = λ w verdict is. refuses-just _ _ _ (sheet-numbered w) is;
       one-step = λ w before a verdict after steps. (
         refuses-just _ _ _ (step-numbered w before a) (steps .verdict-told),
-        state-lent w before a _ after (steps .verdict-told) (steps .state),
+        step-theorem w before a verdict after steps,
       );
       list-check = λ w l given state checks. refuses-just _ _ _ (list-numbered w l) (checks .refusal);
       marks = λ w l verdict mask masks. refuses-just _ _ _ (list-numbered w l) (masks .refusal);
       elimination = λ by w l before given mask after reduces. (
         refuses-just _ _ _ (greedy-numbered w l (length before)) (reduces .refusal),
         output-lent _ l (left-by by w l) before after (rw (← reduces .refusal) at (reduces .output))
-            (λ h. by-elimination w l (length before) (sym (reduces .refusal) ∙ h) by before (omega arith)),
+            (λ h. (length before, omega arith, elimination-flags w l (length before) by (sym (reduces .refusal) ∙ h))),
       );
       both-eliminations = λ w l before before′ verdict first second after after′ both. (
         refuses-just _ _ _ (greedy-numbered w l (min (length before) (length before′))) (both .refusal),
         output-lent _ l (elimination-of w l) before after (both .first-output)
-            (λ h. by-elimination w l _ (sym (both .refusal) ∙ h) Plain before (min-le-left (length before) (length before′))),
+            (λ h. (_, min-le-left (length before) (length before′), elimination-flags w l _ Plain (sym (both .refusal) ∙ h))),
         output-lent _ l (greedy-elimination-of w l) before′ after′ (both .second-output)
-            (λ h. by-elimination w l _ (sym (both .refusal) ∙ h) Greedy before′ (min-le-right (length before) (length before′))),
+            (λ h. (_, min-le-right (length before) (length before′), elimination-flags w l _ Greedy (sym (both .refusal) ∙ h))),
       );
       cheaper-shown = λ first second t u part is. rw is (part-shown first second t u _ refl);
       exact-reduction = λ w l before r after minimises. (
         refuses-just _ _ _ (exact-numbered most-unmarked w l (length before)) (minimises .answers .refusal),
         output-lent _ l (minimal-of w l) before after (rw (← minimises .answers .refusal) at (minimises .answers .output))
-            (λ h. by-minimal w l before (sym (minimises .answers .refusal) ∙ h)),
+            (λ h. (length before, omega arith, minimal-flags w l (length before) (sym (minimises .answers .refusal) ∙ h))),
       );
     }

@@ -4,21 +4,18 @@
 -- service's contract allows. Assumes nothing.
 use Prim.Native.Nat.{ℕ, min, _≤_}
 use mathlib.Core.Path.{_≡_}
-use mathlib.Core.Logic.{_≢_, _⊎_, _↔_}
+use mathlib.Core.Logic.{_⊎_, _↔_}
 use mathlib.Core.Option.{Option, none, some}
 use mathlib.Core.List.{List, [], _∷_, _++_, map, List·Memᴰ}
-use lib.ListN.{length, getD, take, drop}
+use lib.ListN.{length, take, drop}
 use Rattle.refusal.specs.declared.Verdict.{Verdict}
 use Rattle.refusal.specs.declared.place.Place.the-variants.{Nowhere, At}
 use Rattle.refusal.specs.Refusal.{Told, told}
 use Rattle.refusal.specs.Check.{Check, answer}
-use Rattle.sas.specs.Task.{Fact}
-use Rattle.sas.specs.Plan.{may-write}
 use Rattle.reduction.specs.Reduction.{Reduction, kept, count}
 use Rattle.tally.specs.declared.Tally.{Tally}
-use Rattle.sheet.specs.Decode.{action}
 use Rattle.sheet.specs.Causes.{sheet-checks}
-use Rattle.step.specs.Step.{step-checks, Steps}
+use Rattle.step.specs.Step.{step-checks, Steps, After}
 use Rattle.plan.specs.declared.check.Answer.{Answer}
 use Rattle.plan.specs.Checked.{plan-checks, told-answer, Checks}
 use Rattle.service.specs.Reduced.{reduction-checks, Reduces}
@@ -74,21 +71,15 @@ pub record Output-lent (refusal : Option Told) (l : List ℕ) (m : Reduction) (b
   pub one-each : refusal ≡ none → length (kept m l) ≡ count m
   pub room : refusal ≡ none → count m ≤ length before
 
--- a lent state in which a service does a step of action a: a refusal leaves all its values; a done step leaves each
--- that no effect fact of the action names; none is added or lost
-pub record State-lent (refusal : Option Told) (w : List ℕ) (a : ℕ) (before after : List ℕ) : Type 0 where
-  pub refused : (t : Told) → refusal ≡ some t → after ≡ before
-  pub others : (v : ℕ) → ((f : Fact) → may-write (action w a) f → f .variable ≢ v) → getD after v 0 ≡ getD before v 0
-  pub complete : length after ≡ length before
-
 -- What is lent to be read no service can change: the language lends it so. What is lent to be written are the state of
 -- one step and the outputs of the services that strike.
 pub record Demand-one : Type 0 where
   pub sheet-check : (w : List ℕ) (verdict : Verdict) → told verdict ≡ answer (sheet-checks w)
       → Refuses-just sheet-numbers (sheet-checks w) (told verdict)
+  -- a lent state changes only on a done step, and only where that writes
   pub one-step : (w before : List ℕ) (a : ℕ) (verdict : Verdict) (after : List ℕ) → Steps w before a verdict after
       → Refuses-just step-numbers (step-checks w before a) (told verdict)
-      × State-lent (told verdict) w a before after
+      × After w before a (told verdict) after
   pub list-check : (w l : List ℕ) (given : Answer) (state : List ℕ) → Checks (plan-checks w l) w l given state
       → Refuses-just list-numbers (plan-checks w l) (told-answer given)
   pub marks : (w l : List ℕ) (verdict : Verdict) (mask : List ℕ) → Masks w l verdict mask
