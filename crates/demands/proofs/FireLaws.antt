@@ -3,12 +3,12 @@
 use Prim.Native.Nat.{ℕ}
 use mathlib.Core.Path.{_≡_, refl, sym, _∙_, ap}
 use mathlib.Core.Option.{Option, none, some, Option·some-ne-none, Option·some-injective}
-use mathlib.Core.List.{List, [], _∷_, _++_, map, List·Memᴰ, List·Memᴰ·head, List·Memᴰ·tail, List·Memᴰ·not-nil}
+use mathlib.Core.List.{List, [], _∷_, map, List·Memᴰ·head, List·Memᴰ·tail, List·Memᴰ·not-nil}
 use Rattle.refusal.specs.declared.place.Place.{Place}
 use Rattle.refusal.specs.declared.place.Place.the-variants.{Nowhere, At}
 use Rattle.refusal.specs.Refusal.{Told}
 use Rattle.refusal.specs.Check.{Check, answer}
-use Rattle.refusal.proofs.CheckLaws.{answer-fires, answer-passes, answer-nothing, none-fires, answer-second}
+use Rattle.refusal.proofs.CheckLaws.{told-parts, answer-fires, answer-passes, answer-nothing, none-fires, answer-second}
 use Rattle.demands.specs.One.{None-fires, First-to-fire, Refuses-just}
 
 silent-answers : (cs : List Check) → None-fires cs → answer cs ≡ none
@@ -19,10 +19,6 @@ answers-silent : (cs : List Check) → answer cs ≡ none → None-fires cs
 answers-silent [] h c m = absurd (List·Memᴰ·not-nil m)
 answers-silent (d ∷ cs) h c (List·Memᴰ·head e) = rw e (none-fires d cs h .0)
 answers-silent (d ∷ cs) h c (List·Memᴰ·tail m) = answers-silent cs (none-fires d cs h .1) c m
-
--- what is told is its number and its place
-told-parts : (t : Told) (n : ℕ) → n ≡ t .number → _≡_ {A = Told} (record { number = n; place = t .place }) t
-told-parts t n e = rw e
 
 first-answers : (cs : List Check) (t : Told) → First-to-fire cs t → answer cs ≡ some t
 first-answers cs t f =

@@ -6,35 +6,25 @@ use native.Mathlib.Nat.{min-le-left, min-le-right}
 use native.Mathlib.Omega.{arith}
 use mathlib.Core.Path.{_≡_, refl, sym, _∙_}
 use mathlib.Core.Logic.{_⊎_, inl, inr}
-use mathlib.Core.Option.{Option, none, some}
+use mathlib.Core.Option.{Option, none}
 use mathlib.Core.List.{List, map}
-use lib.ListN.{length, take, length-map}
+use lib.ListN.{length, take}
 use Rattle.refusal.specs.Refusal.{Told}
-use Rattle.refusal.specs.Check.{Check, answer, unless-refused}
-use Rattle.refusal.proofs.CheckLaws.{first-none}
+use Rattle.refusal.specs.Check.{Check, unless-refused}
 use Rattle.sheet.specs.Causes.{sheet-checks}
-use Rattle.sheet.specs.Decode.{initial, goal, action}
 use Rattle.step.specs.Step.{own-checks, step-checks}
 use Rattle.step.proofs.StepTheorem.{step-theorem}
-use Rattle.plan.specs.Valid.{steps}
 use Rattle.plan.specs.Checked.{list-checks, read-checks, valid-checks, lodged-checks, plan-checks}
 use Rattle.tally.specs.declared.Tally.{Tally}
 use Rattle.tally.specs.declared.Order.{Order}
 use Rattle.tally.specs.declared.Order.the-variants.{Less, Equal, Greater}
 use Rattle.tally.specs.Tally.{comparison}
-use Rattle.reduction.specs.Reduction.{Reduction, meets, kept, count}
+use Rattle.reduction.specs.Reduction.{Reduction, count}
 use Rattle.reduction.proofs.ReductionLaws.{kept-length, left-length}
-use Rattle.reduction.proofs.MinimalTheorem.{minimal-found}
-use Rattle.mask.specs.Mask.{mask-bits}
 use Rattle.mask.proofs.MaskTheorem.{front-and-rest}
-use Rattle.plan.specs.Limits.{most-steps}
-use Rattle.plan.proofs.PlanLaws.{passed-readable}
 use Rattle.service.specs.Reduced.{room-checks, reduction-checks, output-left}
-use Rattle.service.proofs.LodgedLaws.{lodged-valid, roomy}
-use Rattle.elimination.specs.declared.single.Elimination.{Elimination}
 use Rattle.elimination.specs.declared.single.Elimination.the-variants.{Plain, Greedy}
-use Rattle.elimination.specs.Eliminations.{elimination-of, greedy-elimination-of, left-by, Reduces-both, cheaper-part}
-use Rattle.elimination.proofs.LeavesLaws.{left-fits}
+use Rattle.elimination.specs.Eliminations.{elimination-of, greedy-elimination-of, left-by, cheaper-part}
 use Rattle.minimal.specs.Minimised.{most-unmarked, unmarked-checks, minimal-checks, minimal-of}
 use Rattle.demands.specs.One.{Output-lent, Demand-one}
 use Rattle.demands.specs.One.{sheet-numbers, step-numbers, list-numbers, greedy-numbers, exact-numbers}

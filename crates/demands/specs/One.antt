@@ -25,7 +25,7 @@ use Rattle.elimination.specs.Eliminations.{elimination-of, greedy-elimination-o
 use Rattle.minimal.specs.declared.within.Minimised.{Minimised}
 use Rattle.minimal.specs.Minimised.{most-unmarked, minimal-checks, minimal-of, Minimises}
 
--- no check of a list fires
+-- none of these checks fires
 abbrev pub None-fires : List Check → Type 0
 None-fires checks = (c : Check) → List·Memᴰ c checks → c .fires ≡ Nowhere
 
@@ -40,7 +40,8 @@ pub record First-to-fire (checks : List Check) (t : Told) : Type 0 where
   pub before-it : None-fires earlier
 
 -- "Each refusal comes under its condition and no other": a service whose checks have these numbers, in this order,
--- refuses with t just where the first check that fires tells t, and with nothing just where none fires
+-- refuses with t just where t is the number and the place of the first check that fires, and answers just where none
+-- does
 pub record Refuses-just (numbers : List ℕ) (checks : List Check) (refusal : Option Told) : Type 0 where
   pub numbered : map (λ c. c .number) checks ≡ numbers
   pub refuses : (t : Told) → refusal ≡ some t ↔ First-to-fire checks t
@@ -71,33 +72,38 @@ pub record Output-lent (refusal : Option Told) (l : List ℕ) (m : Reduction) (b
   pub one-each : refusal ≡ none → length (kept m l) ≡ count m
   pub room : refusal ≡ none → count m ≤ length before
 
--- What is lent to be read no service can change: the language lends it so. What is lent to be written are the state of
+-- What is lent to be read no service can change, since the language lends it so; lent to be written are the state of
 -- one step and the outputs of the services that strike.
 pub record Demand-one : Type 0 where
+  -- the check of a sheet
   pub sheet-check : (w : List ℕ) (verdict : Verdict) → told verdict ≡ answer (sheet-checks w)
       → Refuses-just sheet-numbers (sheet-checks w) (told verdict)
-  -- a lent state changes only on a done step, and only where that writes
+  -- one step: the lent state changes only where a step that is done writes
   pub one-step : (w before : List ℕ) (a : ℕ) (verdict : Verdict) (after : List ℕ) → Steps w before a verdict after
       → Refuses-just step-numbers (step-checks w before a) (told verdict)
       × After w before a (told verdict) after
+  -- the check of a list
   pub list-check : (w l : List ℕ) (given : Answer) (state : List ℕ) → Checks (plan-checks w l) w l given state
       → Refuses-just list-numbers (plan-checks w l) (told-answer given)
+  -- its marks
   pub marks : (w l : List ℕ) (verdict : Verdict) (mask : List ℕ) → Masks w l verdict mask
       → Refuses-just list-numbers (plan-checks w l) (told verdict)
+  -- elimination, or greedy elimination
   pub elimination : (by : Elimination) (w l before : List ℕ) (given : Answer) (mask after : List ℕ)
       → Reduces w l (left-by by w l) before given mask after
       → Refuses-just greedy-numbers (reduction-checks w l (length before)) (told-answer given)
       × Output-lent (told-answer given) l (left-by by w l) before after
-  -- the room of both outputs is that of the shorter
+  -- both eliminations, whose room is that of the shorter output
   pub both-eliminations : (w l before before′ : List ℕ) (verdict : Verdict) (first second : Tally)
       (after after′ : List ℕ) → Reduces-both w l before before′ verdict first second after after′
       → Refuses-just greedy-numbers (reduction-checks w l (min (length before) (length before′))) (told verdict)
       × Output-lent (told verdict) l (elimination-of w l) before after
       × Output-lent (told verdict) l (greedy-elimination-of w l) before′ after′
-  -- both outputs are lent to be read, and the part shown is the front of one of them
+  -- the cheaper of both: the two outputs are lent to be read, and the part shown is the front of one of them
   pub cheaper-shown : (first second : List ℕ) (of-first of-second : Tally) (part : List ℕ)
       → part ≡ cheaper-part first second of-first of-second
       → (part ≡ take (of-first .steps) first) ⊎ (part ≡ take (of-second .steps) second)
+  -- the exact reduction
   pub exact-reduction : (w l before : List ℕ) (r : Minimised) (after : List ℕ)
       → Minimises most-unmarked w l before r after
       → Refuses-just exact-numbers (minimal-checks most-unmarked w l (length before)) (told-answer (r .answer))

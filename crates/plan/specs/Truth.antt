@@ -2,7 +2,7 @@
 -- proofs/PlanTheorem. Assumes nothing.
 use Prim.Native.Nat.{ℕ, _+_, _-_}
 use mathlib.Core.Path.{_≡_}
-use mathlib.Core.Logic.{_⊎_}
+use mathlib.Core.Logic.{_⊎_, _↔_}
 use mathlib.Core.Option.{none, some}
 use mathlib.Core.List.{List, _++_}
 use lib.ListN.{length, replicate}
@@ -27,7 +27,7 @@ pub record Told-truly (w l : List ℕ) : Type 0 where
   -- and a plan passes
   pub plan-passes : Plan (task w) (steps w l) → answer (plan-checks w l) ≡ none
   -- another list is refused by number 11, at the place where it fails to be one
-  pub first-failing : (t : Told) → answer (plan-checks w l) ≡ some t → (t .number ≡ 11) × Fails-at w l (t .place)
+  pub first-failing : (t : Told) → answer (plan-checks w l) ≡ some t ↔ ((t .number ≡ 11) × Fails-at w l (t .place))
   -- the final state of a list that passes is γ(I, ⟨a₁, …, aₙ⟩)
   pub reached : answer (plan-checks w l) ≡ none → run (initial w) (steps w l) ≡ some (final (initial w) (steps w l))
   -- the end state told is that state, with zeros past its variables

@@ -12,8 +12,7 @@ use lib.ListN.{length, length-replicate, List·getD-eq-default}
 use lib.Dec.{ltb}
 use borrow.Author.Tests.{ltb-true, ltb-false}
 use Rattle.sas.specs.Task.{Assignment, State, Action}
-use Rattle.sas.specs.Plan.{cost}
-use Rattle.reduction.specs.Reduction.{Reduction, kept, count, whole, valid, Valid-reduction}
+use Rattle.reduction.specs.Reduction.{Reduction, count, whole, valid, Valid-reduction}
 use Rattle.reduction.specs.Trials.{Elimination-leaves, strikes-stand, goes-on, all-tried, Greedy-leaves, takes, without-success, Shortens}
 use Rattle.reduction.specs.Elimination.{trial, eliminated, eliminate, best, rounds, greedy}
 use Rattle.reduction.proofs.ReductionLaws.{whole-valid, kept-length, count-whole, left-length, left-cost}
@@ -177,7 +176,8 @@ module _ (s : State) (goal : Assignment) (p : List Action) where
   rounds-only {m} (without-success now fails) (suc n) few = rw (no-round-in-words s goal p m now .1 fails, rounds)
 
   -- greedy elimination leaves what document 01's words leave, and nothing else
-  pub greedy-in-words : valid s goal p ≡ true → (x : Reduction) → x ≡ greedy s goal p ↔ Greedy-leaves s goal p (whole p) x
+  pub greedy-in-words : valid s goal p ≡ true
+      → (x : Reduction) → x ≡ greedy s goal p ↔ Greedy-leaves s goal p (whole p) x
   unfolding greedy
   greedy-in-words v x =
       (λ is. rw is (rounds-leave (length p) (whole p) (whole-valid p v) (omega (arith, count-whole p))), λ leaves. rounds-only leaves (length p) (omega (arith, count-whole p)))

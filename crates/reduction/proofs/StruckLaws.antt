@@ -1,13 +1,13 @@
 -- What is struck of a reduction, and what is left of it: together they are the reduction, in cost and in number. By one walk along both. Assumes nothing.
 use Prim.Native.Nat.{ℕ, zero, suc, _+_}
 use native.Mathlib.Omega.{arith}
-use mathlib.Core.Path.{_≡_, refl, _∙_, ap}
+use mathlib.Core.Path.{_≡_, refl}
 use mathlib.Core.Bool.{true, false, false≢true}
 use mathlib.Core.List.{List, [], _∷_}
 use lib.ListN.{set}
 use Rattle.sas.specs.Task.{Action}
 use Rattle.sas.specs.Plan.{cost}
-use Rattle.reduction.specs.Reduction.{Reduction, keeps, kept, count, Contains}
+use Rattle.reduction.specs.Reduction.{Reduction, kept, count, Contains}
 use Rattle.reduction.specs.Trials.{struck-from}
 use Rattle.reduction.proofs.ReductionLaws.{kept-none}
 

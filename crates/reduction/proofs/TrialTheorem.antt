@@ -1,34 +1,26 @@
 -- A trial, and the choice of a round of greedy elimination, are document 01's, word by word. In a valid current list the trial of the definition, which
 -- walks from the start, is the one that walks along the rest from the state before its step (`trial-from-before`); and since all trials of a round strike
 -- from one list, the lowest list left is the one of which most was struck. Assumes nothing.
-use Prim.Native.Nat.{ℕ, suc, _+_, _≤_, _<_}
+use Prim.Native.Nat.{ℕ, _+_, _≤_, _<_}
 use native.Mathlib.Omega.{arith}
 use mathlib.Core.Path.{_≡_, refl, sym, _∙_, ap}
 use mathlib.Core.Logic.{_⊎_, inl, inr, _↔_}
-use mathlib.Core.Bool.{Bool, true, false, false≢true}
+use mathlib.Core.Bool.{Bool, true, false}
 use mathlib.Core.Option.{Option, none, some, Option·some-ne-none, Option·some-injective}
 use mathlib.Core.List.{List}
-use lib.ListN.{length, getD, set, List·getD-eq-default}
+use lib.ListN.{length, set}
 use lib.Dec.{ltb}
 use borrow.Author.Tests.{ltb-true, ltb-false}
 use Rattle.sas.specs.Task.{Assignment, State, Action}
 use Rattle.sas.specs.Plan.{cost}
-use Rattle.reduction.specs.Reduction.{Reduction, keeps, kept, count, lower, Valid-reduction, Contains}
+use Rattle.reduction.specs.Reduction.{Reduction, keeps, kept, count, Valid-reduction, Contains}
 use Rattle.reduction.specs.Elimination.{trial, best}
-use Rattle.reduction.specs.Trials.{Trial-leaves, Trial-fails, struck-from, cost-struck, steps-struck, Takes}
-use Rattle.reduction.proofs.ReductionLaws.{kept-length}
+use Rattle.reduction.specs.Trials.{Trial-leaves, Trial-fails, cost-struck, steps-struck, Takes}
+use Rattle.reduction.proofs.ReductionLaws.{kept-length, kept-inside}
 use Rattle.reduction.proofs.LowerLaws.{Lower, lower-true, lower-false}
 use Rattle.reduction.proofs.StruckLaws.{struck-steps, struck-cost, contains-struck}
 use Rattle.reduction.proofs.TrialLaws.{Succeeds, trial-succeeds, succeeds-trial, From-before, trial-from-before, success-length, walk-contains}
 use Rattle.reduction.proofs.GreedyChoice.{Chosen, best-none, best-chosen}
-
--- a step that is kept is one of the list
-kept-inside : (m : Reduction) (i : ℕ) → keeps m i → i < length m
-kept-inside m i k = by-case (ltb i (length m)) refl
-  where
-    by-case : (b : Bool) → ltb i (length m) ≡ b → i < length m
-    by-case true e = ltb-true i (length m) e
-    by-case false e = absurd (false≢true (sym (List·getD-eq-default m false (ltb-false i (length m) e)) ∙ k))
 
 module _ (s : State) (goal : Assignment) (p : List Action) (m : Reduction) (v : Valid-reduction s goal p m) where
   from-before : (i : ℕ) → keeps m i → From-before s p m i

@@ -3,7 +3,7 @@
 -- proofs/TrialTheorem and proofs/EliminationTheorem. Assumes nothing.
 use Prim.Native.Nat.{ℕ, suc, _≤_}
 use mathlib.Core.Path.{_≡_}
-use mathlib.Core.Bool.{false, not, true, _&&_}
+use mathlib.Core.Bool.{true, false, not, _&&_}
 use mathlib.Core.List.{List, [], _∷_, _++_}
 use lib.ListN.{length, take, drop}
 use Rattle.sas.specs.Task.{Assignment, State, Action}
@@ -36,7 +36,7 @@ abbrev pub steps-struck : Reduction → Reduction → ℕ
 steps-struck m x = count (struck-from m x)
 
 module _ (s : State) (goal : Assignment) (p : List Action) where
-  -- the trial at index i succeeds with nothing
+  -- the trial at index i does not succeed
   abbrev pub Trial-fails : Reduction → ℕ → Type 0
   Trial-fails m i = (x : Reduction) → Trial-leaves s goal p m i x → ⊥
 
