@@ -115,6 +115,7 @@ pub record Added-truly (t : Tally) (price : ℕ) (r : Tally) : Type 0 where
 abbrev pub Tally-lower : Tally → Tally → Type 0
 Tally-lower t u = (t .cost < u .cost) ⊎ ((t .cost ≡ u .cost) × (t .steps < u .steps))
 
+-- two tallies compared
 pub record Compared-truly (t u : Tally) (r : Order) : Type 0 where
   pub less : r ≡ Less ↔ Tally-lower t u
   pub equal : r ≡ Equal ↔ t ≡ u

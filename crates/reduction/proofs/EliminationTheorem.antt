@@ -13,7 +13,7 @@ use lib.Dec.{ltb}
 use borrow.Author.Tests.{ltb-true, ltb-false}
 use Rattle.sas.specs.Task.{Assignment, State, Action}
 use Rattle.reduction.specs.Reduction.{Reduction, count, whole, valid, Valid-reduction}
-use Rattle.reduction.specs.Trials.{Elimination-leaves, strikes-stand, goes-on, all-tried, Greedy-leaves, takes, without-success, Shortens}
+use Rattle.reduction.specs.Trials.{Elimination-leaves, strikes-stand, does-step, all-tried, Greedy-leaves, takes, without-success, Shortens}
 use Rattle.reduction.specs.Elimination.{trial, eliminated, eliminate, best, rounds, greedy}
 use Rattle.reduction.proofs.ReductionLaws.{whole-valid, kept-length, count-whole, left-length, left-cost}
 use Rattle.reduction.proofs.GreedyChoice.{best-none, best-chosen}
@@ -124,7 +124,7 @@ module _ (s : State) (goal : Assignment) (p : List Action) (v : valid s goal p �
       by-case : Elimination-leaves s goal p (suc n) (at-turn (suc n)) (eliminate s goal p) → (r : Option Reduction) → trial s goal p (at-turn n) n ≡ r
           → Elimination-leaves s goal p n (at-turn n) (eliminate s goal p)
       by-case rest none e =
-          goes-on (eliminated-valid s goal p v n) (failure-in-words s goal p (at-turn n) (eliminated-valid s goal p v n) n .0 e) (rw (turn-failure n e) at rest)
+          does-step (eliminated-valid s goal p v n) (failure-in-words s goal p (at-turn n) (eliminated-valid s goal p v n) n .0 e) (rw (turn-failure n e) at rest)
       by-case rest (some x) e =
           strikes-stand (eliminated-valid s goal p v n) (trial-in-words s goal p (at-turn n) (eliminated-valid s goal p v n) n x .0 e) (rw (turn-success n x e) at rest)
 
@@ -132,7 +132,7 @@ module _ (s : State) (goal : Assignment) (p : List Action) (v : valid s goal p �
   unfolding eliminate
   turns-only {n} {m} {x} (strikes-stand {n = k} now t rest) same =
       turns-only rest (sym (turn-success n k (rw same at (trial-in-words s goal p m now n k .1 t))))
-  turns-only {n} {m} {x} (goes-on now fails rest) same =
+  turns-only {n} {m} {x} (does-step now fails rest) same =
       turns-only rest (same ∙ sym (turn-failure n (rw same at (failure-in-words s goal p m now n .1 fails))))
   turns-only {n} {m} (all-tried now past) same =
       let here : (n - length p) + length p ≡ n = omega arith in

@@ -46,7 +46,7 @@ module _ (s : State) (goal : Assignment) (p : List Action) where
   pub data Elimination-leaves : ℕ → Reduction → Reduction → Type 0 where
     strikes-stand : {i : ℕ} {m n x : Reduction} → Valid-reduction s goal p m → Trial-leaves s goal p m i n
         → Elimination-leaves (suc i) n x → Elimination-leaves i m x
-    goes-on : {i : ℕ} {m x : Reduction} → Valid-reduction s goal p m → Trial-fails m i
+    does-step : {i : ℕ} {m x : Reduction} → Valid-reduction s goal p m → Trial-fails m i
         → Elimination-leaves (suc i) m x → Elimination-leaves i m x
     all-tried : {i : ℕ} {m : Reduction} → Valid-reduction s goal p m → length p ≤ i → Elimination-leaves i m m
 
