@@ -1,17 +1,27 @@
 -- The marks of a list are those of document 01's rule ("Marks"): `flagged-just-marked` says that the rule marks just the steps that are flagged, and each step
--- has a flag. Nothing here is about the code: its contract cites the same definitions. Assumes nothing.
-use Prim.Native.Nat.{ℕ}
-use mathlib.Core.Path.{_≡_, _∙_}
+-- has a flag, which is its bit in the mask that the service tells. Nothing here is about the code: its contract cites the same definitions. Assumes nothing.
+use Prim.Native.Nat.{ℕ, _≤_}
+use native.Mathlib.Omega.{arith}
+use mathlib.Core.Path.{_≡_, sym, _∙_}
 use mathlib.Core.Logic.{_↔_}
-use mathlib.Core.List.{List}
-use lib.ListN.{length, length-map}
+use mathlib.Core.Bool.{true, false}
+use mathlib.Core.Option.{none}
+use mathlib.Core.List.{List, []}
+use lib.ListN.{length, getD, length-map}
+use Rattle.refusal.specs.declared.Verdict.{Verdict}
+use Rattle.refusal.specs.Refusal.{told}
+use Rattle.refusal.specs.Check.{answer}
 use Rattle.sas.specs.Plan.{holds}
 use Rattle.reduction.specs.Reduction.{keeps}
 use Rattle.reduction.specs.Landmark.{Marked}
 use Rattle.reduction.proofs.LandmarkTheorem.{landmarks-length, flagged-just-marked}
 use Rattle.sheet.specs.Decode.{initial, goal, action}
+use Rattle.mask.specs.Mask.{mask-bits, bit-up}
+use Rattle.mask.proofs.MaskTheorem.{up-is-flag}
 use Rattle.plan.specs.Valid.{steps}
-use Rattle.landmark.specs.Marks.{marks}
+use Rattle.plan.specs.Checked.{plan-checks}
+use Rattle.plan.proofs.PlanLaws.{passed-readable}
+use Rattle.landmark.specs.Marks.{marks, Masks}
 
 -- step i of document 01 stands at index i − 1
 pub marks-theorem : (w l : List ℕ) (i : ℕ) → keeps (marks w l) i ↔ Marked (holds (initial w)) (goal w) (steps w l) i
@@ -22,3 +32,12 @@ marks-theorem w l i = flagged-just-marked (initial w) (goal w) (steps w l) i
 pub marks-length : (w l : List ℕ) → length (marks w l) ≡ length l
 unfolding marks
 marks-length w l = landmarks-length (initial w) (goal w) (steps w l) ∙ length-map l (action w)
+
+-- "Marks are returned as such a mask, one for marked": bit i of the mask told is one just where step i + 1 is marked
+pub bits-just-marked : (w l : List ℕ) (verdict : Verdict) (mask : List ℕ) → Masks w l verdict mask → told verdict ≡ none
+    → (i : ℕ) → bit-up mask i ≡ true ↔ Marked (holds (initial w)) (goal w) (steps w l) i
+bits-just-marked w l verdict mask masks passes i =
+    let passed : answer (plan-checks w l) ≡ none = sym (masks .refusal) ∙ passes in
+    let few : length (marks w l) ≤ mask-bits = omega (arith, marks-length w l, passed-readable [] w l passed .few) in
+    let flag : bit-up mask i ≡ getD (marks w l) i false = rw (rw passed at (masks .told-by)) (up-is-flag (marks w l) few i) in
+    rw flag (marks-theorem w l i)

@@ -3,17 +3,19 @@
 use Prim.Native.Nat.{ℕ, _+_, _*_, _/_, _%_, _^_, _≤_, _<_}
 use native.Mathlib.Nat.{zero-add}
 use native.Mathlib.Omega.{arith}
-use mathlib.Core.Path.{_≡_, refl, _∙_}
+use mathlib.Core.Path.{_≡_, refl, sym, _∙_}
 use mathlib.Core.Bool.{Bool, true, false}
 use mathlib.Core.List.{List, _++_}
-use lib.ListN.{length, getD, drop}
+use lib.ListN.{length, getD, drop, List·getD-eq-default}
 use lib.Seq.{sets, sets-eq, getD-take, getD-drop}
-use lib.Dec.{eqb}
+use lib.Dec.{ltb, eqb}
+use borrow.Author.Tests.{ltb-true, ltb-false}
 use Rattle.reduction.specs.Reduction.{Reduction, kept, count}
 use Rattle.reduction.proofs.ReductionLaws.{kept-length}
 use Rattle.mask.specs.Mask.{mask-length, word-bits, mask-bits, digit, mask-words, ones-of, bit-up}
 use Rattle.mask.specs.between.Places.{kept-by-words}
 use Rattle.mask.proofs.MaskWordLaws.{binary-bit}
+use Rattle.mask.proofs.BitLaws.{none-up}
 use Rattle.mask.proofs.MaskLaws.{words-at, words-fit, words-ones}
 use Rattle.mask.proofs.KeptWordLaws.{words-keep}
 
@@ -31,10 +33,16 @@ module _ (m : Reduction) where
       let whole : word-bits * (i / word-bits) + i % word-bits ≡ i = omega arith in
       rw (words-at mask-length (i / word-bits) m word, binary-bit, getD-take word-bits _ (i % word-bits) false bit, getD-drop, whole)
 
-  -- so a step is read as kept just where its flag is up
-  pub up-is-flag : (i : ℕ) → i < mask-bits → bit-up (mask-words m) i ≡ getD m i false
-  unfolding bit-up
-  up-is-flag i h = rw (bit-is-flag i h) (is-one (getD m i false))
+  -- so a step is read as kept just where its flag is up, and past the bits of the mask none is
+  pub up-is-flag : length m ≤ mask-bits → (i : ℕ) → bit-up (mask-words m) i ≡ getD m i false
+  unfolding bit-up mask-words words-of
+  up-is-flag few i = by-case (ltb i mask-bits) refl
+    where
+      by-case : (b : Bool) → ltb i mask-bits ≡ b → bit-up (mask-words m) i ≡ getD m i false
+      by-case true e = rw (bit-is-flag i (ltb-true i mask-bits e)) (is-one (getD m i false))
+      by-case false e =
+          let past : mask-bits ≤ i = ltb-false i mask-bits e in
+          sym (none-up (mask-words m) i refl (omega arith)) ∙ sym (List·getD-eq-default m false (omega arith))
 
   -- each word fits its type
   pub word-fits : (k : ℕ) → getD (mask-words m) k 0 < 2 ^ word-bits

@@ -14,7 +14,7 @@ use lib.Seq.{drop-cons}
 use Rattle.refusal.specs.declared.place.Place.the-variants.{Nowhere, At}
 use Rattle.refusal.specs.Place.{when}
 use Rattle.sas.specs.Task.{Assignment, State, Action}
-use Rattle.sas.specs.Plan.{satisfies, applicable, apply, run, Stuck}
+use Rattle.sas.specs.Plan.{satisfies, applicable, apply, run, Stuck, Unmet}
 use Rattle.sas.proofs.ActionLaws.{apply-length, result-applicable, result-assigned}
 use Rattle.sas.proofs.RunLaws.{run-end, run-first}
 use Rattle.sas.proofs.Faults.{none-stuck}
@@ -122,12 +122,6 @@ run-final {t} s [] h = sym (run-end s t h) ∙ sym (final-end s)
 run-final {t} s (a ∷ p) h =
     let (u, first, rest) = run-first s a p h in
     run-final u p rest ∙ rw (result-assigned s a first) (sym (final-applied s a p))
-
--- every action of a sequence can be applied in turn, but the goal does not hold after the last
-pub record Unmet (goal : Assignment) (s : State) (p : List Action) : Type 0 where
-  pub end : State
-  pub reached : run s p ≡ some end
-  pub goal-fails : satisfies end goal ≡ false
 
 -- a sequence is stuck, or runs to a state where the goal fails, or to one where it holds
 data Outcome (goal : Assignment) (s : State) (p : List Action) : Type 0 where

@@ -3,8 +3,8 @@
 -- list's actions. Nothing here is about the code: its contract cites the same definitions. Assumes nothing.
 use Prim.Native.Nat.{ℕ, _+_, _-_, _≤_}
 use native.Mathlib.Omega.{arith}
-use mathlib.Core.Path.{_≡_, refl, sym, _∙_}
-use mathlib.Core.Logic.{_⊎_, _↔_}
+use mathlib.Core.Path.{_≡_, refl, sym, _∙_, ap}
+use mathlib.Core.Logic.{inl, inr, _↔_}
 use mathlib.Core.Option.{none, some, Option·some-ne-none, Option·some-injective}
 use mathlib.Core.List.{List, [], _++_}
 use lib.ListN.{length, replicate, length-map}
@@ -13,34 +13,18 @@ use Rattle.refusal.specs.declared.place.Place.the-variants.{Nowhere, At}
 use Rattle.refusal.specs.declared.Refusal.the-variants.{NotAPlan}
 use Rattle.refusal.specs.Refusal.{Told, told-refusal}
 use Rattle.refusal.specs.Check.{answer}
-use Rattle.sas.specs.Plan.{run, Plan, Stuck}
+use Rattle.sas.specs.Plan.{Plan}
 use Rattle.sheet.specs.Layout.{variables}
 use Rattle.step.proofs.StateLaws.{few-variables, array-parts, initial-length}
-use Rattle.refusal.proofs.CheckLaws.{answer-nothing}
+use Rattle.refusal.proofs.CheckLaws.{told-parts, answer-nothing}
 use Rattle.sheet.specs.Limits.{limits}
 use Rattle.sheet.specs.Decode.{initial, goal, action, task}
 use Rattle.plan.specs.Valid.{steps, fault, final}
 use Rattle.plan.specs.Checked.{plan-checks, end-state}
-use Rattle.plan.proofs.FaultLaws.{final-length, Unmet, runs-faultless, faultless-runs, fault-told}
+use Rattle.plan.specs.Truth.{Fails-at, Told-truly}
+use Rattle.plan.proofs.FaultLaws.{final-length, runs-faultless, unmet-fault, stuck-fault, faultless-runs, fault-told}
 use Rattle.plan.proofs.PlanLaws.{steps-known, passed-readable, fault-answers, faultless-passes, passes-faultless}
 use Rattle.plan.specs.Readable.{Readable}
-
--- where a list that can be read is no plan: place k is that of the first step that can't be done, or one past the last and only the goal is unmet
-abbrev pub Fails-at : List ℕ → List ℕ → ℕ → Type 0
-Fails-at w l k = Stuck (initial w) (steps w l) k ⊎ ((k ≡ length l + 1) × Unmet (goal w) (initial w) (steps w l))
-
--- what holds of the check of a list l that can be read, of the sheet w
-pub record Told-truly (w l : List ℕ) : Type 0 where
-  -- a list that passes is a plan
-  pub passed-plan : answer (plan-checks w l) ≡ none → Plan (task w) (steps w l)
-  -- and a plan passes
-  pub plan-passes : Plan (task w) (steps w l) → answer (plan-checks w l) ≡ none
-  -- another list is refused by number 11, at the place where it fails to be one
-  pub first-failing : (t : Told) → answer (plan-checks w l) ≡ some t → (t .number ≡ 11) × Fails-at w l (t .place)
-  -- the final state of a list that passes is γ(I, ⟨a₁, …, aₙ⟩)
-  pub reached : answer (plan-checks w l) ≡ none → run (initial w) (steps w l) ≡ some (final (initial w) (steps w l))
-  -- the end state told is that state, with zeros past its variables
-  pub end : end-state w l ≡ final (initial w) (steps w l) ++ replicate (limits .variables - variables w) 0
 
 module _ (w l : List ℕ) (readable : Readable w l) where
   no-fault : answer (plan-checks w l) ≡ none → fault (goal w) (initial w) 1 (steps w l) ≡ Nowhere
@@ -63,6 +47,18 @@ module _ (w l : List ℕ) (readable : Readable w l) where
       let same : told-refusal (NotAPlan k) ≡ t = Option·some-injective _ _ (sym (fault-answers [] w l readable answer-nothing k e) ∙ h) in
       rw (← same) (refl, rw (← length-map l (action w)) (fault-told (goal w) (initial w) (steps w l) k e))
 
+  failing-fault : (k : ℕ) → Fails-at w l k → fault (goal w) (initial w) 1 (steps w l) ≡ At k
+  failing-fault k (inl stuck) =
+      let here : 1 + length (stuck .earlier) ≡ k = omega (arith, stuck .position) in
+      rw here at (stuck-fault (goal w) (initial w) 1 (steps w l) stuck)
+  failing-fault k (inr (past, unmet)) =
+      let here : 1 + length (steps w l) ≡ k = omega (arith, length-map l (action w)) in
+      rw here at (unmet-fault (goal w) (initial w) 1 (steps w l) unmet)
+
+  failing-refused : (t : Told) → t .number ≡ 11 → Fails-at w l (t .place) → answer (plan-checks w l) ≡ some t
+  failing-refused t number fails =
+      fault-answers [] w l readable answer-nothing (t .place) (failing-fault (t .place) fails) ∙ ap some (told-parts t 11 (sym number))
+
   ends : end-state w l ≡ final (initial w) (steps w l) ++ replicate (limits .variables - variables w) 0
   ends =
       let kept : length (final (initial w) (steps w l)) ≡ length (initial w) = final-length (initial w) (steps w l) in
@@ -75,7 +71,7 @@ module _ (w l : List ℕ) (readable : Readable w l) where
       record {
         passed-plan = passed-is-plan;
         plan-passes = plan-is-passed;
-        first-failing = λ t h. refused-where t h _ refl;
+        first-failing = λ t. (λ h. refused-where t h _ refl, λ (number, fails). failing-refused t number fails);
         reached = λ h. faultless-runs (goal w) (initial w) 1 (steps w l) (no-fault h) .0;
         end = ends;
       }

@@ -18,6 +18,10 @@ pub mod PartWalk
 pub mod LowerLaws
 -- GreedyChoice: what a round of greedy elimination takes.
 pub mod GreedyChoice
+-- StruckLaws: what is struck of a reduction and what is left of it are together the reduction.
+pub mod StruckLaws
+-- TrialTheorem: trials, and what a round of greedy elimination takes, in document 01's words.
+pub mod TrialTheorem
 -- EliminationTheorem: what the eliminations leave is valid, and no trial succeeds on what greedy elimination leaves.
 pub mod EliminationTheorem
 -- BeforeLaws: the state before an index of a valid reduction, step by step, and flags past the end of a plan.

@@ -128,13 +128,17 @@ strike-cost (false ∷ m) (true ∷ n) (a ∷ p) h = absurd (false≢true (h 0 r
 strike-cost (true ∷ m) (false ∷ n) (a ∷ p) h = omega (arith, strike-cost m n p (λ i. h (suc i)))
 strike-cost (false ∷ m) (false ∷ n) (a ∷ p) h = strike-cost m n p (λ i. h (suc i))
 
--- every reduction is one of that which strikes none
-pub contains-whole : {A : Type 0} (m : Reduction) (p : List A) → length m ≡ length p → Contains (whole p) m
-contains-whole m p fits i k = by-case (ltb i (length m)) refl
+-- a step that is kept is one of the list
+pub kept-inside : (m : Reduction) (i : ℕ) → keeps m i → i < length m
+kept-inside m i k = by-case (ltb i (length m)) refl
   where
-    by-case : (b : Bool) → ltb i (length m) ≡ b → keeps (whole p) i
-    by-case true e = getD-replicate (length p) i true false (omega (arith, ltb-true i (length m) e))
+    by-case : (b : Bool) → ltb i (length m) ≡ b → i < length m
+    by-case true e = ltb-true i (length m) e
     by-case false e = absurd (false≢true (sym (List·getD-eq-default m false (ltb-false i (length m) e)) ∙ k))
+
+-- so every reduction is one of that which strikes none
+pub contains-whole : {A : Type 0} (m : Reduction) (p : List A) → length m ≡ length p → Contains (whole p) m
+contains-whole m p fits i k = getD-replicate (length p) i true false (omega (arith, kept-inside m i k))
 
 -- so no list left is longer than the lodged one
 pub left-length : {A : Type 0} (m : Reduction) (p : List A) → length m ≡ length p → length (kept m p) ≤ length p

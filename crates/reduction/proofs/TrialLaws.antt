@@ -88,6 +88,10 @@ trial-succeeds {n} s goal p m i h = by-case (getD m i false && satisfies (after 
         record { tried = tried; left = sym (Option·some-injective _ _ (rw e at h)); met = met }
     by-case false e = absurd (Option·some-ne-none n (sym (rw e at h)))
 
+pub succeeds-trial : {n : Reduction} {s : State} {goal : Assignment} {p : List Action} {m : Reduction} {i : ℕ} → Succeeds s goal p m i n → trial s goal p m i ≡ some n
+unfolding trial
+succeeds-trial t = rw (t .tried, t .met, t .left)
+
 -- a step that is not kept is not tried
 pub unkept-fails : (s : State) (goal : Assignment) (p : List Action) (m : Reduction) (i : ℕ) → getD m i false ≡ false → trial s goal p m i ≡ none
 unfolding trial

@@ -26,7 +26,7 @@ after s (a ∷ p) (true ∷ m) = elim (applicable s a) [ true ↦ after (apply s
 -- "Trial at position i: strike step i, walk the rest from the state before i, and strike also each later step that
 -- can't be done. The trial succeeds when the goal holds after the whole walk": what it leaves, if it succeeds. The walk
 -- is made from the start: in a valid current list it strikes nothing before i and comes to i in the state before it
--- (`trial-from-before` of proofs/TrialLaws).
+-- (`trial-in-words` of proofs/TrialTheorem).
 unfoldable pub trial : State → Assignment → List Action → Reduction → ℕ → Option Reduction
 trial s goal p m i =
     let struck : Reduction = set m i false in
@@ -43,7 +43,7 @@ eliminate s goal p = eliminated s goal p (length p)
 
 -- of two successes, perhaps none, the one that leaves the lower list, and the first where they are equal. The trials of
 -- a round strike from one list, so the largest price struck is the lowest price left, and the most steps struck the
--- fewest left.
+-- fewest left (`round-in-words` of proofs/TrialTheorem).
 unfoldable pub better : List Action → Option Reduction → Option Reduction → Option Reduction
 better p none y = y
 better p (some m) none = some m

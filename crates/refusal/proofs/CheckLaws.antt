@@ -8,6 +8,10 @@ use Rattle.refusal.specs.declared.place.Place.the-variants.{Nowhere, At}
 use Rattle.refusal.specs.Refusal.{Told}
 use Rattle.refusal.specs.Check.{Check, answer}
 
+-- what is told is its number and its place
+pub told-parts : (t : Told) (n : ℕ) → n ≡ t .number → _≡_ {A = Told} (record { number = n; place = t .place }) t
+told-parts t n e = rw e
+
 pub answer-fires : (c : Check) (cs : List Check) (k : ℕ) → c .fires ≡ At k → answer (c ∷ cs) ≡ some (record { number = c .number; place = k })
 unfolding answer
 answer-fires c cs k e = rw e

@@ -76,6 +76,12 @@ pub record Stuck (s : State) (p : List Action) (i : ℕ) : Type 0 where
   pub reached : run s earlier ≡ some before
   pub not-applicable : applicable before here ≡ false
 
+-- every action of p can be applied in turn, but the goal does not hold after the last
+pub record Unmet (goal : Assignment) (s : State) (p : List Action) : Type 0 where
+  pub end : State
+  pub reached : run s p ≡ some end
+  pub goal-fails : satisfies end goal ≡ false
+
 -- the cost of a sequence of actions: the sum of their costs
 unfoldable pub cost : List Action → ℕ
 cost [] = 0

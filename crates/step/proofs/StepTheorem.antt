@@ -9,7 +9,8 @@ use mathlib.Core.Option.{Option, none, some}
 use mathlib.Core.List.{List}
 use lib.ListN.{length, getD}
 use borrow.Author.Tests.{leb-false}
-use Rattle.refusal.specs.Refusal.{Told}
+use Rattle.refusal.specs.declared.Verdict.{Verdict}
+use Rattle.refusal.specs.Refusal.{Told, told}
 use Rattle.refusal.specs.Check.{answer}
 use Rattle.refusal.proofs.PlaceLaws.{when-nowhere}
 use Rattle.refusal.proofs.CheckLaws.{none-fires, answer-second, first-none}
@@ -22,21 +23,7 @@ use Rattle.sheet.specs.Layout.{variables, actions}
 use Rattle.sheet.specs.Decode.{domains, action, task}
 use Rattle.sheet.specs.Causes.{sheet-checks, Accepted}
 use Rattle.sheet.proofs.Accepted.{domains-length, action-known, accepted-well-formed}
-use Rattle.step.specs.Step.{own-checks, step-checks, state-after}
-
--- what holds of the state after a step of action a of the sheet w in the state s
-pub record After (w s : List ℕ) (a : ℕ) : Type 0 where
-  -- a refused step leaves the state, all its values
-  pub refused : (t : Told) → answer (step-checks w s a) ≡ some t → state-after w s a ≡ s
-  -- a step that is done gives each variable in its effect the value named
-  pub named : answer (step-checks w s a) ≡ none → (f : Fact) → may-write (action w a) f → f .variable < length s → getD (state-after w s a) (f .variable) 0 ≡ f .value
-  -- done or refused, a step keeps the others
-  pub others : (v : ℕ) → ((f : Fact) → may-write (action w a) f → f .variable ≢ v)
-      → getD (state-after w s a) v 0 ≡ getD s v 0
-  -- among them those past the task's variables
-  pub past : (v : ℕ) → variables w ≤ v → getD (state-after w s a) v 0 ≡ getD s v 0
-  -- and no value is added or lost
-  pub complete : length (state-after w s a) ≡ length s
+use Rattle.step.specs.Step.{own-checks, step-checks, state-after, Steps, After}
 
 module _ (w s : List ℕ) (a : ℕ) where
   refused-state : (t : Told) → answer (step-checks w s a) ≡ some t → state-after w s a ≡ s
@@ -73,11 +60,14 @@ module _ (w s : List ℕ) (a : ℕ) where
   length-kept none e = ap length (done-state e) ∙ apply-length s (action w a)
   length-kept (some t) e = ap length (refused-state t e)
 
-pub step-theorem : (w s : List ℕ) (a : ℕ) → After w s a
-step-theorem w s a = record {
+told-state : (w s : List ℕ) (a : ℕ) → After w s a (answer (step-checks w s a)) (state-after w s a)
+told-state w s a = record {
   refused = refused-state w s a;
   named = λ e f m below. rw (done-state w s a e) (holds-value _ f (apply-holds (action w a) (done-formed w s a e) s m below));
   others = λ v h. other-kept w s a v _ refl (λ e. h);
   past = λ v h. other-kept w s a v _ refl (past-unnamed w s a v h);
   complete = length-kept w s a _ refl;
 }
+
+pub step-theorem : (w before : List ℕ) (a : ℕ) (verdict : Verdict) (after : List ℕ) → Steps w before a verdict after → After w before a (told verdict) after
+step-theorem w before a verdict after steps = rw (steps .verdict-told, steps .state) (told-state w before a)

@@ -1,16 +1,19 @@
 -- What one step answers, and the state after it (document 01, "Doing a step, and a valid list"). Assumes nothing.
-use Prim.Native.Nat.{ℕ}
+use Prim.Native.Nat.{ℕ, _≤_, _<_}
 use mathlib.Core.Path.{_≡_}
+use mathlib.Core.Logic.{_≢_}
 use mathlib.Core.Bool.{not}
-use mathlib.Core.Option.{none, some}
+use mathlib.Core.Option.{Option, none, some}
 use mathlib.Core.List.{List, [], _∷_, _++_}
+use lib.ListN.{length, getD}
 use lib.Dec.{leb}
 use Rattle.refusal.specs.declared.Verdict.{Verdict}
 use Rattle.refusal.specs.Place.{when}
-use Rattle.refusal.specs.Refusal.{told}
+use Rattle.refusal.specs.Refusal.{Told, told}
 use Rattle.refusal.specs.Check.{Check, answer}
-use Rattle.sas.specs.Plan.{applicable, apply}
-use Rattle.sheet.specs.Layout.{actions}
+use Rattle.sas.specs.Task.{Fact}
+use Rattle.sas.specs.Plan.{applicable, apply, may-write}
+use Rattle.sheet.specs.Layout.{variables, actions}
 use Rattle.sheet.specs.Decode.{action}
 use Rattle.sheet.specs.Causes.{sheet-checks}
 
@@ -33,3 +36,17 @@ state-after w s a = elim (answer (step-checks w s a)) [ none ↦ apply s (action
 pub record Steps (w before : List ℕ) (a : ℕ) (verdict : Verdict) (after : List ℕ) : Type 0 where
   pub verdict-told : told verdict ≡ answer (step-checks w before a)
   pub state : after ≡ state-after w before a
+
+-- what holds of the state after a step, by whether it is refused: `step-theorem` of proofs/StepTheorem
+pub record After (w before : List ℕ) (a : ℕ) (refusal : Option Told) (after : List ℕ) : Type 0 where
+  -- a refused step leaves the state, all its values
+  pub refused : (t : Told) → refusal ≡ some t → after ≡ before
+  -- a step that is done gives each variable in its effect the value named
+  pub named : refusal ≡ none → (f : Fact) → may-write (action w a) f → f .variable < length before
+      → getD after (f .variable) 0 ≡ f .value
+  -- done or refused, a step keeps the others
+  pub others : (v : ℕ) → ((f : Fact) → may-write (action w a) f → f .variable ≢ v) → getD after v 0 ≡ getD before v 0
+  -- among them those past the task's variables
+  pub past : (v : ℕ) → variables w ≤ v → getD after v 0 ≡ getD before v 0
+  -- and no value is added or lost
+  pub complete : length after ≡ length before

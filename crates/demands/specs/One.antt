@@ -1,0 +1,110 @@
+-- Demand 1 as one statement: "What is lent is only read. An output changes only on an answer, and only in its first
+-- words, one for each kept move; a site state changes only where the done step writes. Each refusal comes under its
+-- condition and no other, and leaves all lent words untouched." A field for each service says it of whatever the
+-- service's contract allows. Assumes nothing.
+use Prim.Native.Nat.{ℕ, min, _≤_}
+use mathlib.Core.Path.{_≡_}
+use mathlib.Core.Logic.{_⊎_, _↔_}
+use mathlib.Core.Option.{Option, none, some}
+use mathlib.Core.List.{List, [], _∷_, _++_, map, List·Memᴰ}
+use lib.ListN.{length, take, drop}
+use Rattle.refusal.specs.declared.Verdict.{Verdict}
+use Rattle.refusal.specs.declared.place.Place.the-variants.{Nowhere, At}
+use Rattle.refusal.specs.Refusal.{Told, told}
+use Rattle.refusal.specs.Check.{Check, answer}
+use Rattle.reduction.specs.Reduction.{Reduction, kept, count}
+use Rattle.tally.specs.declared.Tally.{Tally}
+use Rattle.sheet.specs.Causes.{sheet-checks}
+use Rattle.step.specs.Step.{step-checks, Steps, After}
+use Rattle.plan.specs.declared.check.Answer.{Answer}
+use Rattle.plan.specs.Checked.{plan-checks, told-answer, Checks}
+use Rattle.service.specs.Reduced.{reduction-checks, Reduces}
+use Rattle.landmark.specs.Marks.{Masks}
+use Rattle.elimination.specs.declared.single.Elimination.{Elimination}
+use Rattle.elimination.specs.Eliminations.{elimination-of, greedy-elimination-of, left-by, Reduces-both, cheaper-part}
+use Rattle.minimal.specs.declared.within.Minimised.{Minimised}
+use Rattle.minimal.specs.Minimised.{most-unmarked, minimal-checks, minimal-of, Minimises}
+
+-- none of these checks fires
+abbrev pub None-fires : List Check → Type 0
+None-fires checks = (c : Check) → List·Memᴰ c checks → c .fires ≡ Nowhere
+
+-- of these checks the one with the refusal's number fires, at the refusal's place, and none before it fires
+pub record First-to-fire (checks : List Check) (t : Told) : Type 0 where
+  pub earlier : List Check
+  pub here : Check
+  pub later : List Check
+  pub parts : checks ≡ earlier ++ (here ∷ later)
+  pub number : here .number ≡ t .number
+  pub fires : here .fires ≡ At (t .place)
+  pub before-it : None-fires earlier
+
+-- "Each refusal comes under its condition and no other": a service whose checks have these numbers, in this order,
+-- refuses with t just where t is the number and the place of the first check that fires, and answers just where none
+-- does
+pub record Refuses-just (numbers : List ℕ) (checks : List Check) (refusal : Option Told) : Type 0 where
+  pub numbered : map (λ c. c .number) checks ≡ numbers
+  pub refuses : (t : Told) → refusal ≡ some t ↔ First-to-fire checks t
+  pub answers : refusal ≡ none ↔ None-fires checks
+
+-- "The sheet check has 1 to 7; one step 1 to 7, 9 and 11; list check and marks 1 to 9 and 11; the greedy services 1 to
+-- 11; the exact reduction all."
+abbrev pub sheet-numbers : List ℕ
+sheet-numbers = 1 ∷ 2 ∷ 3 ∷ 4 ∷ 5 ∷ 6 ∷ 7 ∷ []
+
+abbrev pub step-numbers : List ℕ
+step-numbers = sheet-numbers ++ (9 ∷ 11 ∷ [])
+
+abbrev pub list-numbers : List ℕ
+list-numbers = sheet-numbers ++ (8 ∷ 9 ∷ 11 ∷ [])
+
+abbrev pub greedy-numbers : List ℕ
+greedy-numbers = sheet-numbers ++ (8 ∷ 9 ∷ 10 ∷ 11 ∷ [])
+
+abbrev pub exact-numbers : List ℕ
+exact-numbers = greedy-numbers ++ (12 ∷ [])
+
+-- a lent output over which a service writes what the reduction m leaves of the list l: a refusal leaves all its words;
+-- an answer changes its first words alone, one for each kept step, for which it has room
+pub record Output-lent (refusal : Option Told) (l : List ℕ) (m : Reduction) (before after : List ℕ) : Type 0 where
+  pub refused : (t : Told) → refusal ≡ some t → after ≡ before
+  pub first-words : refusal ≡ none → after ≡ kept m l ++ drop (count m) before
+  pub one-each : refusal ≡ none → length (kept m l) ≡ count m
+  pub room : refusal ≡ none → count m ≤ length before
+
+-- What is lent to be read no service can change, since the language lends it so; lent to be written are the state of
+-- one step and the outputs of the services that strike.
+pub record Demand-one : Type 0 where
+  -- the check of a sheet
+  pub sheet-check : (w : List ℕ) (verdict : Verdict) → told verdict ≡ answer (sheet-checks w)
+      → Refuses-just sheet-numbers (sheet-checks w) (told verdict)
+  -- one step: the lent state changes only where a step that is done writes
+  pub one-step : (w before : List ℕ) (a : ℕ) (verdict : Verdict) (after : List ℕ) → Steps w before a verdict after
+      → Refuses-just step-numbers (step-checks w before a) (told verdict)
+      × After w before a (told verdict) after
+  -- the check of a list
+  pub list-check : (w l : List ℕ) (given : Answer) (state : List ℕ) → Checks (plan-checks w l) w l given state
+      → Refuses-just list-numbers (plan-checks w l) (told-answer given)
+  -- its marks
+  pub marks : (w l : List ℕ) (verdict : Verdict) (mask : List ℕ) → Masks w l verdict mask
+      → Refuses-just list-numbers (plan-checks w l) (told verdict)
+  -- elimination, or greedy elimination
+  pub elimination : (by : Elimination) (w l before : List ℕ) (given : Answer) (mask after : List ℕ)
+      → Reduces w l (left-by by w l) before given mask after
+      → Refuses-just greedy-numbers (reduction-checks w l (length before)) (told-answer given)
+      × Output-lent (told-answer given) l (left-by by w l) before after
+  -- both eliminations, whose room is that of the shorter output
+  pub both-eliminations : (w l before before′ : List ℕ) (verdict : Verdict) (first second : Tally)
+      (after after′ : List ℕ) → Reduces-both w l before before′ verdict first second after after′
+      → Refuses-just greedy-numbers (reduction-checks w l (min (length before) (length before′))) (told verdict)
+      × Output-lent (told verdict) l (elimination-of w l) before after
+      × Output-lent (told verdict) l (greedy-elimination-of w l) before′ after′
+  -- the cheaper of both: the two outputs are lent to be read, and the part shown is the front of one of them
+  pub cheaper-shown : (first second : List ℕ) (of-first of-second : Tally) (part : List ℕ)
+      → part ≡ cheaper-part first second of-first of-second
+      → (part ≡ take (of-first .steps) first) ⊎ (part ≡ take (of-second .steps) second)
+  -- the exact reduction
+  pub exact-reduction : (w l before : List ℕ) (r : Minimised) (after : List ℕ)
+      → Minimises most-unmarked w l before r after
+      → Refuses-just exact-numbers (minimal-checks most-unmarked w l (length before)) (told-answer (r .answer))
+      × Output-lent (told-answer (r .answer)) l (minimal-of w l) before after

@@ -1,0 +1,159 @@
+-- Demand 2 as one statement: "A list passes exactly when it is a plan by the SAS+ rules; otherwise the first failing
+-- place is given. Marks, eliminations, prices and counts equal their written rules." A field for each service says it
+-- of whatever the service's contract allows. Steps stand at indices from 0, one less than document 01's positions.
+-- Assumes nothing.
+use Prim.Native.Nat.{ℕ, _+_, _-_, _≤_, _<_}
+use mathlib.Core.Path.{_≡_}
+use mathlib.Core.Logic.{_⊎_, _↔_}
+use mathlib.Core.Bool.{true}
+use mathlib.Core.Option.{Option, none, some}
+use mathlib.Core.List.{List, [], _++_}
+use lib.ListN.{length, replicate}
+use Rattle.refusal.specs.declared.Verdict.{Verdict}
+use Rattle.refusal.specs.Refusal.{Told, told}
+use Rattle.sas.specs.Task.{State}
+use Rattle.sas.specs.Plan.{run, cost, Plan}
+use Rattle.reduction.specs.Reduction.{Reduction, keeps, kept, count, whole}
+use Rattle.reduction.specs.Trials.{Elimination-leaves, Greedy-leaves}
+use Rattle.mask.specs.Mask.{mask-length, ones-of, bit-up}
+use Rattle.tally.specs.declared.Tally.{Tally}
+use Rattle.tally.specs.declared.Order.{Order}
+use Rattle.tally.specs.declared.Order.the-variants.{Less, Equal, Greater}
+use Rattle.tally.specs.Tally.{bounds, nothing, one-more, comparison}
+use Rattle.sheet.specs.Limits.{limits}
+use Rattle.sheet.specs.Layout.{variables}
+use Rattle.sheet.specs.Decode.{initial, goal, task}
+use Rattle.plan.specs.declared.check.Answer.{Answer}
+use Rattle.plan.specs.Readable.{Readable}
+use Rattle.plan.specs.Valid.{steps}
+use Rattle.plan.specs.Checked.{plan-checks, told-answer, told-tally, no-state, Checks}
+use Rattle.plan.specs.Truth.{Fails-at}
+use Rattle.service.specs.Reduced.{Reduces}
+use Rattle.landmark.specs.Marks.{Masks}
+use Rattle.elimination.specs.declared.single.Elimination.{Elimination}
+use Rattle.elimination.specs.declared.single.Elimination.the-variants.{Plain, Greedy}
+use Rattle.elimination.specs.Eliminations.{elimination-of, greedy-elimination-of, left-by, Reduces-both, cheaper-part}
+use Rattle.minimal.specs.declared.within.Minimised.{Minimised}
+use Rattle.minimal.specs.Minimised.{most-unmarked, minimal-of, Minimises}
+use Rattle.minimal.specs.Statement.{Is-marked}
+
+-- a mask tells the reduction m: bit i is one exactly where step i + 1 is kept, and the number of ones is that of the
+-- kept steps; in a refusal it is zero
+pub record Mask-truly (m : Reduction) (refusal : Option Told) (mask : List ℕ) : Type 0 where
+  pub bits : refusal ≡ none → (i : ℕ) → bit-up mask i ≡ true ↔ keeps m i
+  pub ones : refusal ≡ none → ones-of mask ≡ count m
+  pub zeros : (t : Told) → refusal ≡ some t → mask ≡ replicate mask-length 0
+
+-- of the list l of the sheet w
+module _ (w l : List ℕ) where
+  -- a tally tells the reduction m: the plain sum of the prices of the kept steps, and their number; in a refusal it is
+  -- zero
+  pub record Tally-truly (m : Reduction) (refusal : Option Told) (tally : Tally) : Type 0 where
+    pub plain : refusal ≡ none → tally ≡ record { cost = cost (kept m (steps w l)); steps = count m }
+    pub zeros : (t : Told) → refusal ≡ some t → tally ≡ nothing
+
+  -- the check of the list
+  pub record Checked-truly (given : Answer) (state : List ℕ) : Type 0 where
+    -- it passes exactly when it can be read and is a plan by the rules of SAS+
+    pub passes : told-answer given ≡ none ↔ (Readable w l × Plan (task w) (steps w l))
+    -- otherwise a list that can be read is refused with 11 at the place where it fails: that of the first step that
+    -- can't be done, or one past the last where only the goal is unmet
+    pub otherwise : Readable w l
+        → (t : Told) → told-answer given ≡ some t ↔ ((t .number ≡ 11) × Fails-at w l (t .place))
+    -- the tally is that of all steps
+    pub tally : Tally-truly (whole l) (told-answer given) (told-tally given)
+    -- the end state is γ(I, ⟨a₁, …, aₙ⟩), with zeros past V; in a refusal all zeros
+    pub end : told-answer given ≡ none → (reached : State) × (run (initial w) (steps w l) ≡ some reached)
+        × (state ≡ reached ++ replicate (limits .variables - variables w) 0)
+    pub zeros : (t : Told) → told-answer given ≡ some t → state ≡ no-state
+
+  -- the marks of the list: bit i of the mask is one exactly where step i + 1 is marked; in a refusal it is zero
+  pub record Marks-truly (refusal : Option Told) (mask : List ℕ) : Type 0 where
+    pub bits : refusal ≡ none → (i : ℕ) → bit-up mask i ≡ true ↔ Is-marked w l i
+    pub zeros : (t : Told) → refusal ≡ some t → mask ≡ replicate mask-length 0
+
+  -- so many steps are marked: there is a flag for each step, up exactly where it is marked, and so many are up
+  pub record Marked-number (n : ℕ) : Type 0 where
+    pub flags : Reduction
+    pub each-step : length flags ≡ length l
+    pub marked : (i : ℕ) → keeps flags i ↔ Is-marked w l i
+    pub number : n ≡ count flags
+
+  -- an elimination leaves the reduction m by its written rule, trial by trial or round by round
+  abbrev pub Left-by-rule : Elimination → Reduction → Type 0
+  Left-by-rule Plain m = Elimination-leaves (initial w) (goal w) (steps w l) 0 (whole (steps w l)) m
+  Left-by-rule Greedy m = Greedy-leaves (initial w) (goal w) (steps w l) (whole (steps w l)) m
+
+  -- the written rule leaves m, and nothing else
+  abbrev pub Rule-leaves : Elimination → Reduction → Type 0
+  Rule-leaves by m = (n : Reduction) → n ≡ m ↔ Left-by-rule by n
+
+  -- of two reductions the first leaves the cheaper list: lower price, then fewer steps
+  abbrev pub Cheaper : Reduction → Reduction → Type 0
+  Cheaper m n =
+      (cost (kept m (steps w l)) < cost (kept n (steps w l)))
+      ⊎ ((cost (kept m (steps w l)) ≡ cost (kept n (steps w l))) × (count m < count n))
+
+  -- the part shown of what both eliminations leave: the list of the cheaper, elimination's where greedy elimination's
+  -- is not cheaper; nothing after a refusal
+  pub record Shown-truly (refusal : Option Told) (part : List ℕ) : Type 0 where
+    pub of-greedy : refusal ≡ none → Cheaper (greedy-elimination-of w l) (elimination-of w l)
+        → part ≡ kept (greedy-elimination-of w l) l
+    pub of-elimination : refusal ≡ none → (Cheaper (greedy-elimination-of w l) (elimination-of w l) → ⊥)
+        → part ≡ kept (elimination-of w l) l
+    pub of-neither : (t : Told) → refusal ≡ some t → part ≡ []
+
+-- one step more on a tally: "It comes back unchanged when it already has 255 steps or more or its price would pass
+-- 255,000,000"
+pub record Added-truly (t : Tally) (price : ℕ) (r : Tally) : Type 0 where
+  pub counted : t .steps < bounds .steps → t .cost + price ≤ bounds .cost
+      → r ≡ record { cost = t .cost + price; steps = t .steps + 1 }
+  pub full : bounds .steps ≤ t .steps → r ≡ t
+  pub dear : bounds .cost < t .cost + price → r ≡ t
+
+-- a tally is lower than another: lower price, then fewer steps
+abbrev pub Tally-lower : Tally → Tally → Type 0
+Tally-lower t u = (t .cost < u .cost) ⊎ ((t .cost ≡ u .cost) × (t .steps < u .steps))
+
+-- two tallies compared
+pub record Compared-truly (t u : Tally) (r : Order) : Type 0 where
+  pub less : r ≡ Less ↔ Tally-lower t u
+  pub equal : r ≡ Equal ↔ t ≡ u
+  pub greater : r ≡ Greater ↔ Tally-lower u t
+
+pub record Demand-two : Type 0 where
+  -- the check of a list
+  pub list-check : (w l : List ℕ) (given : Answer) (state : List ℕ) → Checks (plan-checks w l) w l given state
+      → Checked-truly w l given state
+  -- its marks
+  pub marks : (w l : List ℕ) (verdict : Verdict) (mask : List ℕ) → Masks w l verdict mask
+      → Marks-truly w l (told verdict) mask
+  -- elimination, or greedy elimination
+  pub elimination : (by : Elimination) (w l before : List ℕ) (given : Answer) (mask after : List ℕ)
+      → Reduces w l (left-by by w l) before given mask after
+      → (told-answer given ≡ none → Rule-leaves w l by (left-by by w l))
+      × Tally-truly w l (left-by by w l) (told-answer given) (told-tally given)
+      × Mask-truly (left-by by w l) (told-answer given) mask
+  -- both eliminations
+  pub both-eliminations : (w l before before′ : List ℕ) (verdict : Verdict) (first second : Tally)
+      (after after′ : List ℕ) → Reduces-both w l before before′ verdict first second after after′
+      → (told verdict ≡ none → Rule-leaves w l Plain (elimination-of w l))
+      × (told verdict ≡ none → Rule-leaves w l Greedy (greedy-elimination-of w l))
+      × Tally-truly w l (elimination-of w l) (told verdict) first
+      × Tally-truly w l (greedy-elimination-of w l) (told verdict) second
+  -- the cheaper of what both leave
+  pub cheaper-shown : (w l before before′ : List ℕ) (verdict : Verdict) (first second : Tally)
+      (after after′ part : List ℕ) → Reduces-both w l before before′ verdict first second after after′
+      → part ≡ cheaper-part after after′ first second → Shown-truly w l (told verdict) part
+  -- the exact reduction, of which demand 3 says what it leaves; it also tells the tally of the lodged list and how many
+  -- of its steps are marked
+  pub exact-reduction : (w l before : List ℕ) (r : Minimised) (after : List ℕ)
+      → Minimises most-unmarked w l before r after
+      → Tally-truly w l (minimal-of w l) (told-answer (r .answer)) (told-tally (r .answer))
+      × Mask-truly (minimal-of w l) (told-answer (r .answer)) (r .mask .words)
+      × Tally-truly w l (whole l) (told-answer (r .answer)) (r .lodged)
+      × (told-answer (r .answer) ≡ none → Marked-number w l (r .marked))
+      × ((t : Told) → told-answer (r .answer) ≡ some t → r .marked ≡ 0)
+  -- a tally with one step more, and which of two tallies is the lower
+  pub tally-add : (t : Tally) (price : ℕ) (r : Tally) → r ≡ one-more t price → Added-truly t price r
+  pub tally-compare : (t u : Tally) (r : Order) → r ≡ comparison t u → Compared-truly t u r
