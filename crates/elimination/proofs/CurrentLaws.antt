@@ -18,7 +18,8 @@ use Rattle.plan.specs.Valid.{steps}
 use Rattle.plan.proofs.FaultLaws.{steps-drop}
 use Rattle.reduction.specs.Reduction.{Reduction, Before}
 use Rattle.reduction.specs.Landmark.{step}
-use Rattle.reduction.specs.Elimination.{walk, after, trial}
+use Rattle.reduction.specs.between.Elimination.{trial}
+use Rattle.reduction.specs.Trials.{walk, after}
 use Rattle.reduction.proofs.TrialLaws.{From-before, trial-from-before, trial-succeeds, success-valid, walk-length, unkept-fails}
 use Rattle.reduction.proofs.BeforeLaws.{Passes, before-next, walk-past}
 use Rattle.elimination.specs.between.Trial.{Tries}

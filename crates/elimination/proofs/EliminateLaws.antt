@@ -11,7 +11,7 @@ use Rattle.sheet.specs.Decode.{initial, goal, action}
 use Rattle.plan.specs.Limits.{most-steps}
 use Rattle.plan.specs.Valid.{steps}
 use Rattle.reduction.specs.Reduction.{Reduction, whole, valid, Before}
-use Rattle.reduction.specs.Elimination.{eliminated, eliminate}
+use Rattle.reduction.specs.between.Elimination.{eliminated, eliminate}
 use Rattle.reduction.proofs.ReductionLaws.{kept-whole}
 use Rattle.reduction.proofs.BeforeLaws.{before-first}
 use Rattle.service.specs.between.Held.{mask, held}

@@ -10,7 +10,7 @@ use Rattle.sheet.specs.Decode.{initial, goal, action}
 use Rattle.plan.specs.Limits.{most-steps}
 use Rattle.plan.specs.Valid.{steps}
 use Rattle.reduction.specs.Reduction.{Reduction, valid}
-use Rattle.reduction.specs.Elimination.{best, rounds, greedy}
+use Rattle.reduction.specs.between.Elimination.{best, rounds, greedy}
 use Rattle.reduction.proofs.BeforeLaws.{before-first}
 use Rattle.elimination.specs.declared.greedy.Best.{Best}
 use Rattle.service.specs.between.Held.{mask, held}

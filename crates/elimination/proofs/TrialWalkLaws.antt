@@ -16,7 +16,7 @@ use Rattle.sheet.specs.Decode.{action}
 use Rattle.step.specs.between.Advance.{Advances}
 use Rattle.plan.specs.Valid.{steps}
 use Rattle.reduction.specs.Reduction.{Reduction}
-use Rattle.reduction.specs.Elimination.{walk, after}
+use Rattle.reduction.specs.Trials.{walk, after}
 use Rattle.reduction.proofs.TrialLaws.{walk-done, walk-struck, after-done, after-struck}
 use Rattle.elimination.specs.between.Walk.{flags-after, state-after, Fits, Balanced, Walks, Does-or-strikes}
 use Rattle.elimination.proofs.BalanceLaws.{strike-balanced, same-balanced, balanced-then, balanced-fits}

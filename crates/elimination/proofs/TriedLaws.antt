@@ -24,7 +24,7 @@ use Rattle.step.proofs.StateLaws.{initial-length, sized, few-variables}
 use Rattle.plan.specs.Readable.{Readable}
 use Rattle.plan.specs.Valid.{steps}
 use Rattle.plan.proofs.PlanLaws.{goal-rising, rest-formed}
-use Rattle.reduction.specs.Elimination.{after}
+use Rattle.reduction.specs.Trials.{after}
 use Rattle.reduction.proofs.PartWalk.{Own-needs, part-walk, after-length}
 use Rattle.reduction.specs.Reduction.{Reduction}
 use Rattle.elimination.specs.between.Walk.{flags-after, state-after, Fits, Balanced, Walks}

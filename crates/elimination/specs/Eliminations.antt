@@ -12,7 +12,7 @@ use Rattle.tally.specs.Tally.{nothing, comparison}
 use Rattle.sheet.specs.Decode.{goal, initial}
 use Rattle.plan.specs.Valid.{steps}
 use Rattle.reduction.specs.Reduction.{Reduction}
-use Rattle.reduction.specs.Elimination.{eliminate, greedy}
+use Rattle.reduction.specs.between.Elimination.{eliminate, greedy}
 use Rattle.elimination.specs.declared.single.Elimination.{Elimination}
 use Rattle.elimination.specs.declared.single.Elimination.the-variants.{Plain, Greedy}
 use Rattle.service.specs.Reduced.{reduction-checks, tally-left, output-left}

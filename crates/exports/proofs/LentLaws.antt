@@ -1,18 +1,28 @@
 -- A run of stores of a list into lent words, by the cases of a loop over it: none is left, or one more is; and runs one behind the other. Assumes nothing.
-use Prim.Native.Nat.{ℕ, _+_, _≤_, _<_}
+use Prim.Native.Nat.{ℕ, zero, suc, _+_, _≤_, _<_}
 use native.Mathlib.Numerals.{add-one}
-use mathlib.Core.Path.{_≡_, refl, _∙_}
+use mathlib.Core.Path.{_≡_, refl, _∙_, ap}
 use mathlib.Core.Option.{Option, none, some}
 use mathlib.Core.List.{List, _++_}
 use lib.ListN.{length, getD, set, drop, drop-of-length-le}
-use lib.Seq.{sets, drop-cons}
+use lib.Seq.{sets, drop-cons, set-getD}
 use Rattle.refusal.specs.Refusal.{Told}
 use Rattle.tally.specs.declared.Tally.{Tally}
 use Rattle.refusal.specs.Check.{Check}
 use Rattle.reduction.specs.Reduction.{Reduction}
 use Rattle.plan.specs.declared.check.Answer.{Answer}
 use Rattle.service.specs.Reduced.{Answers}
-use Rattle.exports.specs.Words.{answer-words, tally-words, Writes-reduced, Answers-lent}
+use Rattle.refusal.specs.declared.Verdict.{Verdict}
+use Rattle.refusal.specs.Refusal.{told}
+use Rattle.sheet.specs.Limits.{limits}
+use Rattle.sheet.specs.Layout.{word}
+use Rattle.sheet.specs.Decode.{table}
+use Rattle.step.specs.Step.{Steps}
+use Rattle.step.proofs.StepTheorem.{step-theorem}
+use Rattle.minimal.specs.Minimised.{most-unmarked}
+use Rattle.minimal.specs.Statement.{Answered, Refused-unmarked, Demand-three-of, Demand-three}
+use Rattle.exports.specs.Words.{answer-words, tally-words, lent-state, Steps-lent, Writes-reduced, Answers-lent}
+use Rattle.exports.specs.Statement.{Demand-three-lent}
 
 -- from the end of a list on nothing is stored
 pub rest-over : (l vs : List ℕ) (i : ℕ) → length vs ≤ i → sets l i (drop i vs) ≡ l
@@ -21,6 +31,30 @@ rest-over l vs i h = rw (drop-of-length-le vs h)
 -- before its end, the value here is stored first
 pub rest-next : (l vs : List ℕ) (i : ℕ) → i < length vs → sets l i (drop i vs) ≡ sets (set l i (getD vs i 0)) (i + 1) (drop (i + 1) vs)
 rest-next l vs i h = rw (add-one i, drop-cons vs i 0)
+
+-- storing what stands there changes nothing
+same-stored : (l : List ℕ) (i n : ℕ) → sets l i (table (word l) i n) ≡ l
+unfolding table
+same-stored l i zero = refl
+same-stored l i (suc n) =
+    ap (λ stored. sets stored (suc i) (table (word l) (i + 1) n)) (set-getD l i 0)
+    ∙ ap (λ k. sets l (suc i) (table (word l) k n)) (add-one i)
+    ∙ same-stored l (suc i) n
+
+-- one step, written to lent words
+pub lent-steps : (w : List ℕ) (a : ℕ) (state state′ out out′ read values : List ℕ) (verdict : Verdict) → read ≡ lent-state state → Steps w read a verdict values
+    → state′ ≡ sets state 0 values → out′ ≡ sets out 0 (answer-words (told verdict)) → Steps-lent w a state state′ out out′
+unfolding lent-state
+lent-steps w a state state′ out out′ read values verdict reads done stored answered =
+    let steps : Steps w (lent-state state) a verdict values = rw reads at done in
+    record {
+      values = stored ∙ rw (steps .state);
+      answered = answered ∙ rw (steps .verdict-told);
+      refused = λ t fires.
+          stored
+          ∙ ap (sets state 0) (step-theorem w (lent-state state) a verdict values steps .refused t (steps .verdict-told ∙ fires))
+          ∙ same-stored state 0 (limits .variables);
+    }
 
 -- an answer and two tallies, one behind the other
 pub both-written : (l : List ℕ) (t : Option Told) (a b : Tally) → sets (sets (sets l 0 (answer-words t)) 2 (tally-words a)) 4 (tally-words b) ≡ sets l 0 (answer-words t ++ (tally-words a ++ tally-words b))
@@ -35,4 +69,30 @@ lent-answers checks w l m output output′ mask mask′ out out′ words given a
       list-left = answers .output;
       told-by = writes .told-by ∙ rw (answers .told-by);
       answered = writes .answered ∙ rw (answers .refusal, answers .tally);
+    }
+
+-- and demand 3 of it
+pub lent-demand : (w l output output′ mask mask′ out out′ words : List ℕ) (given : Answer) → Demand-three most-unmarked w l output given words output′
+    → Writes-reduced words given mask mask′ out out′ → Demand-three-lent w l output output′ mask mask′ out out′
+lent-demand w l output output′ mask mask′ out out′ words given demand writes readable plan roomy =
+    let of-list : Demand-three-of w l most-unmarked output given words output′ = demand readable plan roomy in
+    record {
+      marked-kept = of-list .marked-kept;
+      answered = λ few.
+          let answered : Answered w l output given words output′ = of-list .answered few in
+          record {
+            left = answered .left;
+            minimal = answered .minimal;
+            plan-left = answered .plan-left;
+            list-left = answered .output;
+            told-by = writes .told-by ∙ rw (answered .told-by);
+            answered = writes .answered ∙ rw (answered .answers, answered .tally);
+          };
+      refused = λ many.
+          let refused : Refused-unmarked w l output given words output′ = of-list .refused many in
+          record {
+            list-left = refused .output;
+            told-by = writes .told-by ∙ rw (refused .told-by);
+            answered = writes .answered ∙ rw (refused .refuses, refused .tally);
+          };
     }

@@ -1,2 +1,4 @@
 -- Words: what answers, tallies, orders and states are as words that programs in other languages lend and read.
+-- Statement: demand 3 of the exported minimal reduction.
 pub mod Words
+pub mod Statement

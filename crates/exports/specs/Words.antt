@@ -21,6 +21,7 @@ use Rattle.plan.specs.Checked.{plan-checks, told-answer, told-tally, lodged-tal
 use Rattle.landmark.specs.Marks.{marks}
 use Rattle.minimal.specs.Minimised.{most-unmarked, minimal-checks, minimal-of}
 use Rattle.sheet.specs.Limits.{limits}
+use Rattle.step.specs.Step.{step-checks, state-after}
 use Rattle.sheet.specs.Layout.{word}
 use Rattle.sheet.specs.Decode.{table}
 
@@ -45,6 +46,14 @@ order-number Greater = 2
 -- the state that lent words are: the first 64 of them, 0 past their end
 unfoldable pub lent-state : List ℕ → List ℕ
 lent-state words = table (word words) 0 (limits .variables)
+
+-- one step over lent words: the state after it over `state`, of which 64 words are read and written, as far as there are
+-- so many, and the answer over `out`
+pub record Steps-lent (w : List ℕ) (a : ℕ) (state state′ out out′ : List ℕ) : Type 0 where
+  pub values : state′ ≡ sets state 0 (state-after w (lent-state state) a)
+  pub answered : out′ ≡ sets out 0 (answer-words (answer (step-checks w (lent-state state) a)))
+  -- a refused step leaves every lent word of the state
+  pub refused : (t : Told) → answer (step-checks w (lent-state state) a) ≡ some t → state′ ≡ state
 
 -- the check of a list over lent words: the end state over `state`, the answer and the tally over `out`
 pub record Checks-lent (w l state state′ out out′ : List ℕ) : Type 0 where

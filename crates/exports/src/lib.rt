@@ -1,5 +1,9 @@
 // The services as a static library, for programs in other languages: C's names, slices and numbers alone.
-// A slice is passed as its pointer and then its length. What does not fit into a lent slice is dropped.
+// A slice is passed as its pointer and then its length. Slices that are lent to be written overlap no other slice of
+// the same call: nothing checks that. What does not fit into a lent slice is dropped.
+// Lent outputs, which a refusal leaves untouched: `state` of `hollchiku_step`, `output`, `first` and `second`.
+// Return channels, which every call writes, on a refusal with document 01's zeros: `out`, `mask`, `part`, and `state`
+// of `hollchiku_check_plan`. A slice that is lent to be read is only read.
 // lent: how answers and states go into lent words, and how a state is read from them.
 mod lent;
 
@@ -28,12 +32,12 @@ ghost use lib.Seq.{sets};
 ghost use Rattle.refusal.specs.Check.{answer};
 ghost use Rattle.tally.specs.Tally.{one-more, comparison};
 ghost use Rattle.sheet.specs.Causes.{sheet-checks};
-ghost use Rattle.step.specs.Step.{step-checks, state-after};
 ghost use Rattle.elimination.specs.declared.single.Elimination.the-variants.{Plain, Greedy};
 ghost use Rattle.elimination.specs.Eliminations.{cheaper-part};
-ghost use Rattle.exports.specs.Words.{answer-words, lent-tally, tally-words, order-number, lent-state};
-ghost use Rattle.exports.specs.Words.{Checks-lent, Marks-lent, Eliminates-lent, Minimises-lent};
+ghost use Rattle.exports.specs.Words.{answer-words, lent-tally, tally-words, order-number};
+ghost use Rattle.exports.specs.Words.{Steps-lent, Checks-lent, Marks-lent, Eliminates-lent, Minimises-lent};
 ghost use Rattle.exports.specs.Words.{Reduces-both-lent};
+ghost use Rattle.exports.specs.Statement.{Demand-three-lent};
 
 // Checks a task: the number and the place of its refusal go to `out`, or 0 and 0.
 #[no_mangle]
@@ -79,13 +83,12 @@ pub extern "C" fn hollchiku_tally_compare(
     }
 }
 
-// Does one step in a lent state of 64 values: the number and the place of its refusal go to `out`, or 0 and 0.
+// Does one step in a lent state of 64 values: the number and the place of its refusal go to `out`, or 0 and 0. A state
+// of fewer words has zeros past its end, and what a step would write there is dropped.
 #[no_mangle]
 pub extern "C" fn hollchiku_step(words: &[u32], state: &mut [u32], action: u32, out: &mut [u64])
-    ensures state { λ _. ⌜ now (state .exit) ≡ sets (now (state .entry)) 0
-        (state-after (now (words .entry)) (lent-state (now (state .entry))) action) ⌝ }
-    ensures out { λ _. ⌜ now (out .exit) ≡ sets (now (out .entry)) 0
-        (answer-words (answer (step-checks (now (words .entry)) (lent-state (now (state .entry))) action))) ⌝ }
+    ensures { λ _. ⌜ Steps-lent (now (words .entry)) action
+        (now (state .entry)) (now (state .exit)) (now (out .entry)) (now (out .exit)) ⌝ }
 {
     let stepped = step(words, read_state(state), action);
     let after = stepped.state;
@@ -176,8 +179,12 @@ pub extern "C" fn hollchiku_exact(
     mask: &mut [u64],
     out: &mut [u64],
 )
-    ensures { λ _. ⌜ Minimises-lent (now (words .entry)) (now (plan .entry)) (now (output .entry)) (now (output .exit))
-        (now (mask .entry)) (now (mask .exit)) (now (out .entry)) (now (out .exit)) ⌝ }
+    ensures words { λ _. ⌜ Minimises-lent (now (words .entry)) (now (plan .entry))
+        (now (output .entry)) (now (output .exit)) (now (mask .entry)) (now (mask .exit))
+        (now (out .entry)) (now (out .exit)) ⌝ }
+    ensures demand_three { λ _. ⌜ Demand-three-lent (now (words .entry)) (now (plan .entry))
+        (now (output .entry)) (now (output .exit)) (now (mask .entry)) (now (mask .exit))
+        (now (out .entry)) (now (out .exit)) ⌝ }
 {
     let reduced = minimal_reduction(words, plan, output);
     let given = reduced.answer;

@@ -12,7 +12,7 @@ use lib.Dec.{ltb, eqb}
 use borrow.Author.Tests.{ltb-true, ltb-false}
 use Rattle.reduction.specs.Reduction.{Reduction, kept, count}
 use Rattle.reduction.proofs.ReductionLaws.{kept-length}
-use Rattle.mask.specs.Mask.{mask-length, word-bits, mask-bits, digit, mask-words, ones-of, bit-up}
+use Rattle.mask.specs.Mask.{mask-length, word-bits, mask-bits, digit, words-of, mask-words, ones-of, bit-up}
 use Rattle.mask.specs.between.Places.{kept-by-words}
 use Rattle.mask.proofs.MaskWordLaws.{binary-bit}
 use Rattle.mask.proofs.BitLaws.{none-up}

@@ -44,3 +44,12 @@ words-back front k long (word {x} {xs} small rest) =
 
 pub bytes-read-back : (ws : List ℕ) → Word-sized ws → unpacked (all-bytes ws) (length ws) ≡ ws
 bytes-read-back ws small = words-back [] 0 refl small
+
+pub all-bytes-length : (ws : List ℕ) → length (all-bytes ws) ≡ word-bytes * length ws
+unfolding all-bytes
+all-bytes-length [] = refl
+all-bytes-length (x ∷ xs) = rw length-append (omega (arith, bytes-length word-bytes x, all-bytes-length xs))
+
+pub sized-append : {xs ys : List ℕ} → Word-sized xs → Word-sized ys → Word-sized (xs ++ ys)
+sized-append nothing then = then
+sized-append (word small rest) then = word small (sized-append rest then)

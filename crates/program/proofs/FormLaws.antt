@@ -13,11 +13,12 @@ use Rattle.sheet.proofs.CauseLaws.{neither}
 use Rattle.plan.specs.Limits.{most-steps}
 use Rattle.program.specs.declared.frame.Frame.{Frame}
 use Rattle.program.specs.declared.frame.Frame.the-variants.{Broken, Long, Whole}
-use Rattle.program.specs.Form.{word-bytes, word-at, fewest-words, task-length, outside, plan-length, plan-start, record-end, record-form, as-input, input-form, header-bytes, bytes-to-read}
+use Rattle.sheet.specs.Layout.{header}
+use Rattle.program.specs.Form.{word-bytes, word-at, task-length, outside, plan-length, plan-start, record-end, record-form, as-input, input-form, header-bytes, bytes-to-read}
 
 -- a number that is not outside the limits
-pub inside-limits : (n : ℕ) → outside n ≡ false → (fewest-words ≤ n) × (n ≤ limits .words)
-inside-limits n e = let (low, high) = neither (ltb n fewest-words) (ltb (limits .words) n) e in (ltb-false _ _ low, ltb-false _ _ high)
+pub inside-limits : (n : ℕ) → outside n ≡ false → (header ≤ n) × (n ≤ limits .words)
+inside-limits n e = let (low, high) = neither (ltb n header) (ltb (limits .words) n) e in (ltb-false _ _ low, ltb-false _ _ high)
 
 module _ (further : ℕ) (bytes : List ℕ) (n : ℕ) (says : n ≡ task-length bytes) where
   pub form-outside : outside n ≡ true → record-form further bytes ≡ Broken

@@ -16,3 +16,5 @@ pub mod ReplyTheorem
 pub mod BytesTheorem
 -- PrintedLaws: the line of a refusal, and what has been read.
 pub mod PrintedLaws
+-- RecordTheorem: a sheet and its list, as the bytes of an input, are opened as that sheet and that list.
+pub mod RecordTheorem

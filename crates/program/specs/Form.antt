@@ -7,6 +7,7 @@ use mathlib.Core.List.{List, [], _∷_}
 use lib.ListN.{length, take, drop}
 use lib.Dec.{ltb}
 use Rattle.sheet.specs.Limits.{limits}
+use Rattle.sheet.specs.Layout.{header}
 use Rattle.sheet.specs.Decode.{table}
 use Rattle.plan.specs.Limits.{most-steps}
 use Rattle.program.specs.declared.frame.Frame.{Frame}
@@ -39,12 +40,9 @@ plan-words bytes n m = table (word-at bytes) (n + 1) m
 abbrev pub further-words : List ℕ → ℕ → ℕ → ℕ → List ℕ
 further-words bytes n m k = table (word-at bytes) (n + 1 + m) k
 
--- the word of the task that says how many words it has, and the fewest words that it may have
+-- the word of the task that says how many words it has
 abbrev pub length-at : ℕ
 length-at = 3
-
-abbrev pub fewest-words : ℕ
-fewest-words = 4
 
 -- how many words the task has
 abbrev pub task-length : List ℕ → ℕ
@@ -52,7 +50,7 @@ task-length bytes = word-at bytes length-at
 
 -- outside 4 to 8,192
 abbrev pub outside : ℕ → Bool
-outside n = ltb n fewest-words || ltb (limits .words) n
+outside n = ltb n header || ltb (limits .words) n
 
 -- how many words the plan has, by the word after the task
 abbrev pub plan-length : List ℕ → ℕ
@@ -87,7 +85,7 @@ input-form further bytes = as-input bytes (record-form further bytes)
 
 -- the bytes to word 3, the last of the words that every task has
 abbrev pub header-bytes : ℕ
-header-bytes = word-bytes * fewest-words
+header-bytes = word-bytes * header
 
 -- how many bytes in all must have been read to tell the form, as far as those read so far show: those to word 3; then
 -- those to the length of the plan; then, unless it is too long, the record, and so many bytes beyond it: one for an

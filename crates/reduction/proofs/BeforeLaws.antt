@@ -14,7 +14,7 @@ use Rattle.sas.proofs.ActionLaws.{result-applicable}
 use Rattle.sas.proofs.RunLaws.{run-nothing, run-applied, run-append}
 use Rattle.reduction.specs.Reduction.{Before, Reduction, kept, valid-for, Valid-for, meets, valid}
 use Rattle.reduction.specs.Landmark.{step}
-use Rattle.reduction.specs.Elimination.{walk, after}
+use Rattle.reduction.specs.Trials.{walk, after}
 use Rattle.reduction.proofs.ValidLaws.{valid-first, valid-behind}
 use Rattle.reduction.proofs.ReductionLaws.{kept-split, kept-behind}
 use Rattle.reduction.proofs.TrialLaws.{walk-done, walk-struck, after-done, after-struck}

@@ -14,7 +14,7 @@ use borrow.Author.Tests.{ltb-true, ltb-false}
 use Rattle.sas.specs.Task.{Assignment, State, Action}
 use Rattle.reduction.specs.Reduction.{Reduction, count, whole, valid, Valid-reduction}
 use Rattle.reduction.specs.Trials.{Elimination-leaves, strikes-stand, does-step, all-tried, Greedy-leaves, takes, without-success, Shortens}
-use Rattle.reduction.specs.Elimination.{trial, eliminated, eliminate, best, rounds, greedy}
+use Rattle.reduction.specs.between.Elimination.{trial, eliminated, eliminate, best, rounds, greedy}
 use Rattle.reduction.proofs.ReductionLaws.{whole-valid, kept-length, count-whole, left-length, left-cost}
 use Rattle.reduction.proofs.GreedyChoice.{best-none, best-chosen}
 use Rattle.reduction.proofs.TrialTheorem.{trial-in-words, failure-in-words, round-in-words, no-round-in-words}

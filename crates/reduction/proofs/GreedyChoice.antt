@@ -10,7 +10,7 @@ use lib.Dec.{ltb}
 use borrow.Author.Tests.{ltb-true, ltb-false}
 use Rattle.sas.specs.Task.{Assignment, State, Action}
 use Rattle.reduction.specs.Reduction.{Reduction, kept, lower}
-use Rattle.reduction.specs.Elimination.{trial, better, best}
+use Rattle.reduction.specs.between.Elimination.{trial, better, best}
 use Rattle.reduction.proofs.LowerLaws.{lower-through, lower-once, lower-self}
 
 -- of the trials at the first n positions, the one at index i leaves x, none leaves a lower list, and none before i one as low

@@ -13,7 +13,7 @@ use Rattle.sas.specs.Task.{State, Action, idle}
 use Rattle.sas.specs.Plan.{applicable, apply}
 use Rattle.reduction.specs.Reduction.{Reduction, kept, whole, lower, valid-for, Valid-for}
 use Rattle.reduction.specs.Landmark.{step}
-use Rattle.reduction.specs.Elimination.{better}
+use Rattle.reduction.specs.between.Elimination.{better}
 use Rattle.reduction.specs.Minimal.{Minimal}
 use Rattle.reduction.specs.between.Found.{found, minimal}
 use Rattle.reduction.specs.between.Search.{Visit, Tests, struck, done, handed, turn, first-visit, search}

@@ -12,7 +12,8 @@ use Rattle.sas.specs.Plan.{satisfies, applicable, apply, run}
 use Rattle.sas.proofs.ActionLaws.{result-applicable, result-assigned}
 use Rattle.sas.proofs.RunLaws.{run-nothing, run-applied}
 use Rattle.reduction.specs.Reduction.{Reduction, keeps, kept, count, meets, valid, Contains}
-use Rattle.reduction.specs.Elimination.{walk, after, trial}
+use Rattle.reduction.specs.between.Elimination.{trial}
+use Rattle.reduction.specs.Trials.{walk, after}
 use Rattle.reduction.proofs.ValidLaws.{runs-valid, valid-first}
 use Rattle.reduction.proofs.ReductionLaws.{strike-count, struck-count}
 

@@ -14,7 +14,7 @@ use borrow.Author.Tests.{ltb-true, ltb-false}
 use Rattle.sas.specs.Task.{Assignment, State, Action}
 use Rattle.sas.specs.Plan.{cost}
 use Rattle.reduction.specs.Reduction.{Reduction, keeps, kept, count, Valid-reduction, Contains}
-use Rattle.reduction.specs.Elimination.{trial, best}
+use Rattle.reduction.specs.between.Elimination.{trial, best}
 use Rattle.reduction.specs.Trials.{Trial-leaves, Trial-fails, cost-struck, steps-struck, Takes}
 use Rattle.reduction.proofs.ReductionLaws.{kept-length, kept-inside}
 use Rattle.reduction.proofs.LowerLaws.{Lower, lower-true, lower-false}

@@ -11,7 +11,7 @@ use lib.Seq.{append-snoc}
 use Rattle.sas.specs.Task.{Action}
 use Rattle.sas.specs.Plan.{cost}
 use Rattle.reduction.specs.Reduction.{Reduction, kept, lower}
-use Rattle.reduction.specs.Elimination.{better}
+use Rattle.reduction.specs.between.Elimination.{better}
 use Rattle.reduction.proofs.ReductionLaws.{kept-behind}
 use Rattle.reduction.proofs.LowerLaws.{Lower, lower-true, true-lower, lower-through, lower-once}
 use Rattle.reduction.proofs.WinsLaws.{not-lower-through}

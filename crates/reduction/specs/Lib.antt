@@ -1,10 +1,8 @@
 -- Document 01's ways of striking steps from a plan, over SAS+. Reduction: what is struck, what is left, and when that
--- is valid. Landmark: the marked steps, which every valid reduction keeps. Elimination: trials, elimination and greedy
--- elimination. Trials: the same in document 01's own words, trial by trial. Minimal: the minimal reduction (01: exact
--- reduction).
+-- is valid. Landmark: the marked steps, which every valid reduction keeps. Trials: trials, elimination and greedy
+-- elimination. Minimal: the minimal reduction (01: exact reduction).
 pub mod Reduction
 pub mod Landmark
-pub mod Elimination
 pub mod Trials
 pub mod Minimal
 -- between: what functions hand to each other, which need not be believed.

@@ -1,15 +1,28 @@
--- The trial, elimination and greedy elimination in document 01's own words, as what happens trial by trial and round by
--- round. That the definitions of Elimination do this, and that nothing else does, are the theorems of
--- proofs/TrialTheorem and proofs/EliminationTheorem. Assumes nothing.
+-- The trial, elimination and greedy elimination (document 01, "The three ways of striking"), as what happens trial by
+-- trial and round by round. All strike from a reduction of the lodged list, the current one, so that a step keeps its
+-- index however many are struck. Assumes nothing.
 use Prim.Native.Nat.{ℕ, suc, _≤_}
 use mathlib.Core.Path.{_≡_}
 use mathlib.Core.Bool.{true, false, not, _&&_}
 use mathlib.Core.List.{List, [], _∷_, _++_}
 use lib.ListN.{length, take, drop}
 use Rattle.sas.specs.Task.{Assignment, State, Action}
-use Rattle.sas.specs.Plan.{satisfies, cost}
+use Rattle.sas.specs.Plan.{satisfies, applicable, apply, cost}
 use Rattle.reduction.specs.Reduction.{Reduction, keeps, kept, count, Valid-reduction, Before}
-use Rattle.reduction.specs.Elimination.{walk, after}
+
+-- what a walk along the current list leaves of it: it strikes each step that can't be done where it comes to it
+unfoldable pub walk : State → List Action → Reduction → Reduction
+walk s [] m = m
+walk s (a ∷ p) [] = []
+walk s (a ∷ p) (false ∷ m) = false ∷ walk s p m
+walk s (a ∷ p) (true ∷ m) = elim (applicable s a) [ true ↦ true ∷ walk (apply s a) p m | false ↦ false ∷ walk s p m ]
+
+-- the state after the walk
+unfoldable pub after : State → List Action → Reduction → State
+after s [] m = s
+after s (a ∷ p) [] = s
+after s (a ∷ p) (false ∷ m) = after s p m
+after s (a ∷ p) (true ∷ m) = elim (applicable s a) [ true ↦ after (apply s a) p m | false ↦ after s p m ]
 
 -- "Trial at position i: strike step i, walk the rest from the state before i, and strike also each later step that
 -- can't be done. The trial succeeds when the goal holds after the whole walk": on the current list m, at index i, it

@@ -1,8 +1,9 @@
 -- What stands between the code and the definitions to be believed: laws and theorems tie the two together.
--- Wanted: the facts that are wanted behind a step. Landmarks: the marked steps, computed. Found: the minimal reduction,
--- computed. Search: the two turns that find it. Sound: when what the search is told is sound.
+-- Wanted: the facts that are wanted behind a step. Landmarks: the marked steps, computed. Elimination: the two
+-- eliminations, computed. Found: the minimal reduction, computed. Search: the two turns that find it. Sound: when what the search is told is sound.
 pub mod Wanted
 pub mod Landmarks
+pub mod Elimination
 pub mod Found
 pub mod Search
 pub mod Sound

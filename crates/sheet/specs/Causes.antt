@@ -10,14 +10,14 @@ use Rattle.refusal.specs.declared.place.Place.{Place}
 use Rattle.refusal.specs.Place.{when, or-else, first-of, first}
 use Rattle.refusal.specs.Check.{Check, answer}
 use Rattle.sheet.specs.Limits.{limits}
-use Rattle.sheet.specs.Layout.{word, edition, variables, actions, stated-length, pairs, pairs-end, offset, size}
-use Rattle.sheet.specs.Layout.{part-end, domain, start, goal-start, goal-end, cost-word, precondition-start}
+use Rattle.sheet.specs.Layout.{word, edition, variables, actions, stated-length, header, pairs, pairs-end}
+use Rattle.sheet.specs.Layout.{offset, size, part-end, domain, start, goal-start, goal-end, cost-word, precondition-start}
 use Rattle.sheet.specs.Layout.{effect-start, effect-end}
 use Rattle.sheet.specs.Decode.{fact-of}
 
 -- 1: under 4 or over 8,192 words, or N differs from the length
 unfoldable pub bad-length : List ℕ → Bool
-bad-length w = ltb (length w) 4 || (ltb (limits .words) (length w) || not (eqb (stated-length w) (length w)))
+bad-length w = ltb (length w) header || (ltb (limits .words) (length w) || not (eqb (stated-length w) (length w)))
 
 -- 2: edition not 1
 unfoldable pub bad-edition : List ℕ → Bool

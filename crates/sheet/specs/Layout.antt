@@ -23,21 +23,25 @@ actions w = word w 2
 abbrev pub stated-length : List ℕ → ℕ
 stated-length w = word w 3
 
+-- the words before the pairs, which every sheet has
+abbrev pub header : ℕ
+header = 4
+
 -- the number of pairs of offset and length
 abbrev pub pairs : List ℕ → ℕ
 pairs w = 3 + actions w
 
--- where the pairs, which stand from word 4 on, end
+-- where the pairs end
 abbrev pub pairs-end : List ℕ → ℕ
-pairs-end w = 4 + 2 * pairs w
+pairs-end w = header + 2 * pairs w
 
 -- the offset in pair k
 abbrev pub offset : List ℕ → ℕ → ℕ
-offset w k = word w (4 + 2 * k)
+offset w k = word w (header + 2 * k)
 
 -- the length in pair k
 abbrev pub size : List ℕ → ℕ → ℕ
-size w k = word w (4 + 2 * k + 1)
+size w k = word w (header + 2 * k + 1)
 
 -- where the part of pair k ends
 abbrev pub part-end : List ℕ → ℕ → ℕ

@@ -64,7 +64,7 @@ steps-nothing w l mask at before m told low = prints-nothing at before at (omega
 
 module _ (w l : List ℕ) (mask : Mask) (at : ℕ) (before between : List ℕ) (i middle : ℕ) (h : i < length l) (so-far : Steps-put w l mask at before i between middle) where
   flag-is : (m : Reduction) → Masks-steps l m mask → (b : Bool) → bit-up (mask .words) i ≡ b → getD m i false ≡ b
-  flag-is m told b up = sym (up-is-flag m i) ∙ ap (λ ws. bit-up ws i) (sym (told .told-by)) ∙ up
+  flag-is m told b up = sym (up-is-flag m (told .few) i) ∙ ap (λ ws. bit-up ws i) (sym (told .told-by)) ∙ up
 
   one-more : (m : Reduction) → Masks-steps l m mask → (b : Bool) → bit-up (mask .words) i ≡ b
       → step-lines w 1 (take i l) (take i m) ++ line-if b (step-line w (i + 1) (getD l i 0)) ≡ step-lines w 1 (take (i + 1) l) (take (i + 1) m)

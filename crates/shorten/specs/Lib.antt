@@ -1,4 +1,6 @@
 -- Shorten: what the program prints for the bytes of its input.
 pub mod Shorten
+-- Statement: demand 3 of what is printed, as one statement.
+pub mod Statement
 -- between: what functions hand to each other, which need not be believed.
 pub mod between

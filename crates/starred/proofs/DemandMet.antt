@@ -1,16 +1,16 @@
 -- Demand 3 asks nothing that can't be had: its premises hold of sheet P, worked list 1 and every output of six words. So whoever has it has, of that list,
--- all that it promises, and the service's answer is document 01's. The check of the list passes, by computing, and `passes-exactly` tells what that means.
+-- all that it promises, and the service's answer is document 01's, for there is just one minimal reduction. The check of the list passes, by computing, and `passes-exactly` tells what that means.
 -- Assumes nothing.
 use Prim.Native.Nat.{ℕ, _≤_}
 use native.Mathlib.Omega.{arith}
-use mathlib.Core.Path.{_≡_}
+use mathlib.Core.Path.{_≡_, _∙_}
 use mathlib.Core.Option.{none}
 use mathlib.Core.List.{List, [], _∷_}
 use lib.ListN.{length, drop}
 use lib.Dec.{lit≤}
 use Rattle.sas.specs.Plan.{holds, first-failing, satisfies, applicable, assign, apply, written, needed, cost, Plan}
 use Rattle.reduction.specs.Reduction.{kept, count, lower}
-use Rattle.reduction.specs.Elimination.{better}
+use Rattle.reduction.specs.between.Elimination.{better}
 use Rattle.reduction.specs.between.Wanted.{some-fact, same-fact, has, wanted}
 use Rattle.reduction.specs.between.Landmarks.{landmarks-behind, landmarks}
 use Rattle.reduction.specs.between.Found.{found, minimal}
@@ -22,8 +22,10 @@ use Rattle.plan.specs.Readable.{Readable}
 use Rattle.plan.specs.Valid.{steps}
 use Rattle.plan.specs.Checked.{told-answer, told-tally}
 use Rattle.plan.proofs.PlanTheorem.{passes-exactly}
-use Rattle.minimal.specs.Minimised.{most-unmarked}
+use Rattle.reduction.proofs.MinimalTheorem.{minimal-once}
+use Rattle.minimal.specs.Minimised.{most-unmarked, minimal-of}
 use Rattle.minimal.specs.Statement.{Answered, Demand-three-of, Demand-three}
+use Rattle.minimal.proofs.DemandThree.{is-minimal}
 use Rattle.starred.specs.Sheets.{sheet-p}
 use Rattle.starred.specs.Rows.{list-1}
 use Rattle.starred.proofs.Starred.{starred}
@@ -43,5 +45,7 @@ module _ (before : List ℕ) (six : length before ≡ 6) where
         × (mask ≡ 56 ∷ 0 ∷ 0 ∷ 0 ∷ []) × (after ≡ 0 ∷ 1 ∷ 2 ∷ drop 3 before)
     unfolding table facts initial goal action holds first-failing satisfies applicable assign apply written needed cost kept count lower better found minimal some-fact same-fact has wanted landmarks-behind landmarks marks binary words-of mask-words
     answer-met =
+        let (readable, plan, roomy) = premises-met in
         let answered : Answered sheet-p list-1 before given mask after = demand-three-met .answered (lit≤ tt) in
-        (answered .answers, answered .tally, answered .told-by, answered .output)
+        let only : answered .left ≡ minimal-of sheet-p list-1 = minimal-once (λ m v. v .fits) (answered .minimal) (is-minimal sheet-p list-1 readable plan) in
+        (answered .answers, answered .tally ∙ rw only, answered .told-by ∙ rw only, answered .output ∙ rw only)

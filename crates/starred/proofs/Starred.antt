@@ -13,7 +13,8 @@ use Rattle.refusal.specs.Place.{first-of-next, first-of, first}
 use Rattle.refusal.specs.Check.{answer}
 use Rattle.sas.specs.Plan.{holds, first-failing, satisfies, applicable, assign, apply, written, needed, result, run, cost}
 use Rattle.reduction.specs.Reduction.{Reduction, kept, count, valid-for, valid, lower, meets}
-use Rattle.reduction.specs.Elimination.{walk, after, trial, eliminated, eliminate, better, best, rounds, greedy}
+use Rattle.reduction.specs.between.Elimination.{trial, eliminated, eliminate, better, best, rounds, greedy}
+use Rattle.reduction.specs.Trials.{walk, after}
 use Rattle.reduction.specs.between.Wanted.{some-fact, same-fact, has, wanted}
 use Rattle.reduction.specs.between.Landmarks.{landmarks-behind, landmarks}
 use Rattle.reduction.specs.between.Found.{found, minimal}
@@ -49,7 +50,7 @@ module _ (w l : List ℕ) where
     ⊎-elim
         (λ stuck. inl stuck)
         (λ (past, unmet). inr (unmet .end, unmet .reached, unmet .goal-fails, past))
-        (plan-theorem w l (read-readable most-steps w l read) .first-failing _ told .1),
+        (plan-theorem w l (read-readable most-steps w l read) .first-failing _ .0 told .1),
   )
 
   marks-just : Just-at (positions-from 1 (marks w l)) (Is-marked w l)

@@ -10,7 +10,7 @@ use Rattle.sheet.specs.Decode.{initial, goal}
 use Rattle.plan.specs.Limits.{most-steps}
 use Rattle.plan.specs.Valid.{steps}
 use Rattle.reduction.specs.Reduction.{Reduction, kept, valid, Before}
-use Rattle.reduction.specs.Elimination.{trial}
+use Rattle.reduction.specs.between.Elimination.{trial}
 use Rattle.service.specs.between.Held.{mask, held}
 
 -- flags that are a valid reduction of the plan l

@@ -8,7 +8,7 @@ use Rattle.tally.specs.Tally.{nothing, comparison}
 use Rattle.sheet.specs.Decode.{initial, goal}
 use Rattle.plan.specs.Valid.{steps}
 use Rattle.reduction.specs.Reduction.{Reduction, Before}
-use Rattle.reduction.specs.Elimination.{best}
+use Rattle.reduction.specs.between.Elimination.{best}
 use Rattle.service.specs.between.Held.{mask}
 use Rattle.service.specs.between.Tallied.{is-less}
 use Rattle.elimination.specs.declared.greedy.Best.{Best}

@@ -9,7 +9,7 @@ use Rattle.tally.specs.declared.Tally.{Tally}
 use Rattle.tally.specs.Tally.{nothing}
 use Rattle.sheet.specs.Decode.{goal}
 use Rattle.reduction.specs.Reduction.{Reduction}
-use Rattle.reduction.specs.Elimination.{walk, after}
+use Rattle.reduction.specs.Trials.{walk, after}
 use Rattle.plan.specs.Valid.{steps}
 use Rattle.elimination.specs.between.Walk.{Fits, Balanced}
 

@@ -10,7 +10,7 @@ use Rattle.tally.specs.Tally.{bounds, one-more}
 use Rattle.sheet.specs.Layout.{cost-word}
 use Rattle.sheet.specs.Decode.{action}
 use Rattle.reduction.specs.Reduction.{Reduction, kept}
-use Rattle.reduction.specs.Elimination.{walk, after}
+use Rattle.reduction.specs.Trials.{walk, after}
 use Rattle.plan.specs.Valid.{steps}
 
 -- the flags after the walk, and the state

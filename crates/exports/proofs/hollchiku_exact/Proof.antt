@@ -1,5 +1,5 @@
 -- `hollchiku_exact` meets its contract: what is written is what the service answers. Assumes nothing.
-use Rattle.exports.proofs.LentLaws.{lent-answers}
+use Rattle.exports.proofs.LentLaws.{lent-answers, lent-demand}
 use borrow.Author.Needs.{needs}
 use Rattle.exports.proofs.hollchiku_exact.Statement.{statement}
 use Rattle.exports.proofs.hollchiku_exact.Tie as tie
@@ -20,7 +20,10 @@ same-length-3 : tie.Need-same-length-3
 same-length-3 c = search needs
 
 returns : tie.Need-returns
-returns c = lent-answers _ _ _ _ _ _ _ _ _ _ _ _ (c .before .before .before .before .before .before .before .before .before .minimal-reduction .ensures .0 .answers) (c .before .before .before .before .write-reduced .ensures)
+returns c =
+    let reduced = c .before .before .before .before .before .before .before .before .before .minimal-reduction .ensures in
+    let writes = c .before .before .before .before .write-reduced .ensures in
+    (lent-answers _ _ _ _ _ _ _ _ _ _ _ _ (reduced .0 .answers) writes, lent-demand _ _ _ _ _ _ _ _ _ _ (reduced .1) writes)
 
 pub hollchiku-exact-spec : {M : Type 1} → statement M
 hollchiku-exact-spec =

@@ -1,5 +1,6 @@
 -- `hollchiku_step` meets its contract: what is written back and what is answered are those of one step in the state that was lent. Assumes nothing.
 use borrow.Author.Needs.{needs}
+use Rattle.exports.proofs.LentLaws.{lent-steps}
 use Rattle.exports.proofs.hollchiku_step.Statement.{statement}
 use Rattle.exports.proofs.hollchiku_step.Tie as tie
 
@@ -25,7 +26,8 @@ same-length-2 : tie.Need-same-length-2
 same-length-2 c = search needs
 
 returns : tie.Need-returns
-returns c = (cc, cc)
+returns c =
+    lent-steps _ _ _ _ _ _ _ _ _ (c .before .before .before .before .before .before .before .before .before .before .before .before .read-state .ensures) (c .before .before .before .before .before .before .before .before .before .before .before .step .ensures) (c .before .before .before .before .before .before .write-values .ensures) (c .before .before .write-verdict .ensures)
 
 pub hollchiku-step-spec : {M : Type 1} → statement M
 hollchiku-step-spec =

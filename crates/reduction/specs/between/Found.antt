@@ -5,7 +5,7 @@ use mathlib.Core.List.{List, [], _∷_}
 use Rattle.sas.specs.Task.{State, Action}
 use Rattle.sas.specs.Plan.{applicable, apply}
 use Rattle.reduction.specs.Reduction.{Reduction, whole}
-use Rattle.reduction.specs.Elimination.{better}
+use Rattle.reduction.specs.between.Elimination.{better}
 
 -- computed for any test at the end: of the two valid reductions that win when the first step is struck and
 -- when it is kept, the lower, and the one that strikes it where they are equal. That it is the minimal reduction of

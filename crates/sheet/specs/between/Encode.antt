@@ -6,6 +6,7 @@ use lib.ListN.{length, getD}
 use Rattle.sas.specs.Task.{Fact, Assignment, Action, Task}
 use Rattle.sas.specs.between.WellFormed.{Well-formed}
 use Rattle.sheet.specs.Limits.{limits}
+use Rattle.sheet.specs.Layout.{header}
 
 -- a fact is one word, variable × 256 + value
 abbrev pub fact-word : Fact → ℕ
@@ -30,7 +31,7 @@ pairs-of from (p ∷ ps) = from ∷ length p ∷ pairs-of (from + length p) ps
 
 -- the first offset, past the first four words and a pair for each part
 abbrev pub first-offset : List (List ℕ) → ℕ
-first-offset ps = 4 + 2 * length ps
+first-offset ps = header + 2 * length ps
 
 -- all words from word 4 on: the pairs, then the parts end to end
 unfoldable pub body : List (List ℕ) → List ℕ
@@ -38,7 +39,7 @@ body ps = pairs-of (first-offset ps) ps ++ flatten ps
 
 -- the words of these parts: the edition, V, A, and N, the number of words, before the rest
 unfoldable pub sheet-of : ℕ → ℕ → ℕ → List (List ℕ) → List ℕ
-sheet-of edition variables actions ps = edition ∷ variables ∷ actions ∷ (4 + length (body ps)) ∷ body ps
+sheet-of edition variables actions ps = edition ∷ variables ∷ actions ∷ (header + length (body ps)) ∷ body ps
 
 -- edition 1, a domain for each variable, and the task's actions
 unfoldable pub encode : Task → List ℕ

@@ -3,12 +3,13 @@ use Prim.Native.Nat.{_<_, _-_, _≤_}
 use borrow.Author.Needs.{needs}
 use native.Mathlib.Omega.{arith}
 use mathlib.Core.Path.{_≡_, refl, _∙_}
+use Rattle.plan.specs.Limits.{most-steps}
 use Rattle.service.proofs.HeldLaws.{raised, raised-more}
 use Rattle.service.proofs.held.all_kept.Statement.{statement}
 use Rattle.service.proofs.held.all_kept.Tie as tie
 
 abbrev Inv-loop : tie.InvT-loop
-Inv-loop n flags₀ i₀ flags i = (i ≤ n) × (flags ≡ raised 255 i)
+Inv-loop n flags₀ i₀ flags i = (i ≤ n) × (flags ≡ raised most-steps i)
 
 abbrev μ-loop : tie.MeasureT-loop
 μ-loop n flags₀ i₀ flags i = n - i
@@ -26,7 +27,7 @@ loop-less : tie.Need-loop-less Inv-loop μ-loop
 loop-less c = search needs
 
 loop-again : tie.Need-loop-again Inv-loop μ-loop
-loop-again c = let room : c .before .loop .i < 255 = omega (arith, c .before .before .pre) in (search needs, rw (c .before .loop .inv .1) (raised-more 255 (c .before .loop .i) room))
+loop-again c = let room : c .before .loop .i < most-steps = omega (arith, c .before .before .pre) in (search needs, rw (c .before .loop .inv .1) (raised-more 255 (c .before .loop .i) room))
 
 returns : tie.Need-returns Inv-loop μ-loop
 returns c = let all : c .before .loop .i ≡ c .before .before .args .n = omega arith in c .before .loop .inv .1 ∙ rw all

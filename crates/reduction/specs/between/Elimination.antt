@@ -1,27 +1,14 @@
--- The two eliminations of document 01, "The three ways of striking". Both strike from a reduction of the lodged list,
--- the current one, so that a step keeps its index however many are struck. Assumes nothing.
+-- The two eliminations, computed. That they are those of Trials are the theorems of proofs/TrialTheorem and
+-- proofs/EliminationTheorem. Assumes nothing.
 use Prim.Native.Nat.{ℕ, zero, suc}
-use mathlib.Core.Bool.{true, false, cond, _&&_}
+use mathlib.Core.Bool.{false, cond, _&&_}
 use mathlib.Core.Option.{Option, none, some, Option·getD}
-use mathlib.Core.List.{List, [], _∷_}
+use mathlib.Core.List.{List}
 use lib.ListN.{length, getD, set}
 use Rattle.sas.specs.Task.{Assignment, State, Action}
-use Rattle.sas.specs.Plan.{satisfies, applicable, apply}
+use Rattle.sas.specs.Plan.{satisfies}
+use Rattle.reduction.specs.Trials.{walk, after}
 use Rattle.reduction.specs.Reduction.{Reduction, kept, whole, lower}
-
--- what a walk along the current list leaves of it: it strikes each step that can't be done where it comes to it
-unfoldable pub walk : State → List Action → Reduction → Reduction
-walk s [] m = m
-walk s (a ∷ p) [] = []
-walk s (a ∷ p) (false ∷ m) = false ∷ walk s p m
-walk s (a ∷ p) (true ∷ m) = elim (applicable s a) [ true ↦ true ∷ walk (apply s a) p m | false ↦ false ∷ walk s p m ]
-
--- the state after the walk
-unfoldable pub after : State → List Action → Reduction → State
-after s [] m = s
-after s (a ∷ p) [] = s
-after s (a ∷ p) (false ∷ m) = after s p m
-after s (a ∷ p) (true ∷ m) = elim (applicable s a) [ true ↦ after (apply s a) p m | false ↦ after s p m ]
 
 -- "Trial at position i: strike step i, walk the rest from the state before i, and strike also each later step that
 -- can't be done. The trial succeeds when the goal holds after the whole walk": what it leaves, if it succeeds. The walk
