@@ -45,10 +45,11 @@ digits-within (suc n) (suc (suc k)) x few (some-digit, small, none-less) =
     let high : 10 ^ (suc k) ≤ x = rw last at (none-less (omega arith)) in
     let more : 10 ≤ x = omega (arith, pow-suc 10 k, positive k, high) in
     let before : suc k - 1 ≡ k = omega arith in
-    let rest : Fewest 10 1 (x / 10) (suc k) =
-    (omega arith,
-    div-lt-iff-lt-mul {k = 10} (lit< tt) .1 (rw pow-suc at small),
-    λ less. rw before (le-div-iff-mul-le {k = 10} (lit< tt) .1 (rw pow-suc at high))) in
+    let rest : Fewest 10 1 (x / 10) (suc k) = (
+      omega arith,
+      div-lt-iff-lt-mul {k = 10} (lit< tt) .1 (rw pow-suc at small),
+      λ less. rw before (le-div-iff-mul-le {k = 10} (lit< tt) .1 (rw pow-suc at high)),
+    ) in
     rw (last-sign x, within-more n x more, digits-within n (suc k) (x / 10) (omega arith) rest)
 
 pub numeral-digits : (k x : ℕ) → Fewest 10 1 x k → digits 10 k x ≡ numeral x
@@ -85,7 +86,6 @@ within-length (suc n) (suc k) x small some-digit = by-case (within-length n) (lt
         let shorter : length (numeral-within n (x / 10)) ≤ k =
         rest k (x / 10) (div-lt-iff-lt-mul {k = 10} (lit< tt) .1 (rw pow-suc at small)) (longer k high small) in
         rw (within-more n x high, length-append) (omega (arith, shorter))
-
 
 -- a number below a power of ten has no more digits than that power's exponent
 pub numeral-length : (k x : ℕ) → x < 10 ^ k → 1 ≤ k → length (numeral x) ≤ k

@@ -18,3 +18,5 @@ pub mod BytesTheorem
 pub mod PrintedLaws
 -- RecordTheorem: a sheet and its list, as the bytes of an input, are opened as that sheet and that list.
 pub mod RecordTheorem
+-- RoomLaws: how long a line of numbers is.
+pub mod RoomLaws

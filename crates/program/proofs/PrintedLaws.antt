@@ -1,14 +1,17 @@
 -- The line of a refusal, by its number and its place; and what must have been read, where it has. Assumes nothing.
 use Prim.Native.Nat.{ℕ, _≤_}
-use mathlib.Core.Path.{_≡_, sym}
+use native.Mathlib.Omega.{arith}
+use native.Mathlib.Nat.{zero-add}
+use mathlib.Core.Path.{_≡_, sym, _∙_}
 use mathlib.Core.Bool.{true, false, false≢true}
-use mathlib.Core.List.{List, [], _∷_}
-use lib.ListN.{length, take}
-use lib.Seq.{length-take-le}
+use mathlib.Core.List.{List, [], _∷_, _++_}
+use lib.ListN.{length, take, drop}
+use lib.Seq.{length-take-le, sets-eq, take-append-seam, drop-append-seam}
 use Rattle.io.specs.Counts.{Counts}
 use Rattle.lines.specs.Lines.{ascii, line}
 use Rattle.lines.specs.Prints.{Prints}
 use Rattle.refusal.specs.Refusal.{Told}
+use Rattle.program.specs.between.Room.{line-room}
 use Rattle.program.specs.Form.{bytes-to-read}
 use Rattle.program.specs.Printed.{refusal-line, Has-read, Has-done}
 use Rattle.program.specs.declared.input.Input.{Input}
@@ -16,6 +19,10 @@ use Rattle.program.specs.declared.input.Input.{Input}
 pub refusal-printed : {at : ℕ} {before after : List ℕ} {end : ℕ} (t : Told) {number place : ℕ} → number ≡ t .number → place ≡ t .place
     → Prints (line (ascii "refused") (number ∷ place ∷ [])) at before after end → Prints (refusal-line t) at before after end
 refusal-printed t numbered placed prints = rw (← numbered, ← placed) prints
+
+pub refusal-fits : (t : Told) {number place : ℕ} → number ≡ t .number → place ≡ t .place → length (line (ascii "refused") (number ∷ place ∷ [])) ≤ line-room
+    → length (refusal-line t) ≤ line-room
+refusal-fits t numbered placed short = rw (← numbered, ← placed) short
 
 -- so many bytes at the front
 front-counts : (n : ℕ) (bytes : List ℕ) → n ≤ length bytes → Counts n bytes
@@ -28,7 +35,24 @@ module _ (further beyond : ℕ) (bytes : List ℕ) (n : ℕ) (there : n ≤ leng
   pub read-enough : (want : ℕ) → want ≡ bytes-to-read further beyond (take n bytes) → want ≤ n → Has-read further beyond bytes (record { count = n; ended = false })
   read-enough want is low = record { counted = front-counts n bytes there; enough = λ e. rw (← is) low }
 
+-- a text that is put at the front, where there is room for it
+module _ (text before after : List ℕ) (written : ℕ) (room : length text ≤ length before) (prints : Prints text 0 before after written) where
+  all-written : written ≡ length text
+  all-written = omega (arith, prints .ends)
+
+  parts : after ≡ text ++ drop (length text) before
+  parts = prints .written ∙ sets-eq text before 0 (omega arith) ∙ rw zero-add
+
+  front-text : take written after ≡ text
+  front-text = rw (parts, all-written) (take-append-seam text (drop (length text) before))
+
+  rest-stays : drop written after ≡ drop written before
+  rest-stays = rw (parts, all-written) (drop-append-seam text (drop (length text) before))
+
 -- a program that has read, and has printed its answer to what it has read
-pub has-done : {text : List ℕ → List ℕ} {bytes : List ℕ} {input : Input} {before after : List ℕ} {written : ℕ} → Has-read 0 1 bytes input
-    → Prints (text (take (input .count) bytes)) 0 before after written → Has-done text bytes (record { input = input; written = written }) before after
-has-done read prints = record { read = read; printed = prints }
+pub has-done : (text : List ℕ → List ℕ) (bytes : List ℕ) (input : Input) (before after : List ℕ) (written room : ℕ) → room ≤ length before
+    → Has-read 0 1 bytes input → length (text (take (input .count) bytes)) ≤ room → Prints (text (take (input .count) bytes)) 0 before after written
+    → Has-done text bytes (record { input = input; written = written }) before after
+has-done text bytes input before after written room roomy read short prints =
+    let fits : length (text (take (input .count) bytes)) ≤ length before = omega (arith, short, roomy) in
+    record { read = read; printed = front-text _ before after written fits prints; others = rest-stays _ before after written fits prints }

@@ -3,7 +3,6 @@ use Prim.Native.Nat.{ℕ, _+_, _≤_}
 use mathlib.Core.Path.{_≡_, refl, sym, _∙_, ap, subst}
 use mathlib.Core.List.{List}
 use lib.ListN.{length, take, drop}
-use Rattle.lines.specs.Prints.{Prints}
 use Rattle.refusal.specs.declared.Refusal.{Refusal}
 use Rattle.refusal.specs.Refusal.{Told, told-refusal}
 use Rattle.sheet.proofs.TableLaws.{table-length}
@@ -42,14 +41,12 @@ module _ (further : ℕ) (bytes words : List ℕ) (o : Opened) (opens : opening-
     unfolding reply-further
     replied f is = rw (is, reply-further)
 
-    -- the input is refused
-    pub prints-refused : {at : ℕ} {before after : List ℕ} {end : ℕ} (r : Refusal) → o ≡ opened.Refused r → Prints (refused (told-refusal r)) at before after end
-        → Prints (reply-further further refused answered bytes) at before after end
-    prints-refused {at} {before} {after} {end} r is prints =
-        subst (λ t. Prints t at before after end) (replied (Refused (told-refusal r)) (sym opens ∙ ap (λ x. opening-of further x words) is)) prints
+    -- what holds of what is answered holds of the reply: the input is refused
+    pub reply-refused : (P : List ℕ → Type 0) (r : Refusal) → o ≡ opened.Refused r → P (refused (told-refusal r)) → P (reply-further further refused answered bytes)
+    reply-refused P r is holds = subst P (replied (Refused (told-refusal r)) (sym opens ∙ ap (λ x. opening-of further x words) is)) holds
 
     -- or a task w, a plan l and further words are answered
-    pub prints-lodged : {at : ℕ} {before after : List ℕ} {end : ℕ} (n m : ℕ) (w l rest : List ℕ) → o ≡ opened.Lodged n m → w ≡ take n words → l ≡ take m (drop (n + 1) words) → rest ≡ take further (drop (n + 1 + m) words)
-        → Prints (answered w l rest) at before after end → Prints (reply-further further refused answered bytes) at before after end
-    prints-lodged {at} {before} {after} {end} n m w l rest is task plan behind prints =
-        subst (λ t. Prints t at before after end) (replied (Lodged _ _ _) (sym opens ∙ ap (λ x. opening-of further x words) is)) (rw (task, plan, behind) at prints)
+    pub reply-lodged : (P : List ℕ → Type 0) (n m : ℕ) (w l rest : List ℕ) → o ≡ opened.Lodged n m → w ≡ take n words → l ≡ take m (drop (n + 1) words)
+        → rest ≡ take further (drop (n + 1 + m) words) → P (answered w l rest) → P (reply-further further refused answered bytes)
+    reply-lodged P n m w l rest is task plan behind holds =
+        subst P (replied (Lodged _ _ _) (sym opens ∙ ap (λ x. opening-of further x words) is)) (rw (task, plan, behind) at holds)

@@ -3,10 +3,9 @@ use Prim.Native.Nat.{ℕ, _≤_}
 use mathlib.Core.Path.{_≡_}
 use mathlib.Core.Bool.{true, false}
 use mathlib.Core.List.{List, [], _∷_}
-use lib.ListN.{length, take}
+use lib.ListN.{length, take, drop}
 use Rattle.io.specs.Counts.{Counts}
 use Rattle.lines.specs.Lines.{ascii, line}
-use Rattle.lines.specs.Prints.{Prints}
 use Rattle.refusal.specs.Refusal.{Told}
 use Rattle.tally.specs.declared.Tally.{Tally}
 use Rattle.program.specs.declared.input.Input.{Input}
@@ -27,11 +26,12 @@ pub record Has-read (further beyond : ℕ) (bytes : List ℕ) (input : Input) : 
   pub counted : Counts (input .count) bytes
   pub enough : input .ended ≡ false → bytes-to-read further beyond (take (input .count) bytes) ≤ input .count
 
--- what a program that prints this text of its input has done: what it has read, and what is printed, which is that of
--- the bytes read
+-- what a program that prints this text of its input has done: what it has read, and its answer, which is the text of
+-- the bytes read; every other byte is as it was
 pub record Has-done (text : List ℕ → List ℕ) (bytes : List ℕ) (done : Done) (before after : List ℕ) : Type 0 where
   pub read : Has-read 0 1 bytes (done .input)
-  pub printed : Prints (text (take (done .input .count) bytes)) 0 before after (done .written)
+  pub printed : take (done .written) after ≡ text (take (done .input .count) bytes)
+  pub others : drop (done .written) after ≡ drop (done .written) before
 
 -- what is assumed of the C library's `read`: the bytes read are the input's first, in order, and where the reading ended
 -- early they are all that it has

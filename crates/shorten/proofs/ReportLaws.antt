@@ -5,9 +5,9 @@ use native.Mathlib.Numerals.{add-one}
 use mathlib.Core.Path.{_≡_, refl, sym, _∙_, ap, subst}
 use mathlib.Core.Bool.{Bool, true, false}
 use mathlib.Core.List.{List, [], _∷_, _++_, append-assoc, append-nil}
-use lib.ListN.{length, getD, take}
+use lib.ListN.{length, getD, take, length-append}
 use lib.Seq.{take-length}
-use Rattle.lines.specs.Lines.{ascii, line, row}
+use Rattle.lines.specs.Lines.{ascii, numeral, line, row}
 use Rattle.lines.specs.Prints.{Prints}
 use Rattle.lines.proofs.PrintLaws.{prints-nothing, prints-both, prints-within}
 use Rattle.reduction.specs.Reduction.{Reduction}
@@ -18,18 +18,21 @@ use Rattle.mask.proofs.MaskTheorem.{up-is-flag}
 use Rattle.sheet.specs.Layout.{cost-word}
 use Rattle.plan.specs.Checked.{lodged-tally}
 use Rattle.landmark.specs.Marks.{marked}
+use Rattle.service.specs.Reduced.{tally-left}
 use Rattle.minimal.specs.declared.within.Minimised.{Minimised}
 use Rattle.program.specs.Printed.{tally-line}
+use Rattle.program.specs.between.Room.{word-room, line-room, Short-line}
 use Rattle.shorten.specs.Shorten.{step-lines, report}
-use Rattle.shorten.specs.between.Reported.{Masks-steps, Reports}
+use Rattle.shorten.specs.between.Reported.{Masks-steps, Reports, Puts-lines, Puts-step}
 
 -- the line of a step at position i
 abbrev step-line : List ℕ → ℕ → ℕ → List ℕ
 step-line w i a = row i (a ∷ cost-word w a ∷ [])
 
 pub step-printed : (w l : List ℕ) {at : ℕ} {before after : List ℕ} {end : ℕ} (i : ℕ) {a price : ℕ} → a ≡ getD l i 0 → price ≡ cost-word w a
-    → Prints (row (i + 1) (a ∷ price ∷ [])) at before after end → Prints (step-line w (i + 1) (getD l i 0)) at before after end
-step-printed w l i acts costs prints = rw (← acts, ← costs) prints
+    → Prints (row (i + 1) (a ∷ price ∷ [])) at before after end → Short-line (numeral (i + 1)) (a ∷ price ∷ []) × (length (numeral (i + 1)) ≤ word-room)
+    → Puts-step w l i at before after end
+step-printed w l i acts costs prints (short, begins) = rw (← acts, ← costs) (record { prints = prints; short = omega (arith, short begins) })
 
 -- and nothing of one that is struck
 abbrev line-if : Bool → List ℕ → List ℕ
@@ -56,11 +59,11 @@ steps-next w k (a ∷ l) (false ∷ m) (suc i) h fits =
 -- what has been put of the steps before index i
 abbrev pub Steps-put : List ℕ → List ℕ → Mask → ℕ → List ℕ → ℕ → List ℕ → ℕ → Type 0
 Steps-put w l mask at before i after end =
-    (m : Reduction) → Masks-steps l m mask → at ≤ length before → Prints (step-lines w 1 (take i l) (take i m)) at before after end
+    (m : Reduction) → Masks-steps l m mask → at ≤ length before → Puts-lines i (step-lines w 1 (take i l) (take i m)) at before after end
 
 pub steps-nothing : (w l : List ℕ) (mask : Mask) (at : ℕ) (before : List ℕ) → Steps-put w l mask at before 0 before at
 unfolding step-lines
-steps-nothing w l mask at before m told low = prints-nothing at before at (omega arith)
+steps-nothing w l mask at before m told low = record { prints = prints-nothing at before at (omega arith); short = omega arith }
 
 module _ (w l : List ℕ) (mask : Mask) (at : ℕ) (before between : List ℕ) (i middle : ℕ) (h : i < length l) (so-far : Steps-put w l mask at before i between middle) where
   flag-is : (m : Reduction) → Masks-steps l m mask → (b : Bool) → bit-up (mask .words) i ≡ b → getD m i false ≡ b
@@ -72,27 +75,43 @@ module _ (w l : List ℕ) (mask : Mask) (at : ℕ) (before between : List ℕ) (
       let position : 1 + i ≡ suc i = omega arith in
       rw (add-one i) (sym (rw (flag-is m told b up, position) at (steps-next w 1 l m i h (told .fits))))
 
-  pub steps-kept : {after : List ℕ} {end : ℕ} → bit-up (mask .words) i ≡ true → Prints (step-line w (i + 1) (getD l i 0)) middle between after end
-      → Steps-put w l mask at before (i + 1) after end
+  pub steps-kept : {after : List ℕ} {end : ℕ} → bit-up (mask .words) i ≡ true → Puts-step w l i middle between after end → Steps-put w l mask at before (i + 1) after end
   steps-kept {after} {end} up puts m told low =
-      subst (λ t. Prints t at before after end) (one-more m told true up) (prints-both (so-far m told low) puts)
+      let put : Puts-lines i (step-lines w 1 (take i l) (take i m)) at before between middle = so-far m told low in
+      let long = length-append (step-lines w 1 (take i l) (take i m)) (step-line w (i + 1) (getD l i 0)) in
+      subst (λ t. Puts-lines (i + 1) t at before after end) (one-more m told true up)
+      (record { prints = prints-both (put .prints) (puts .prints); short = omega (arith, long, put .short, puts .short) })
 
   pub steps-struck : bit-up (mask .words) i ≡ false → Steps-put w l mask at before (i + 1) between middle
   steps-struck up m told low =
-      subst (λ t. Prints t at before between middle) (sym (append-nil _) ∙ one-more m told false up) (so-far m told low)
+      let put : Puts-lines i (step-lines w 1 (take i l) (take i m)) at before between middle = so-far m told low in
+      subst (λ t. Puts-lines (i + 1) t at before between middle) (sym (append-nil _) ∙ one-more m told false up)
+      (record { prints = put .prints; short = omega (arith, put .short) })
 
 pub steps-all : (w l : List ℕ) (mask : Mask) (at : ℕ) (before : List ℕ) (i : ℕ) (after : List ℕ) (end : ℕ) → i ≡ length l → Steps-put w l mask at before i after end
-    → (m : Reduction) → Masks-steps l m mask → at ≤ length before → Prints (step-lines w 1 l m) at before after end
+    → (m : Reduction) → Masks-steps l m mask → at ≤ length before → Puts-lines (length l) (step-lines w 1 l m) at before after end
 steps-all w l mask at before i after end all put m told low =
     let whole : take i m ≡ m = rw (all, ← told .fits) (take-length m) in
     let listed : take i l ≡ l = rw all (take-length l) in
-    rw (whole, listed) at (put m told low)
+    rw (← all) (rw (whole, listed) at (put m told low))
 
 -- the report, line by line
 pub reports : (w l : List ℕ) (r : Minimised) (kept : Tally) {before first second third after : List ℕ} {marks left steps end : ℕ}
-    → Prints (tally-line (ascii "lodged") (r .lodged)) 0 before first marks → Prints (line (ascii "marked") (r .marked ∷ [])) marks first second left
-    → Prints (tally-line (ascii "kept") kept) left second third steps
-    → ((m : Reduction) → Masks-steps l m (r .mask) → steps ≤ length third → Prints (step-lines w 1 l m) steps third after end)
-    → (m : Reduction) → Reports w l m r kept → Prints (report w l m) 0 before after end
-reports w l r kept lodged marks left steps m told =
-    prints-both (rw (told .lodged) at lodged) (prints-both (rw (told .marks) at marks) (prints-both (rw (told .left) at left) (steps m (told .steps) (prints-within left))))
+    → Prints (tally-line (ascii "lodged") (r .lodged)) 0 before first marks → length (tally-line (ascii "lodged") (r .lodged)) ≤ line-room
+    → Prints (line (ascii "marked") (r .marked ∷ [])) marks first second left → length (line (ascii "marked") (r .marked ∷ [])) ≤ line-room
+    → Prints (tally-line (ascii "kept") kept) left second third steps → length (tally-line (ascii "kept") kept) ≤ line-room
+    → ((m : Reduction) → Masks-steps l m (r .mask) → steps ≤ length third → Puts-lines (length l) (step-lines w 1 l m) steps third after end)
+    → (m : Reduction) → Reports w l m r kept → Puts-lines (3 + length l) (report w l m) 0 before after end
+reports w l r kept lodged short-lodged marks short-marks left short-left steps m told =
+    let rest : Puts-lines (length l) (step-lines w 1 l m) _ _ _ _ = steps m (told .steps) (prints-within left) in
+    let first-line : length (tally-line (ascii "lodged") (lodged-tally w l)) ≤ line-room = rw (told .lodged) at short-lodged in
+    let second-line : length (line (ascii "marked") (marked w l ∷ [])) ≤ line-room = rw (told .marks) at short-marks in
+    let third-line : length (tally-line (ascii "kept") (tally-left w l m)) ≤ line-room = rw (told .left) at short-left in
+    record {
+      prints = prints-both (rw (told .lodged) at lodged) (prints-both (rw (told .marks) at marks) (prints-both (rw (told .left) at left) (rest .prints)));
+      short =
+          let from-third = length-append (tally-line (ascii "kept") (tally-left w l m)) (step-lines w 1 l m) in
+          let from-second = length-append (line (ascii "marked") (marked w l ∷ [])) (tally-line (ascii "kept") (tally-left w l m) ++ step-lines w 1 l m) in
+          let all = length-append (tally-line (ascii "lodged") (lodged-tally w l)) (line (ascii "marked") (marked w l ∷ []) ++ (tally-line (ascii "kept") (tally-left w l m) ++ step-lines w 1 l m)) in
+          omega (arith, all, from-second, from-third, first-line, second-line, third-line, rest .short);
+    }

@@ -1,5 +1,5 @@
 -- What the service of the minimal reduction tells of a list is what the program prints for it: the report of the reduction, or the line of the refusal. Assumes nothing.
-use Prim.Native.Nat.{ℕ, _≤_}
+use Prim.Native.Nat.{ℕ, _+_, _≤_}
 use native.Mathlib.Omega.{arith}
 use mathlib.Core.Path.{_≡_, refl, sym, _∙_, ap, subst}
 use mathlib.Core.Bool.{Bool, true}
@@ -28,8 +28,9 @@ use Rattle.service.specs.Reduced.{room-checks, reduction-checks}
 use Rattle.minimal.specs.declared.within.Minimised.{Minimised}
 use Rattle.minimal.specs.Minimised.{most-unmarked, unmarked-checks, minimal-checks, minimal-of, Minimises}
 use Rattle.program.specs.Printed.{refusal-line}
+use Rattle.program.specs.between.Room.{line-room}
 use Rattle.shorten.specs.Shorten.{report, shortened}
-use Rattle.shorten.specs.between.Reported.{Reports}
+use Rattle.shorten.specs.between.Reported.{most-text, Reports, Puts-lines}
 
 -- the minimal reduction has a flag for each step
 minimal-length : (ends : State → Bool) (s : State) (p : List Action) → length (minimal ends s p) ≡ length p
@@ -60,14 +61,19 @@ module _ (w l before : List ℕ) (r : Minimised) (after : List ℕ) (room : leng
           steps = record { fits = fits; few = omega (arith, readable .few); told-by = rw passes at (minimises .answers .told-by) };
         }
 
-    pub shortened-report : {out out′ : List ℕ} {end : ℕ} → Prints (report w l (minimal-of w l)) 0 out out′ end → Prints (shortened w l) 0 out out′ end
+    pub shortened-report : {out out′ : List ℕ} {end : ℕ} → Puts-lines (3 + length l) (report w l (minimal-of w l)) 0 out out′ end
+        → Prints (shortened w l) 0 out out′ end × (length (shortened w l) ≤ most-text)
     unfolding shortened
-    shortened-report prints = rw (shortened, ← room, passes) prints
+    shortened-report puts =
+        let fits : length (report w l (minimal-of w l)) ≤ most-text = omega (arith, puts .short, readable .few) in
+        rw (shortened, ← room, passes) (puts .prints, fits)
 
   -- or refused
   pub shortened-refusal : (refusal : Refusal) → r .answer ≡ Refused refusal → {out out′ : List ℕ} {end : ℕ}
-      → Prints (refusal-line (told-refusal refusal)) 0 out out′ end → Prints (shortened w l) 0 out out′ end
+      → Prints (refusal-line (told-refusal refusal)) 0 out out′ end → length (refusal-line (told-refusal refusal)) ≤ line-room
+      → Prints (shortened w l) 0 out out′ end × (length (shortened w l) ≤ most-text)
   unfolding shortened
-  shortened-refusal refusal is prints =
+  shortened-refusal refusal is prints short =
       let fires : answer (minimal-checks most-unmarked w l (length before)) ≡ some (told-refusal refusal) = sym (minimises .answers .refusal) ∙ ap told-answer is in
-      rw (shortened, ← room, fires) prints
+      let fits : length (refusal-line (told-refusal refusal)) ≤ most-text = omega (arith, short) in
+      rw (shortened, ← room, fires) (prints, fits)

@@ -1,41 +1,38 @@
 // The lines that are printed of a plan that is shortened.
 use access::word;
-use lines::put_line;
-use lines::put_row;
 use mask::Mask;
 use minimal::within::Minimised;
+use program::output::put_one;
 use program::output::put_tally;
+use program::output::put_three;
 use sheet::layout::cost;
 use tally::Tally;
-ghost use mathlib.Core.List.{[], _∷_};
 ghost use Prim.Native.Nat.{_+_, _≤_, _<_};
-ghost use lib.ListN.{length, getD};
-ghost use Rattle.lines.specs.Prints.{Prints};
+ghost use lib.ListN.{length};
 ghost use Rattle.reduction.specs.Reduction.{Reduction};
 ghost use Rattle.shorten.specs.Shorten.{step-lines, report};
-ghost use Rattle.shorten.specs.between.Reported.{Masks-steps, Reports};
-ghost use Rattle.lines.specs.Lines.{row};
-ghost use Rattle.sheet.specs.Layout.{cost-word};
+ghost use Rattle.shorten.specs.between.Reported.{Masks-steps, Reports, Puts-step, Puts-lines};
 
 // Puts the line of the step at index i: its position, its action and its cost.
 fn put_step(words: &[u32], plan: &[u32], i: usize, out: &mut [u8], at: usize) -> usize
     requires { ⌜ i < length (now plan) ⌝ }
-    ensures { λ r. ⌜ Prints (row (i + 1) (getD (now (plan .entry)) i 0
-        ∷ cost-word (now (words .entry)) (getD (now (plan .entry)) i 0) ∷ [])) at (now (out .entry)) (now (out .exit)) r ⌝ }
+    ensures { λ r. ⌜ Puts-step (now (words .entry)) (now (plan .entry)) i at (now (out .entry)) (now (out .exit)) r ⌝ }
 {
     let action = word(plan, i);
-    put_row(
+    put_three(
         out,
         at,
         (i + 1) as u64,
-        &[action as u64, cost(words, action) as u64],
+        action as u64,
+        cost(words, action) as u64,
     )
 }
 
 // Puts a line for each kept step.
 fn put_steps(words: &[u32], plan: &[u32], mask: Mask, out: &mut [u8], at: usize) -> usize
     ensures { λ r. ⌜ ((m : Reduction) → Masks-steps (now (plan .entry)) m mask → at ≤ length (now (out .entry))
-        → Prints (step-lines (now (words .entry)) 1 (now (plan .entry)) m) at (now (out .entry)) (now (out .exit)) r) ⌝ }
+        → Puts-lines (length (now (plan .entry))) (step-lines (now (words .entry)) 1 (now (plan .entry)) m) at
+        (now (out .entry)) (now (out .exit)) r) ⌝ }
 {
     let mut end = at;
     let mut i = 0;
@@ -59,12 +56,13 @@ pub(crate) fn put_report(
     out: &mut [u8],
 ) -> usize
     ensures { λ r. ⌜ ((m : Reduction) → Reports (now (words .entry)) (now (plan .entry)) m shortened kept
-        → Prints (report (now (words .entry)) (now (plan .entry)) m) 0 (now (out .entry)) (now (out .exit)) r) ⌝ }
+        → Puts-lines (3 + length (now (plan .entry))) (report (now (words .entry)) (now (plan .entry)) m) 0
+        (now (out .entry)) (now (out .exit)) r) ⌝ }
 {
     let lodged = shortened.lodged;
     let mask = shortened.mask;
     let marks = put_tally(out, 0, b"lodged", lodged);
-    let left = put_line(out, marks, b"marked", &[shortened.marked as u64]);
+    let left = put_one(out, marks, b"marked", shortened.marked as u64);
     let steps = put_tally(out, left, b"kept", kept);
     put_steps(words, plan, mask, out, steps)
 }

@@ -12,14 +12,18 @@ use program::opened::Opened;
 use program::opened::open_input;
 use program::output::put_refusal;
 use program::parts::plan_part;
+ghost use Prim.Native.Nat.{_≤_};
+ghost use lib.ListN.{length};
 ghost use Rattle.lines.specs.Prints.{Prints};
 ghost use Rattle.program.specs.Printed.{Has-done};
 ghost use Rattle.shorten.specs.Shorten.{shortened, printed};
+ghost use Rattle.shorten.specs.between.Reported.{most-text};
 
 // Shortens a plan. The list left has room for the longest that is read.
 fn shorten(words: &[u32], plan: &[u32], out: &mut [u8]) -> usize
     ensures { λ r. ⌜ Prints (shortened (now (words .entry)) (now (plan .entry))) 0
         (now (out .entry)) (now (out .exit)) r ⌝ }
+    ensures { λ _. ⌜ length (shortened (now (words .entry)) (now (plan .entry))) ≤ most-text ⌝ }
 {
     let mut left = [0u32; Plan::STEPS];
     let reduced = minimal_reduction(words, plan, &mut left);
@@ -33,6 +37,7 @@ fn shorten(words: &[u32], plan: &[u32], out: &mut [u8]) -> usize
 // Shortens the plan, unless the input is refused before.
 fn shorten_input(bytes: &[u8], out: &mut [u8]) -> usize
     ensures { λ r. ⌜ Prints (printed (now (bytes .entry))) 0 (now (out .entry)) (now (out .exit)) r ⌝ }
+    ensures { λ _. ⌜ length (printed (now (bytes .entry))) ≤ most-text ⌝ }
 {
     let mut words = [0u32; WORDS];
     let opened = open_input(bytes, 0, &mut words);
@@ -48,6 +53,7 @@ fn shorten_input(bytes: &[u8], out: &mut [u8]) -> usize
 
 // Reads the input to the front of `bytes`, and puts what is printed for it to the front of `out`.
 pub(crate) fn answer_input(bytes: &mut [u8], out: &mut [u8]) -> Done
+    requires { ⌜ most-text ≤ length (now out) ⌝ }
     ensures { λ r. ⌜ Has-done printed (now (bytes .exit)) r (now (out .entry)) (now (out .exit)) ⌝ }
 {
     let input = read(bytes, 0, ALONE);

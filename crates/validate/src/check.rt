@@ -11,7 +11,10 @@ use program::opened::open_input;
 use program::output::put_refusal;
 use program::output::put_tally;
 use program::parts::plan_part;
+ghost use Prim.Native.Nat.{_≤_};
+ghost use lib.ListN.{length};
 ghost use Rattle.lines.specs.Prints.{Prints};
+ghost use Rattle.program.specs.between.Room.{line-room};
 ghost use Rattle.program.specs.Printed.{Has-done};
 ghost use Rattle.validate.specs.Validate.{checked, printed};
 
@@ -19,6 +22,7 @@ ghost use Rattle.validate.specs.Validate.{checked, printed};
 fn check(words: &[u32], plan: &[u32], out: &mut [u8]) -> usize
     ensures { λ r. ⌜ Prints (checked (now (words .entry)) (now (plan .entry))) 0
         (now (out .entry)) (now (out .exit)) r ⌝ }
+    ensures { λ _. ⌜ length (checked (now (words .entry)) (now (plan .entry))) ≤ line-room ⌝ }
 {
     let checked = check_plan(words, plan);
     let answer = checked.answer;
@@ -31,6 +35,7 @@ fn check(words: &[u32], plan: &[u32], out: &mut [u8]) -> usize
 // Checks the plan, unless the input is refused before it.
 fn check_input(bytes: &[u8], out: &mut [u8]) -> usize
     ensures { λ r. ⌜ Prints (printed (now (bytes .entry))) 0 (now (out .entry)) (now (out .exit)) r ⌝ }
+    ensures { λ _. ⌜ length (printed (now (bytes .entry))) ≤ line-room ⌝ }
 {
     let mut words = [0u32; WORDS];
     let opened = open_input(bytes, 0, &mut words);
@@ -46,6 +51,7 @@ fn check_input(bytes: &[u8], out: &mut [u8]) -> usize
 
 // Reads the input to the front of `bytes`, and puts what is printed for it to the front of `out`.
 pub(crate) fn answer_input(bytes: &mut [u8], out: &mut [u8]) -> Done
+    requires { ⌜ line-room ≤ length (now out) ⌝ }
     ensures { λ r. ⌜ Has-done printed (now (bytes .exit)) r (now (out .entry)) (now (out .exit)) ⌝ }
 {
     let input = read(bytes, 0, ALONE);

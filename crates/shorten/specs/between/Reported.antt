@@ -1,16 +1,25 @@
--- A reduction as the service of the minimal reduction tells it. Assumes nothing.
-use Prim.Native.Nat.{ℕ, _≤_}
+-- A reduction as the service of the minimal reduction tells it, and how many bytes are printed of one. Assumes nothing.
+use Prim.Native.Nat.{ℕ, _+_, _*_, _≤_}
 use mathlib.Core.Path.{_≡_}
-use mathlib.Core.List.{List}
-use lib.ListN.{length}
+use mathlib.Core.List.{List, [], _∷_}
+use lib.ListN.{length, getD}
+use Rattle.lines.specs.Lines.{row}
+use Rattle.lines.specs.Prints.{Prints}
 use Rattle.reduction.specs.Reduction.{Reduction}
 use Rattle.tally.specs.declared.Tally.{Tally}
 use Rattle.mask.specs.declared.Mask.{Mask}
 use Rattle.mask.specs.Mask.{mask-bits, mask-words}
+use Rattle.sheet.specs.Layout.{cost-word}
+use Rattle.plan.specs.Limits.{most-steps}
 use Rattle.plan.specs.Checked.{lodged-tally}
 use Rattle.landmark.specs.Marks.{marked}
 use Rattle.service.specs.Reduced.{tally-left}
+use Rattle.program.specs.between.Room.{line-room}
 use Rattle.minimal.specs.declared.within.Minimised.{Minimised}
+
+-- the most bytes that are printed: three lines, and one for each step
+abbrev pub most-text : ℕ
+most-text = line-room * (3 + most-steps)
 
 -- a mask that is the reduction m of the list l
 pub record Masks-steps (l : List ℕ) (m : Reduction) (mask : Mask) : Type 0 where
@@ -24,3 +33,12 @@ pub record Reports (w l : List ℕ) (m : Reduction) (r : Minimised) (kept : Tall
   pub marks : r .marked ≡ marked w l
   pub left : kept ≡ tally-left w l m
   pub steps : Masks-steps l m (r .mask)
+
+-- so many lines are put, no longer than lines are
+pub record Puts-lines (n : ℕ) (text : List ℕ) (at : ℕ) (before after : List ℕ) (end : ℕ) : Type 0 where
+  pub prints : Prints text at before after end
+  pub short : length text ≤ line-room * n
+
+-- the line of the step at index i is put
+abbrev pub Puts-step : List ℕ → List ℕ → ℕ → ℕ → List ℕ → List ℕ → ℕ → Type 0
+Puts-step w l i = Puts-lines 1 (row (i + 1) (getD l i 0 ∷ cost-word w (getD l i 0) ∷ []))

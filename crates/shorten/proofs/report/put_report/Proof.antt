@@ -1,4 +1,5 @@
 -- `put_report` meets its contract: the lines, one behind the other. Assumes nothing.
+use lib.Dec.{lit≤}
 use Rattle.shorten.proofs.ReportLaws.{reports}
 use borrow.Author.Needs.{needs}
 use Rattle.shorten.proofs.report.put_report.Statement.{statement}
@@ -10,17 +11,14 @@ slice-aggregate-put-tally c = search needs
 put-tally-requires : tie.Need-put-tally-requires
 put-tally-requires c κs = search needs
 
-slice-aggregate-put-line : tie.Need-slice-aggregate-put-line
-slice-aggregate-put-line c = search needs
+slice-aggregate-put-one : tie.Need-slice-aggregate-put-one
+slice-aggregate-put-one c = search needs
 
-cast-t23 : tie.Need-cast-t23
-cast-t23 c = search needs
+cast-put-one : tie.Need-cast-put-one
+cast-put-one c = search needs
 
-slice-aggregate-put-line-2 : tie.Need-slice-aggregate-put-line-2
-slice-aggregate-put-line-2 c = search needs
-
-put-line-requires : tie.Need-put-line-requires
-put-line-requires c κs = search needs
+put-one-requires : tie.Need-put-one-requires
+put-one-requires c κs = search needs
 
 slice-aggregate-put-tally-2 : tie.Need-slice-aggregate-put-tally-2
 slice-aggregate-put-tally-2 c = search needs
@@ -35,7 +33,11 @@ same-length : tie.Need-same-length
 same-length c = search needs
 
 returns : tie.Need-returns
-returns c = reports _ _ _ _ (c .before .before .before .before .before .before .before .before .before .before .before .before .before .before .before .before .before .before .put-tally .ensures) (c .before .before .before .before .before .before .before .before .before .before .before .put-line .ensures) (c .before .before .before .before .before .before .put-tally2 .ensures) (c .before .before .put-steps .ensures)
+returns c =
+    let lodged = c .before .before .before .before .before .before .before .before .before .before .before .before .before .before .before .before .before .put-tally .ensures in
+    let marks = c .before .before .before .before .before .before .before .before .before .before .before .put-one .ensures in
+    let left = c .before .before .before .before .before .before .put-tally2 .ensures in
+    reports _ _ _ _ (lodged .0) (lodged .1 (lit≤ tt)) (marks .0) (marks .1 (lit≤ tt)) (left .0) (left .1 (lit≤ tt)) (c .before .before .put-steps .ensures)
 
 pub put-report-spec : {M : Type 1} → statement M
 put-report-spec =
@@ -43,10 +45,9 @@ put-report-spec =
     (tie.spec
     slice-aggregate-put-tally
     put-tally-requires
-    slice-aggregate-put-line
-    cast-t23
-    slice-aggregate-put-line-2
-    put-line-requires
+    slice-aggregate-put-one
+    cast-put-one
+    put-one-requires
     slice-aggregate-put-tally-2
     put-tally-requires-2
     put-steps-requires

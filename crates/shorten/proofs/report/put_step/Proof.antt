@@ -7,42 +7,39 @@ use Rattle.shorten.proofs.report.put_step.Tie as tie
 word-requires : tie.Need-word-requires
 word-requires c κs = search needs
 
-add-put-row : tie.Need-add-put-row
-add-put-row c = search needs
+add-put-three : tie.Need-add-put-three
+add-put-three c = search needs
 
-cast-t12 : tie.Need-cast-t12
-cast-t12 c = search needs
+cast-put-three : tie.Need-cast-put-three
+cast-put-three c = search needs
 
 cost-requires : tie.Need-cost-requires
 cost-requires c κs = search needs
 
-cast-t14 : tie.Need-cast-t14
-cast-t14 c = search needs
+cast-put-three-2 : tie.Need-cast-put-three-2
+cast-put-three-2 c = search needs
 
-slice-aggregate-put-row : tie.Need-slice-aggregate-put-row
-slice-aggregate-put-row c = search needs
-
-put-row-requires : tie.Need-put-row-requires
-put-row-requires c κs = search needs
+put-three-requires : tie.Need-put-three-requires
+put-three-requires c κs = search needs
 
 same-length : tie.Need-same-length
 same-length c = search needs
 
 returns : tie.Need-returns
 returns c =
-    let start = c .before .before .before .before .before .before .before .before .before .before .args in
-    step-printed (start .words .now) (start .plan .now) (start .i) (c .before .before .before .before .before .before .word .ensures .0) (c .before .before .before .before .cost .ensures .0) (c .before .before .put-row .ensures)
+    let start = c .before .before .before .before .before .before .before .before .before .args in
+    let put = c .before .before .put-three .ensures in
+    step-printed (start .words .now) (start .plan .now) (start .i) (c .before .before .before .before .before .word .ensures .0) (c .before .before .before .cost .ensures .0) (put .0) (put .1)
 
 pub put-step-spec : {M : Type 1} → statement M
 put-step-spec =
     tie.close
     (tie.spec
     word-requires
-    add-put-row
-    cast-t12
+    add-put-three
+    cast-put-three
     cost-requires
-    cast-t14
-    slice-aggregate-put-row
-    put-row-requires
+    cast-put-three-2
+    put-three-requires
     same-length
     returns)

@@ -37,7 +37,7 @@ loop-again c =
     let turn = test .before in
     let puts = c .before .before .put-step .ensures in
     let up = sym (c .before .before .before .before .before .keeps .ensures) ∙ c .before .before .before .before .if1 .taken in
-    (steps-kept _ _ _ _ _ _ (turn .loop .i) _ (test .loop-test .taken) (turn .loop .inv .0) up puts, search needs, prints-length puts ∙ turn .loop .inv .2)
+    (steps-kept _ _ _ _ _ _ (turn .loop .i) _ (test .loop-test .taken) (turn .loop .inv .0) up puts, search needs, prints-length (puts .prints) ∙ turn .loop .inv .2)
 
 add-i-2 : tie.Need-add-i-2 Inv-loop μ-loop
 add-i-2 c = search needs

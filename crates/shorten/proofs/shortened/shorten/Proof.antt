@@ -36,7 +36,7 @@ same-length-2 : tie.Need-same-length-2
 same-length-2 c = search needs
 
 returns-2 : tie.Need-returns-2
-returns-2 c = shortened-refusal _ _ _ _ _ refl (c .before .before .before .before .before .before .before .before .minimal-reduction .ensures .0) _ (c .before .before .before .before .before .answer2 .given .1) (c .before .before .put-refusal .ensures)
+returns-2 c = shortened-refusal _ _ _ _ _ refl (c .before .before .before .before .before .before .before .before .minimal-reduction .ensures .0) _ (c .before .before .before .before .before .answer2 .given .1) (c .before .before .put-refusal .ensures .0) (c .before .before .put-refusal .ensures .1)
 
 pub shorten-spec : {M : Type 1} → statement M
 shorten-spec =

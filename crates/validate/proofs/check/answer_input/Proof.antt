@@ -1,6 +1,7 @@
 -- `answer_input` meets its contract: what is printed is that of the bytes read. Assumes nothing.
 use Rattle.program.proofs.PrintedLaws.{has-done}
 use borrow.Author.Needs.{needs}
+use Rattle.validate.specs.Validate.{printed}
 use Rattle.validate.proofs.check.answer_input.Statement.{statement}
 use Rattle.validate.proofs.check.answer_input.Tie as tie
 
@@ -23,7 +24,9 @@ same-length-2 : tie.Need-same-length-2
 same-length-2 c = search needs
 
 returns : tie.Need-returns
-returns c = has-done (c .before .before .before .before .before .before .before .read .ensures) (c .before .before .check-input .ensures)
+returns c =
+    let put = c .before .before .check-input .ensures in
+    has-done printed _ _ _ _ _ _ (c .before .before .before .before .before .before .before .before .before .before .before .pre) (c .before .before .before .before .before .before .before .read .ensures) (put .1) (put .0)
 
 pub answer-input-spec : {M : Type 1} → statement M
 answer-input-spec =
