@@ -8,7 +8,7 @@ use lib.ListN.{length, getD, set, drop, drop-of-length-le}
 use lib.Seq.{sets, drop-cons, set-getD}
 use Rattle.refusal.specs.Refusal.{Told}
 use Rattle.tally.specs.declared.Tally.{Tally}
-use Rattle.refusal.specs.Check.{Check}
+use Rattle.refusal.specs.Check.{Check, answer}
 use Rattle.reduction.specs.Reduction.{Reduction}
 use Rattle.plan.specs.declared.check.Answer.{Answer}
 use Rattle.service.specs.Reduced.{Answers}
@@ -63,7 +63,7 @@ both-written l (some t) a b = refl
 
 -- what a service that strikes answers, written to lent words
 pub lent-answers : (checks : List Check) (w l : List ℕ) (m : Reduction) (output output′ mask mask′ out out′ words : List ℕ) (given : Answer)
-    → Answers checks w l m output given words output′ → Writes-reduced words given mask mask′ out out′ → Answers-lent checks w l m output output′ mask mask′ out out′
+    → Answers checks w l m output given words output′ → Writes-reduced words given mask mask′ out out′ → Answers-lent (answer checks) w l m output output′ mask mask′ out out′
 lent-answers checks w l m output output′ mask mask′ out out′ words given answers writes =
     record {
       list-left = answers .output;

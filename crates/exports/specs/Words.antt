@@ -6,7 +6,7 @@ use mathlib.Core.List.{List, [], _∷_, _++_}
 use lib.ListN.{length, replicate}
 use lib.Seq.{sets}
 use Rattle.refusal.specs.Refusal.{Told}
-use Rattle.refusal.specs.Check.{Check, answer, unless-refused}
+use Rattle.refusal.specs.Check.{answer, unless-refused}
 use Rattle.tally.specs.declared.Tally.{Tally}
 use Rattle.tally.specs.declared.Order.{Order}
 use Rattle.tally.specs.declared.Order.the-variants.{Less, Equal, Greater}
@@ -55,41 +55,46 @@ pub record Steps-lent (w : List ℕ) (a : ℕ) (state state′ out out′ : List
   -- a refused step leaves every lent word of the state
   pub refused : (t : Told) → answer (step-checks w (lent-state state) a) ≡ some t → state′ ≡ state
 
--- the check of a list over lent words: the end state over `state`, the answer and the tally over `out`
-pub record Checks-lent (w l state state′ out out′ : List ℕ) : Type 0 where
-  pub end : state′ ≡ sets state 0 (unless-refused (answer (plan-checks w l)) (end-state w l) no-state)
-  pub answered : out′ ≡ sets out 0
-      (answer-words (answer (plan-checks w l))
-      ++ tally-words (unless-refused (answer (plan-checks w l)) (lodged-tally w l) nothing))
+-- the check of a list over lent words, of checks that answer t: the end state over `state`, the answer and the tally
+-- over `out`
+pub record Check-lent (t : Option Told) (w l state state′ out out′ : List ℕ) : Type 0 where
+  pub end : state′ ≡ sets state 0 (unless-refused t (end-state w l) no-state)
+  pub answered : out′ ≡ sets out 0 (answer-words t ++ tally-words (unless-refused t (lodged-tally w l) nothing))
+
+abbrev pub Checks-lent : List ℕ → List ℕ → List ℕ → List ℕ → List ℕ → List ℕ → Type 0
+Checks-lent w l = Check-lent (answer (plan-checks w l)) w l
 
 -- the marks of a list over lent words: their mask over `mask`, the answer over `out`
-pub record Marks-lent (w l mask mask′ out out′ : List ℕ) : Type 0 where
-  pub told-by : mask′ ≡ sets mask 0
-      (unless-refused (answer (plan-checks w l)) (mask-words (marks w l)) (replicate mask-length 0))
-  pub answered : out′ ≡ sets out 0 (answer-words (answer (plan-checks w l)))
+pub record Mark-lent (t : Option Told) (w l mask mask′ out out′ : List ℕ) : Type 0 where
+  pub told-by : mask′ ≡ sets mask 0 (unless-refused t (mask-words (marks w l)) (replicate mask-length 0))
+  pub answered : out′ ≡ sets out 0 (answer-words t)
+
+abbrev pub Marks-lent : List ℕ → List ℕ → List ℕ → List ℕ → List ℕ → List ℕ → Type 0
+Marks-lent w l = Mark-lent (answer (plan-checks w l)) w l
 
 -- a mask's words and an answer over lent words
 pub record Writes-reduced (words : List ℕ) (given : Answer) (mask mask′ out out′ : List ℕ) : Type 0 where
   pub told-by : mask′ ≡ sets mask 0 words
   pub answered : out′ ≡ sets out 0 (answer-words (told-answer given) ++ tally-words (told-tally given))
 
--- the reduction m of the list l over lent words, from a service with these checks: the list left over `output`, the
+-- the reduction m of the list l over lent words, from a service whose checks answer t: the list left over `output`, the
 -- mask over `mask`, the answer and the tally over `out`
-pub record Answers-lent (checks : List Check) (w l : List ℕ) (m : Reduction)
+pub record Answers-lent (t : Option Told) (w l : List ℕ) (m : Reduction)
     (output output′ mask mask′ out out′ : List ℕ) : Type 0 where
-  pub list-left : output′ ≡ unless-refused (answer checks) (output-left l m output) output
-  pub told-by : mask′ ≡ sets mask 0 (unless-refused (answer checks) (mask-words m) (replicate mask-length 0))
-  pub answered : out′ ≡ sets out 0
-      (answer-words (answer checks) ++ tally-words (unless-refused (answer checks) (tally-left w l m) nothing))
+  pub list-left : output′ ≡ unless-refused t (output-left l m output) output
+  pub told-by : mask′ ≡ sets mask 0 (unless-refused t (mask-words m) (replicate mask-length 0))
+  pub answered : out′ ≡ sets out 0 (answer-words t ++ tally-words (unless-refused t (tally-left w l m) nothing))
 
 -- an elimination over lent words
 abbrev pub Eliminates-lent : Elimination → List ℕ → List ℕ
     → List ℕ → List ℕ → List ℕ → List ℕ → List ℕ → List ℕ → Type 0
-Eliminates-lent by w l output = Answers-lent (reduction-checks w l (length output)) w l (left-by by w l) output
+Eliminates-lent by w l output =
+    Answers-lent (answer (reduction-checks w l (length output))) w l (left-by by w l) output
 
 -- the minimal reduction over lent words
 abbrev pub Minimises-lent : List ℕ → List ℕ → List ℕ → List ℕ → List ℕ → List ℕ → List ℕ → List ℕ → Type 0
-Minimises-lent w l output = Answers-lent (minimal-checks most-unmarked w l (length output)) w l (minimal-of w l) output
+Minimises-lent w l output =
+    Answers-lent (answer (minimal-checks most-unmarked w l (length output))) w l (minimal-of w l) output
 
 -- both eliminations over lent words, of checks that answer t
 pub record Both-lent (t : Option Told) (w l first first′ second second′ out out′ : List ℕ) : Type 0 where

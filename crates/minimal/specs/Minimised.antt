@@ -1,10 +1,12 @@
 -- What the minimal reduction (document 01: exact reduction) answers as a service. Assumes nothing.
 use Prim.Native.Nat.{ℕ}
 use mathlib.Core.Path.{_≡_}
+use mathlib.Core.Option.{Option}
 use mathlib.Core.List.{List, [], _∷_, _++_}
 use lib.ListN.{length}
 use lib.Dec.{ltb}
 use Rattle.refusal.specs.Place.{when}
+use Rattle.refusal.specs.Refusal.{Told}
 use Rattle.refusal.specs.Check.{Check, answer, unless-refused}
 use Rattle.reduction.specs.Reduction.{Reduction, meets}
 use Rattle.reduction.specs.between.Found.{minimal}
@@ -32,10 +34,15 @@ minimal-checks limit w l room = reduction-checks w l room ++ unmarked-checks lim
 abbrev pub minimal-of : List ℕ → List ℕ → Reduction
 minimal-of w l = minimal (meets (goal w)) (initial w) (steps w l)
 
--- the service: it answers with the minimal reduction of the list l over a lent output, and tells the tally of the
--- lodged list and the number of its marked steps besides, zero on a refusal
-pub record Minimises (limit : ℕ) (w l before : List ℕ) (r : Minimised) (after : List ℕ) : Type 0 where
-  pub answers : Answers (minimal-checks limit w l (length before)) w l (minimal-of w l) before
-      (r .answer) (r .mask .words) after
-  pub lodged : r .lodged ≡ unless-refused (answer (minimal-checks limit w l (length before))) (lodged-tally w l) nothing
-  pub marks : r .marked ≡ unless-refused (answer (minimal-checks limit w l (length before))) (marked w l) 0
+module _ (limit : ℕ) (w l before : List ℕ) where
+  -- the refusal of its first check that fires, with room for the list in a lent output
+  abbrev pub minimal-refusal : Option Told
+  minimal-refusal = answer (minimal-checks limit w l (length before))
+
+  -- the service: it answers with the minimal reduction of the list l over a lent output, and tells the tally of the
+  -- lodged list and the number of its marked steps besides, zero on a refusal
+  pub record Minimises (r : Minimised) (after : List ℕ) : Type 0 where
+    pub answers : Answers (minimal-checks limit w l (length before)) w l (minimal-of w l) before
+        (r .answer) (r .mask .words) after
+    pub lodged : r .lodged ≡ unless-refused minimal-refusal (lodged-tally w l) nothing
+    pub marks : r .marked ≡ unless-refused minimal-refusal (marked w l) 0
