@@ -14,16 +14,15 @@ use program::output::put_refusal;
 use program::parts::plan_part;
 ghost use Prim.Native.Nat.{_≤_};
 ghost use lib.ListN.{length};
-ghost use Rattle.lines.specs.Prints.{Prints};
 ghost use Rattle.program.specs.Printed.{Has-done};
+ghost use Rattle.program.specs.between.Room.{Text-put};
 ghost use Rattle.shorten.specs.Shorten.{shortened, printed};
 ghost use Rattle.shorten.specs.between.Reported.{most-text};
 
 // Shortens a plan. The list left has room for the longest that is read.
 fn shorten(words: &[u32], plan: &[u32], out: &mut [u8]) -> usize
-    ensures { λ r. ⌜ Prints (shortened (now (words .entry)) (now (plan .entry))) 0
-        (now (out .entry)) (now (out .exit)) r ⌝ }
-    ensures { λ _. ⌜ length (shortened (now (words .entry)) (now (plan .entry))) ≤ most-text ⌝ }
+    ensures { λ r. ⌜ Text-put most-text (now (out .entry)) (now (out .exit)) r
+        (shortened (now (words .entry)) (now (plan .entry))) ⌝ }
 {
     let mut left = [0u32; Plan::STEPS];
     let reduced = minimal_reduction(words, plan, &mut left);
@@ -36,8 +35,7 @@ fn shorten(words: &[u32], plan: &[u32], out: &mut [u8]) -> usize
 
 // Shortens the plan, unless the input is refused before.
 fn shorten_input(bytes: &[u8], out: &mut [u8]) -> usize
-    ensures { λ r. ⌜ Prints (printed (now (bytes .entry))) 0 (now (out .entry)) (now (out .exit)) r ⌝ }
-    ensures { λ _. ⌜ length (printed (now (bytes .entry))) ≤ most-text ⌝ }
+    ensures { λ r. ⌜ Text-put most-text (now (out .entry)) (now (out .exit)) r (printed (now (bytes .entry))) ⌝ }
 {
     let mut words = [0u32; WORDS];
     let opened = open_input(bytes, 0, &mut words);

@@ -13,16 +13,14 @@ use program::output::put_tally;
 use program::parts::plan_part;
 ghost use Prim.Native.Nat.{_≤_};
 ghost use lib.ListN.{length};
-ghost use Rattle.lines.specs.Prints.{Prints};
-ghost use Rattle.program.specs.between.Room.{line-room};
+ghost use Rattle.program.specs.between.Room.{line-room, Text-put};
 ghost use Rattle.program.specs.Printed.{Has-done};
 ghost use Rattle.validate.specs.Validate.{checked, printed};
 
 // Checks a plan.
 fn check(words: &[u32], plan: &[u32], out: &mut [u8]) -> usize
-    ensures { λ r. ⌜ Prints (checked (now (words .entry)) (now (plan .entry))) 0
-        (now (out .entry)) (now (out .exit)) r ⌝ }
-    ensures { λ _. ⌜ length (checked (now (words .entry)) (now (plan .entry))) ≤ line-room ⌝ }
+    ensures { λ r. ⌜ Text-put line-room (now (out .entry)) (now (out .exit)) r
+        (checked (now (words .entry)) (now (plan .entry))) ⌝ }
 {
     let checked = check_plan(words, plan);
     let answer = checked.answer;
@@ -34,8 +32,7 @@ fn check(words: &[u32], plan: &[u32], out: &mut [u8]) -> usize
 
 // Checks the plan, unless the input is refused before it.
 fn check_input(bytes: &[u8], out: &mut [u8]) -> usize
-    ensures { λ r. ⌜ Prints (printed (now (bytes .entry))) 0 (now (out .entry)) (now (out .exit)) r ⌝ }
-    ensures { λ _. ⌜ length (printed (now (bytes .entry))) ≤ line-room ⌝ }
+    ensures { λ r. ⌜ Text-put line-room (now (out .entry)) (now (out .exit)) r (printed (now (bytes .entry))) ⌝ }
 {
     let mut words = [0u32; WORDS];
     let opened = open_input(bytes, 0, &mut words);

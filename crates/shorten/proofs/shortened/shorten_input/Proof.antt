@@ -1,10 +1,7 @@
 -- `shorten_input` meets its contract: the input is refused, or the plan is shortened. Assumes nothing.
-use Prim.Native.Nat.{ℕ, _≤_}
 use native.Mathlib.Omega.{arith}
 use mathlib.Core.Path.{refl}
-use mathlib.Core.List.{List}
-use lib.ListN.{length}
-use Rattle.lines.specs.Prints.{Prints}
+use Rattle.program.specs.between.Room.{Text-put}
 use Rattle.shorten.specs.between.Reported.{most-text}
 use Rattle.program.proofs.ReplyLaws.{reply-refused, reply-lodged}
 use borrow.Author.Needs.{needs}
@@ -44,21 +41,17 @@ shorten-requires c κs = search needs
 same-length : tie.Need-same-length
 same-length c = search needs
 
--- what is promised of the text
-abbrev Text-put : List ℕ → List ℕ → ℕ → List ℕ → Type 0
-Text-put before after end text = Prints text 0 before after end × (length text ≤ most-text)
-
 returns : tie.Need-returns
 returns c =
     let put = c .before .before .put-refusal .ensures in
-    reply-refused _ _ _ _ (c .before .before .before .before .before .before .before .before .open-input .ensures .0) _ _ (Text-put _ _ _) _ (c .before .before .before .before .before .opened .given .1) (put .0, omega (arith, put .1))
+    reply-refused _ _ _ _ (c .before .before .before .before .before .before .before .before .open-input .ensures .0) _ _ (Text-put most-text _ _ _) _ (c .before .before .before .before .before .opened .given .1) (put .0, omega (arith, put .1))
 
 same-length-2 : tie.Need-same-length-2
 same-length-2 c = search needs
 
 returns-2 : tie.Need-returns-2
 returns-2 c =
-    reply-lodged _ _ _ _ (c .before .before .before .before .before .before .before .before .before .before .before .before .open-input .ensures .0) _ _ (Text-put _ _ _) _ _ _ _ _ (c .before .before .before .before .before .before .before .before .before .opened2 .given .1) (c .before .before .before .before .before .before .front .ensures) (c .before .before .before .before .plan-part .ensures) refl
+    reply-lodged _ _ _ _ (c .before .before .before .before .before .before .before .before .before .before .before .before .open-input .ensures .0) _ _ (Text-put most-text _ _ _) _ _ _ _ _ (c .before .before .before .before .before .before .before .before .before .opened2 .given .1) (c .before .before .before .before .before .before .front .ensures) (c .before .before .before .before .plan-part .ensures) refl
     (c .before .before .shorten .ensures)
 
 pub shorten-input-spec : {M : Type 1} → statement M

@@ -1,10 +1,6 @@
 -- `check_input` meets its contract: the input is refused, or the plan is checked. Assumes nothing.
-use Prim.Native.Nat.{ℕ, _≤_}
 use mathlib.Core.Path.{refl}
-use mathlib.Core.List.{List}
-use lib.ListN.{length}
-use Rattle.lines.specs.Prints.{Prints}
-use Rattle.program.specs.between.Room.{line-room}
+use Rattle.program.specs.between.Room.{line-room, Text-put}
 use Rattle.program.proofs.ReplyLaws.{reply-refused, reply-lodged}
 use borrow.Author.Needs.{needs}
 use Rattle.validate.proofs.check.check_input.Statement.{statement}
@@ -43,19 +39,15 @@ check-requires c κs = search needs
 same-length : tie.Need-same-length
 same-length c = search needs
 
--- what is promised of the text
-abbrev Text-put : List ℕ → List ℕ → ℕ → List ℕ → Type 0
-Text-put before after end text = Prints text 0 before after end × (length text ≤ line-room)
-
 returns : tie.Need-returns
-returns c = reply-refused _ _ _ _ (c .before .before .before .before .before .before .before .before .open-input .ensures .0) _ _ (Text-put _ _ _) _ (c .before .before .before .before .before .opened .given .1) (c .before .before .put-refusal .ensures)
+returns c = reply-refused _ _ _ _ (c .before .before .before .before .before .before .before .before .open-input .ensures .0) _ _ (Text-put line-room _ _ _) _ (c .before .before .before .before .before .opened .given .1) (c .before .before .put-refusal .ensures)
 
 same-length-2 : tie.Need-same-length-2
 same-length-2 c = search needs
 
 returns-2 : tie.Need-returns-2
 returns-2 c =
-    reply-lodged _ _ _ _ (c .before .before .before .before .before .before .before .before .before .before .before .before .open-input .ensures .0) _ _ (Text-put _ _ _) _ _ _ _ _ (c .before .before .before .before .before .before .before .before .before .opened2 .given .1) (c .before .before .before .before .before .before .front .ensures) (c .before .before .before .before .plan-part .ensures) refl
+    reply-lodged _ _ _ _ (c .before .before .before .before .before .before .before .before .before .before .before .before .open-input .ensures .0) _ _ (Text-put line-room _ _ _) _ _ _ _ _ (c .before .before .before .before .before .before .before .before .before .opened2 .given .1) (c .before .before .before .before .before .before .front .ensures) (c .before .before .before .before .plan-part .ensures) refl
     (c .before .before .check .ensures)
 
 pub check-input-spec : {M : Type 1} → statement M
