@@ -1,3 +1,4 @@
+-- `encode_input` meets its contract, by whether a read failed. Assumes nothing.
 use Rattle.encode.proofs.EncodedLaws.{encodes-input, encodes-failed}
 use borrow.Author.Needs.{needs}
 use Rattle.encode.proofs.encode.encode_input.Statement.{statement}

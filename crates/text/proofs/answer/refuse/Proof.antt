@@ -1,3 +1,4 @@
+-- `refuse` meets its contract: nothing is written. Assumes nothing.
 use Rattle.text.proofs.SayLaws.{answers-saying}
 use borrow.Author.Needs.{needs}
 use Rattle.text.proofs.answer.refuse.Statement.{statement}

@@ -1,3 +1,4 @@
+-- `say` meets its contract: two texts, one behind the other. Assumes nothing.
 use Rattle.lines.proofs.PrintLaws.{prints-both}
 use borrow.Author.Needs.{needs}
 use Rattle.text.proofs.answer.say.Statement.{statement}

@@ -1,3 +1,4 @@
+-- `read_whole` meets its contract: a text that is not too long is read from its beginning to its end. Assumes nothing.
 use Rattle.text.proofs.ReaderLaws.{reads-whole, too-long, found-whole}
 use mathlib.Core.Path.{_∙_}
 use borrow.Author.Needs.{needs}
