@@ -4,3 +4,5 @@ pub mod RowLaws
 pub mod WalkLaws
 -- DecodedLaws: what is answered to bytes.
 pub mod DecodedLaws
+-- PrintedTheorem: the words of the text that is printed for words are those words.
+pub mod PrintedTheorem

@@ -160,3 +160,12 @@ lays-read (lays.words xs {ys} {t} rest) small room n low =
 pub round-trip : (xs t : List ℕ) → Lays xs t → Word-sized xs → (room : ℕ) → length xs ≤ room → reading room t ≡ Words xs
 unfolding reading
 round-trip xs t lays small room low = lays-read lays small room 1 low
+
+-- a numeral has no line end, so it may stand in a comment
+digits-unbroken : (ds : List ℕ) → all-digits ds ≡ true → Unbroken ds
+unfolding all-digits
+digits-unbroken [] all = lays.Unbroken.nothing
+digits-unbroken (d ∷ ds) all = let (here, there) = both (ascii-digit d) (all-digits ds) all in lays.byte (goes-on d (digit-goes-on d here) .0) (digits-unbroken ds there)
+
+pub numeral-unbroken : (x : ℕ) → Unbroken (numeral x)
+numeral-unbroken x = digits-unbroken (numeral x) (numeral-stands x .all)
