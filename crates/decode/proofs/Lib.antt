@@ -6,3 +6,5 @@ pub mod WalkLaws
 pub mod DecodedLaws
 -- PrintedTheorem: the words of the text that is printed for words are those words.
 pub mod PrintedTheorem
+-- RoomTheorem: the array that is lent has room for the text.
+pub mod RoomTheorem
