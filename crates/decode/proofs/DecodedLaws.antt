@@ -15,10 +15,10 @@ use Rattle.program.specs.declared.frame.Frame.{Frame}
 use Rattle.program.specs.Form.{word-bytes, word-at, unpacked, input-form}
 use Rattle.text.specs.declared.answer.Answered.{Answered}
 use Rattle.text.specs.Limits.{most}
-use Rattle.text.specs.Answer.{says, Answers}
+use Rattle.text.specs.Answer.{only-says, Gives}
 use Rattle.text.proofs.SayLaws.{answers-writing, answers-as}
 use Rattle.decode.specs.Layout.{rows, record-text}
-use Rattle.decode.specs.Decode.{words-of, text-whole, text-framed, text-of, decoded, decoded-input}
+use Rattle.decode.specs.Decode.{words-in, text-whole, text-framed, text-of, decoded, decoded-input}
 
 -- the text of words whose first n are a task, of so many actions
 module _ (n : ℕ) (ws task : List ℕ) (count : ℕ) (these : task ≡ take n ws) (counted : count ≡ actions task) where
@@ -43,27 +43,27 @@ pub text-put : {out out′ : List ℕ} {e : ℕ} (bytes space words : List ℕ) 
 unfolding text-of
 text-put {out} {out′} {e} bytes space words f room few all unpacks are framed p =
     let low : length bytes / word-bytes ≤ room = omega arith in
-    let these : words ≡ words-of bytes = are ∙ ap (take (length bytes / word-bytes)) unpacks ∙ table-take (word-at bytes) 0 (length bytes / word-bytes) room low in
+    let these : words ≡ words-in bytes = are ∙ ap (take (length bytes / word-bytes)) unpacks ∙ table-take (word-at bytes) 0 (length bytes / word-bytes) room low in
     subst (λ t. Prints t 0 out out′ e) (ap (λ g. text-framed g words) framed ∙ ap (text-framed (input-form 0 bytes)) these) p
 
 module _ {out out′ errors errors′ : List ℕ} {r : Answered} (bytes : List ℕ) where
-  pub decodes-long : word-bytes * most < length bytes → Answers (says (ascii "more words than a sheet and its list have")) out out′ errors errors′ r → Answers (decoded bytes) out out′ errors errors′ r
+  pub decodes-long : word-bytes * most < length bytes → Gives (only-says (ascii "more words than a sheet and its list have")) out out′ errors errors′ r → Gives (decoded bytes) out out′ errors errors′ r
   unfolding decoded
   decodes-long long answers = answers-as (rw (decoded, lt-ltb (word-bytes * most) (length bytes) long)) answers
 
   module _ (few : length bytes ≤ word-bytes * most) where
-    pub decodes-broken : (length bytes % word-bytes ≡ 0 → ⊥) → Answers (says (ascii "the last word breaks off")) out out′ errors errors′ r → Answers (decoded bytes) out out′ errors errors′ r
+    pub decodes-broken : (length bytes % word-bytes ≡ 0 → ⊥) → Gives (only-says (ascii "the last word breaks off")) out out′ errors errors′ r → Gives (decoded bytes) out out′ errors errors′ r
     unfolding decoded
     decodes-broken broken answers = answers-as (rw (decoded, le-ltb (word-bytes * most) (length bytes) few, ne-eqb (length bytes % word-bytes) 0 broken)) answers
 
   -- and to input
-  pub decodes-read : (failed : Bool) → failed ≡ false → Answers (decoded bytes) out out′ errors errors′ r → Answers (decoded-input failed bytes) out out′ errors errors′ r
+  pub decodes-read : (failed : Bool) → failed ≡ false → Gives (decoded bytes) out out′ errors errors′ r → Gives (decoded-input failed bytes) out out′ errors errors′ r
   decodes-read failed is answers = answers-as (ap (λ b. decoded-input b bytes) is) answers
 
-  pub decodes-failed : (failed : Bool) → failed ≡ true → Answers (decoded-input true bytes) out out′ errors errors′ r → Answers (decoded-input failed bytes) out out′ errors errors′ r
+  pub decodes-failed : (failed : Bool) → failed ≡ true → Gives (decoded-input true bytes) out out′ errors errors′ r → Gives (decoded-input failed bytes) out out′ errors errors′ r
   decodes-failed failed is answers = answers-as (ap (λ b. decoded-input b bytes) is) answers
 
 pub decodes-words : {out out′ : List ℕ} {n : ℕ} (bytes errors : List ℕ) → length bytes ≤ word-bytes * most → length bytes % word-bytes ≡ 0 → Prints (text-of bytes) 0 out out′ n
-    → Answers (decoded bytes) out out′ errors errors (record { written = n; said = 0 })
+    → Gives (decoded bytes) out out′ errors errors (record { written = n; said = 0 })
 unfolding decoded
 decodes-words bytes errors few whole p = answers-as (rw (decoded, le-ltb (word-bytes * most) (length bytes) few, eq-eqb (length bytes % word-bytes) 0 whole)) (answers-writing errors p)

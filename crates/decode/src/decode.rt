@@ -17,7 +17,7 @@ ghost use lib.ListN.{length, take};
 ghost use Rattle.lines.specs.Prints.{Prints};
 ghost use Rattle.program.specs.Form.{word-bytes};
 ghost use Rattle.text.specs.Limits.{most};
-ghost use Rattle.text.specs.Answer.{Answers};
+ghost use Rattle.text.specs.Answer.{Gives};
 ghost use Rattle.decode.specs.Decode.{text-whole, text-framed, text-of, decoded, decoded-input};
 
 // Puts words of which the first `task` may be a task, with its plan behind it.
@@ -58,7 +58,7 @@ fn put_bytes(out: &mut [u8], bytes: &[u8]) -> usize
 
 // Decodes bytes.
 fn decode_bytes(bytes: &[u8], out: &mut [u8], errors: &mut [u8]) -> Answered
-    ensures { λ r. ⌜ Answers (decoded (now (bytes .entry))) (now (out .entry)) (now (out .exit))
+    ensures { λ r. ⌜ Gives (decoded (now (bytes .entry))) (now (out .entry)) (now (out .exit))
         (now (errors .entry)) (now (errors .exit)) r ⌝ }
 {
     if WORD * MOST < bytes.len() {
@@ -80,7 +80,7 @@ pub(crate) struct Decoding {
 
 // Reads words from standard input, and decodes them.
 pub(crate) fn decode_input(bytes: &mut [u8], out: &mut [u8], errors: &mut [u8]) -> Decoding
-    ensures { λ r. ⌜ Answers (decoded-input (r .failed) (take (r .read) (now (bytes .exit))))
+    ensures { λ r. ⌜ Gives (decoded-input (r .failed) (take (r .read) (now (bytes .exit))))
         (now (out .entry)) (now (out .exit)) (now (errors .entry)) (now (errors .exit)) (r .answer) ⌝ }
 {
     let input = read_input(bytes);

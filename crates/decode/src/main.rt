@@ -19,7 +19,7 @@ const TEXT: usize = 131_072;
 const MESSAGE: usize = 64;
 
 // Room for the text. The array is so long that only its length is told to `main`.
-fn text_room() -> [u8; TEXT]
+fn printed_room() -> [u8; TEXT]
     ensures { λ r. ⌜ text-bytes ≡ length r ⌝ }
 {
     [0; TEXT]
@@ -28,7 +28,7 @@ fn text_room() -> [u8; TEXT]
 // One byte more than a text has words for is read, to see that there are no more.
 fn main() {
     let mut bytes = [0u8; WORD * MOST + 1];
-    let mut out = text_room();
+    let mut out = printed_room();
     let mut errors = [0u8; MESSAGE];
     let done = decode_input(&mut bytes, &mut out, &mut errors);
     let answer = done.answer;

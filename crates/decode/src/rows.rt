@@ -34,7 +34,7 @@ fn put_words(out: &mut [u8], at: usize, words: &[u32]) -> usize
 }
 
 // Puts a line of words.
-fn put_row(out: &mut [u8], at: usize, words: &[u32]) -> usize
+fn put_word_row(out: &mut [u8], at: usize, words: &[u32]) -> usize
     ensures { λ r. ⌜ Prints (line [] (now (words .entry))) at (now (out .entry)) (now (out .exit)) r ⌝ }
 {
     let end = put_words(out, at, words);
@@ -49,7 +49,7 @@ pub(crate) fn put_rows(out: &mut [u8], at: usize, words: &[u32]) -> usize
     let mut i = 0;
     while i < words.len() {
         let row = front(&words[i..], ROW);
-        end = put_row(out, end, row);
+        end = put_word_row(out, end, row);
         i += row.len();
     }
     end

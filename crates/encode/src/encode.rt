@@ -13,12 +13,12 @@ use text::reader::read_whole;
 ghost use mathlib.Core.List.{List};
 ghost use Prim.Native.Nat.{ℕ};
 ghost use lib.ListN.{take};
-ghost use Rattle.text.specs.Answer.{says, Answers};
+ghost use Rattle.text.specs.Answer.{only-says, Gives};
 ghost use Rattle.encode.specs.Encode.{at-line, encoded, encoded-input};
 
 // Says what is wrong at a line of a text, and writes nothing.
 fn refuse_line(errors: &mut [u8], line: u64, what: &[u8]) -> Answered
-    ensures { λ r. ⌜ ((out : List ℕ) → Answers (says (at-line line (now (what .entry)))) out out
+    ensures { λ r. ⌜ ((out : List ℕ) → Gives (only-says (at-line line (now (what .entry)))) out out
         (now (errors .entry)) (now (errors .exit)) r) ⌝ }
 {
     let number = put_text(errors, 0, b"line ");
@@ -30,7 +30,7 @@ fn refuse_line(errors: &mut [u8], line: u64, what: &[u8]) -> Answered
 
 // Encodes a text.
 fn encode_text(text: &[u8], out: &mut [u8], errors: &mut [u8]) -> Answered
-    ensures { λ r. ⌜ Answers (encoded (now (text .entry))) (now (out .entry)) (now (out .exit))
+    ensures { λ r. ⌜ Gives (encoded (now (text .entry))) (now (out .entry)) (now (out .exit))
         (now (errors .entry)) (now (errors .exit)) r ⌝ }
 {
     let mut words = [0u32; MOST];
@@ -59,7 +59,7 @@ pub(crate) struct Encoding {
 
 // Reads a text from standard input, and encodes it.
 pub(crate) fn encode_input(bytes: &mut [u8], out: &mut [u8], errors: &mut [u8]) -> Encoding
-    ensures { λ r. ⌜ Answers (encoded-input (r .failed) (take (r .read) (now (bytes .exit))))
+    ensures { λ r. ⌜ Gives (encoded-input (r .failed) (take (r .read) (now (bytes .exit))))
         (now (out .entry)) (now (out .exit)) (now (errors .entry)) (now (errors .exit)) (r .answer) ⌝ }
 {
     let input = read_input(bytes);

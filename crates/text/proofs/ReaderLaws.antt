@@ -290,9 +290,9 @@ reads-whole s r ws ws′ text found starts reads ends = ends ∙ reads .same [] 
 
 -- but for a text that is too long
 module _ (room : ℕ) (text : List ℕ) where
-  pub too-long : most-text < length text → Long ≡ found-in room text
+  pub found-long : most-text < length text → Long ≡ found-in room text
   unfolding found-in
-  too-long long = rw (lt-ltb most-text (length text) long)
+  found-long long = rw (lt-ltb most-text (length text) long)
 
   pub found-whole : length text ≤ most-text → reading room text ≡ found-in room text
   unfolding found-in

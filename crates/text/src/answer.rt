@@ -6,7 +6,7 @@ ghost use mathlib.Core.List.{List, [], _∷_, _++_};
 ghost use Prim.Native.Nat.{ℕ};
 ghost use Rattle.lines.specs.Lines.{line-end};
 ghost use Rattle.lines.specs.Prints.{Prints};
-ghost use Rattle.text.specs.Answer.{says, Answers};
+ghost use Rattle.text.specs.Answer.{only-says, Gives};
 
 // How many bytes are written, and how many are said.
 pub struct Answered {
@@ -24,7 +24,7 @@ pub fn say(errors: &mut [u8], at: usize, what: &[u8]) -> usize
 
 // Says a line and writes nothing.
 pub fn refuse(errors: &mut [u8], what: &[u8]) -> Answered
-    ensures { λ r. ⌜ ((out : List ℕ) → Answers (says (now (what .entry))) out out
+    ensures { λ r. ⌜ ((out : List ℕ) → Gives (only-says (now (what .entry))) out out
         (now (errors .entry)) (now (errors .exit)) r) ⌝ }
 {
     let said = say(errors, 0, what);

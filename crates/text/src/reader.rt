@@ -7,7 +7,8 @@ ghost use mathlib.Core.List.{List, [], _∷_};
 ghost use Prim.Native.Nat.{ℕ, _+_, _<_, _^_};
 ghost use lib.ListN.{length};
 ghost use Rattle.text.specs.Text.{blank as is-blank, found-in, reading-of};
-ghost use Rattle.text.specs.between.Reading.{ends-field, still, at-blank, at-comment, at-word, Reads, Starts, Stores};
+ghost use Rattle.text.specs.between.Reading.{ends-field, still, at-blank, at-comment, at-word};
+ghost use Rattle.text.specs.between.Reading.{Reads, Starts, Stores};
 
 // What counts in a text.
 const LINE_END: u8 = b'\n';

@@ -4,8 +4,8 @@ use borrow.Author.Needs.{needs}
 use Rattle.decode.proofs.main.Statement.{statement}
 use Rattle.decode.proofs.main.Tie as tie
 
-text-room-requires : tie.Need-text-room-requires
-text-room-requires c κs = search needs
+printed-room-requires : tie.Need-printed-room-requires
+printed-room-requires c κs = search needs
 
 slice-aggregate-decode-input : tie.Need-slice-aggregate-decode-input
 slice-aggregate-decode-input c = search needs
@@ -44,7 +44,7 @@ pub main-spec : {M : Type 1} → statement M
 main-spec =
     tie.close
     (tie.spec
-    text-room-requires
+    printed-room-requires
     slice-aggregate-decode-input
     slice-aggregate-decode-input-2
     slice-aggregate-decode-input-3

@@ -40,8 +40,8 @@ part-front-end c = search needs
 front-requires : tie.Need-front-requires Inv-loop μ-loop
 front-requires c κs = search needs
 
-put-row-requires : tie.Need-put-row-requires Inv-loop μ-loop
-put-row-requires c κs = search needs
+put-word-row-requires : tie.Need-put-word-row-requires Inv-loop μ-loop
+put-word-row-requires c κs = search needs
 
 add-i : tie.Need-add-i Inv-loop μ-loop
 add-i c = omega (arith, row-inside (c .before .before .before .before .before .before .before .before .before .before .before .args .words .now) _ (c .before .before .before .before .before .before .before .loop .i) (c .before .before .before .before .before .before .loop-test .taken) (c .before .before .before .before .front .ensures))
@@ -56,7 +56,7 @@ loop-again c = let words = c .before .before .before .before .before .before .be
     let turn = c .before .before .before .before .before .before .before in
     let i = turn .loop .i in
     let (done, prints, all) = turn .loop .inv .0 in
-    (row-put words _ i (c .before .before .before .before .before .before .loop-test .taken) (c .before .before .before .before .front .ensures) done all prints (c .before .before .put-row .ensures), row-inside words _ i (c .before .before .before .before .before .before .loop-test .taken) (c .before .before .before .before .front .ensures))
+    (row-put words _ i (c .before .before .before .before .before .before .loop-test .taken) (c .before .before .before .before .front .ensures) done all prints (c .before .before .put-word-row .ensures), row-inside words _ i (c .before .before .before .before .before .before .loop-test .taken) (c .before .before .before .before .front .ensures))
 
 same-length : tie.Need-same-length Inv-loop μ-loop
 same-length c = prints-length (c .before .loop .inv .0 .1)
@@ -77,7 +77,7 @@ put-rows-spec =
     part-front-start
     part-front-end
     front-requires
-    put-row-requires
+    put-word-row-requires
     add-i
     loop-less
     loop-again

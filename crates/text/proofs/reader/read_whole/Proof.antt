@@ -1,12 +1,12 @@
 -- `read_whole` meets its contract: a text that is not too long is read from its beginning to its end. Assumes nothing.
-use Rattle.text.proofs.ReaderLaws.{reads-whole, too-long, found-whole}
+use Rattle.text.proofs.ReaderLaws.{reads-whole, found-long, found-whole}
 use mathlib.Core.Path.{_∙_}
 use borrow.Author.Needs.{needs}
 use Rattle.text.proofs.reader.read_whole.Statement.{statement}
 use Rattle.text.proofs.reader.read_whole.Tie as tie
 
 returns : tie.Need-returns
-returns c = too-long _ _ (c .if1 .taken)
+returns c = found-long _ _ (c .if1 .taken)
 
 start-requires : tie.Need-start-requires
 start-requires c κs = search needs

@@ -1,8 +1,8 @@
--- `put_row` meets its contract: two texts, one behind the other. Assumes nothing.
+-- `put_word_row` meets its contract: two texts, one behind the other. Assumes nothing.
 use Rattle.lines.proofs.PrintLaws.{prints-both}
 use borrow.Author.Needs.{needs}
-use Rattle.decode.proofs.rows.put_row.Statement.{statement}
-use Rattle.decode.proofs.rows.put_row.Tie as tie
+use Rattle.decode.proofs.rows.put_word_row.Statement.{statement}
+use Rattle.decode.proofs.rows.put_word_row.Tie as tie
 
 put-words-requires : tie.Need-put-words-requires
 put-words-requires c κs = search needs
@@ -19,7 +19,7 @@ same-length c = search needs
 returns : tie.Need-returns
 returns c = prints-both (c .before .before .before .before .before .before .before .put-words .ensures) (c .before .before .put-text .ensures)
 
-pub put-row-spec : {M : Type 1} → statement M
-put-row-spec =
+pub put-word-row-spec : {M : Type 1} → statement M
+put-word-row-spec =
     tie.close
     (tie.spec put-words-requires slice-aggregate-put-text put-text-requires same-length returns)
