@@ -14,7 +14,7 @@ ghost use Prim.Native.Nat.{_+_};
 ghost use lib.ListN.{length};
 ghost use Rattle.text.specs.Limits.{most-text};
 
-// The most bytes of a message.
+// More bytes than a message has: the lines of a text have numbers of at most seven digits.
 const MESSAGE: usize = 128;
 
 // Room for one byte more than a text may have, to see that it is no longer. The array is so long that only its length
