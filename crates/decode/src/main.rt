@@ -1,51 +1,42 @@
 // The program that turns little-endian words into a text of words, which `encode` turns back into them. A task with
 // its plan is laid out part by part; other words are printed plainly.
-// layout: the lines of the text.
-mod layout;
+// rows: words in lines. sections: the parts of a task, each under its comment. decode: what is answered to bytes.
+mod decode;
+mod rows;
+mod sections;
 
-use crate::layout::print_sheet;
-use crate::layout::print_words;
-use access::front;
-use libc::STDIN_FILENO;
-use program::frame::Frame;
-use program::framing::frame_input;
-use program::unpack::unpack;
+use crate::decode::decode_input;
 use program::word::WORD;
-use sheet::layout::actions;
-use sheet::limits::Sheet;
-use text::input::MOST;
-use text::message::say;
-use text::message::say_too_many;
+use text::answer::give;
+use text::limits::MOST;
+ghost use mathlib.Core.Path.{_≡_};
+ghost use lib.ListN.{length};
+ghost use Rattle.decode.specs.between.Room.{text-bytes};
 
-// Prints the words of bytes.
-fn print_bytes(bytes: &[u8]) {
-    let mut space = [0u32; MOST];
-    unpack(bytes, &mut space);
-    let words = front(&space, bytes.len() / WORD);
-    let framed = frame_input(bytes, 0);
-    if let Frame::Whole {
-        task,
-        plan: _,
-        end: _,
-    } = framed {
-        if actions(front(words, task)) <= Sheet::ACTIONS {
-            print_sheet(words, task);
-            return;
-        }
-    }
-    print_words(words);
+// The most bytes of the text of so many words, and of a message.
+const TEXT: usize = 131_072;
+
+const MESSAGE: usize = 64;
+
+// Room for the text. The array is so long that only its length is told to `main`.
+fn printed_room() -> [u8; TEXT]
+    ensures { λ r. ⌜ text-bytes ≡ length r ⌝ }
+{
+    [0; TEXT]
 }
 
+// One byte more than a text has words for is read, to see that there are no more.
 fn main() {
     let mut bytes = [0u8; WORD * MOST + 1];
-    let n = io::read_full(STDIN_FILENO, &mut bytes);
-    if WORD * MOST < n {
-        say_too_many();
-        return;
-    }
-    if n % WORD != 0 {
-        say(b"the last word breaks off");
-        return;
-    }
-    print_bytes(&bytes[..n]);
+    let mut out = printed_room();
+    let mut errors = [0u8; MESSAGE];
+    let done = decode_input(&mut bytes, &mut out, &mut errors);
+    let answer = done.answer;
+    let written = answer.written;
+    let said = answer.said;
+    give(
+        &out[..written],
+        &errors[..said],
+        b"the text can't be written",
+    );
 }

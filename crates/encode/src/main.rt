@@ -1,54 +1,41 @@
 // The program that turns a text of words (`text`) into the form in which the programs read a task and a plan. Where
 // the text is no text of words it says so, with the line, and writes no word.
-use access::front;
-use libc::STDOUT_FILENO;
+// pack: words as bytes. encode: what is answered to a text.
+mod encode;
+mod pack;
+
+use crate::encode::encode_input;
 use program::word::WORD;
-use text::input::Found;
-use text::input::MOST;
-use text::input::read_text;
-use text::message::say;
-use text::message::say_line;
-use text::message::say_too_many;
-use text::pack::pack;
-use text::reader::Ending;
-ghost use Prim.Native.Nat.{_≤_};
+use text::answer::give;
+use text::limits::MOST;
+use text::limits::TEXT;
+ghost use mathlib.Core.Path.{_≡_};
+ghost use Prim.Native.Nat.{_+_};
 ghost use lib.ListN.{length};
-ghost use Rattle.text.specs.between.Input.{most};
+ghost use Rattle.text.specs.Limits.{most-text};
 
-// Writes the words as bytes.
-fn write_words(words: &[u32])
-    requires { ⌜ length (now words) ≤ most ⌝ }
-{
-    let mut bytes = [0u8; WORD * MOST];
-    pack(words, &mut bytes);
-    let n = WORD * words.len();
-    if !io::write_all(STDOUT_FILENO, &bytes[..n]) {
-        say(b"the words can't be written");
-    }
-}
+// More bytes than a message has: the lines of a text have numbers of at most seven digits.
+const MESSAGE: usize = 128;
 
-// Writes what was read, or says what is wrong with it.
-fn write_found(ending: Ending, words: &[u32])
-    requires { ⌜ length (now words) ≤ most ⌝ }
+// Room for one byte more than a text may have, to see that it is no longer. The array is so long that only its length
+// is told to `main`.
+fn text_room() -> [u8; TEXT + 1]
+    ensures { λ r. ⌜ most-text + 1 ≡ length r ⌝ }
 {
-    match ending {
-        Ending::Words(n) => write_words(front(words, n)),
-        Ending::NoWord(line) => {
-            say_line(line);
-            say(b"not a word of 0 to 4294967295");
-        }
-        Ending::NoRoom(line) => {
-            say_line(line);
-            say_too_many();
-        }
-    }
+    [0; TEXT + 1]
 }
 
 fn main() {
-    let mut words = [0u32; MOST];
-    let found = read_text(&mut words);
-    match found {
-        Found::Text(ending) => write_found(ending, &words),
-        Found::Failed => say(b"the text can't be read"),
-    }
+    let mut bytes = text_room();
+    let mut out = [0u8; WORD * MOST];
+    let mut errors = [0u8; MESSAGE];
+    let done = encode_input(&mut bytes, &mut out, &mut errors);
+    let answer = done.answer;
+    let written = answer.written;
+    let said = answer.said;
+    give(
+        &out[..written],
+        &errors[..said],
+        b"the words can't be written",
+    );
 }

@@ -16,7 +16,8 @@ use Rattle.refusal.proofs.PlaceLaws.{one-fewer, none-left}
 use Rattle.text.specs.declared.reader.Mode.{Mode}
 use Rattle.text.specs.declared.reader.Mode.the-variants as mode
 use Rattle.text.specs.declared.reader.Reader.{Reader}
-use Rattle.text.specs.Text.{ascii-zero, ascii-nine, ends-line, begins-comment, blank, split, not-empty, fields, Field, fields-from, all-digits, decimal-from, word-from, Reading, Words, NoWord, NoRoom, in-front, read, reading}
+use Rattle.text.specs.Text.{ascii-zero, ascii-nine, ends-line, begins-comment, blank, split, not-empty, fields, Field, fields-from, all-digits, decimal-from, word-from, Reading, Words, NoWord, NoRoom, Long, in-front, read, reading, found-in}
+use Rattle.text.specs.Limits.{most-text}
 use Rattle.text.specs.between.Reading.{ends-field, after-blank, field-left, after-field, read-field, all-in-front, still, at-blank, at-comment, at-word, Reads, Starts, Stores}
 use Rattle.text.proofs.TextLaws.{none-left-of-field, blank-at-line-end, comment-at-line-end, comment-on, blank-at-comment, blank-at-blank, field-at-other, after-field-at-other, blank-at-other, field-ends, goes-on}
 
@@ -286,3 +287,13 @@ starts = record { whole = λ ws text. ap (λ m. read m (after-blank 1 text)) (su
 -- from its beginning to its end a reader reads what a text means
 pub reads-whole : (s r : Reader) (ws ws′ text : List ℕ) (found : Reading) → Starts s → Reads s ws text r ws′ → found ≡ still r ws′ [] → found ≡ reading (length ws) text
 reads-whole s r ws ws′ text found starts reads ends = ends ∙ reads .same [] ∙ starts .whole ws (text ++ []) ∙ ap (reading (length ws)) (append-nil text)
+
+-- but for a text that is too long
+module _ (room : ℕ) (text : List ℕ) where
+  pub found-long : most-text < length text → Long ≡ found-in room text
+  unfolding found-in
+  found-long long = rw (lt-ltb most-text (length text) long)
+
+  pub found-whole : length text ≤ most-text → reading room text ≡ found-in room text
+  unfolding found-in
+  found-whole short = rw (le-ltb most-text (length text) short)

@@ -1,6 +1,6 @@
--- Text: what a text means. Pack: words as bytes. Spell: words as text.
+-- Text: what a text means. Limits: how long it is. Answer: what a program writes and says.
 pub mod Text
-pub mod Pack
-pub mod Spell
+pub mod Limits
+pub mod Answer
 -- between: what functions hand to each other, which need not be believed.
 pub mod between

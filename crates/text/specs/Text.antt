@@ -4,21 +4,17 @@ use Prim.Native.Nat.{ℕ, zero, suc, _+_, _-_, _*_, _^_}
 use mathlib.Core.Bool.{Bool, true, false, cond, _&&_, _||_}
 use mathlib.Core.Option.{Option, none, some}
 use mathlib.Core.List.{List, [], _∷_, _++_, map}
-use lib.ListN.{take}
+use lib.ListN.{length, take}
 use lib.Dec.{leb, ltb, eqb}
+use Rattle.lines.specs.Lines.{space, line-end}
+use Rattle.text.specs.Limits.{most-text}
 use Rattle.text.specs.declared.reader.Ending.{Ending}
 use Rattle.text.specs.declared.reader.Ending.the-variants as ending
 
--- the bytes that count in a text, as ASCII has them: a line end, the sign that begins a comment, a space, the first
--- digit and the last
-abbrev pub line-end : ℕ
-line-end = 10
-
+-- the bytes that count in a text, as ASCII has them, beside a space and a line end: the sign that begins a comment,
+-- the first digit and the last
 abbrev pub comment-sign : ℕ
 comment-sign = 35
-
-abbrev pub space : ℕ
-space = 32
 
 abbrev pub ascii-zero : ℕ
 ascii-zero = 48
@@ -102,17 +98,19 @@ abbrev pub word-of : List ℕ → Option ℕ
 word-of bs = word-from 0 bs
 
 -- what reading a text finds: its words; or the line of a field that is no word; or the line of a word for which there
--- is no room
+-- is no room; or that it is too long to be read
 pub data Reading : Type 0 where
   Words : List ℕ → Reading
   NoWord : ℕ → Reading
   NoRoom : ℕ → Reading
+  Long : Reading
 
 -- a reading with one word in front
 abbrev pub in-front : ℕ → Reading → Reading
 in-front x (Words xs) = Words (x ∷ xs)
 in-front x (NoWord n) = NoWord n
 in-front x (NoRoom n) = NoRoom n
+in-front x Long = Long
 
 -- what reading fields in turn finds, where there is room for so many words: it ends at the first that is no word or
 -- has no room
@@ -124,12 +122,17 @@ read room (f ∷ fs) =
       | some x ↦ elim room [ zero ↦ NoRoom (f .line) | suc k ↦ in-front x (read k fs) ]
     ]
 
--- what reading a text finds, where there is room for so many words; its lines are numbered from 1
+-- what reading a text of any length finds, where there is room for so many words; its lines are numbered from 1
 unfoldable pub reading : ℕ → List ℕ → Reading
 reading room text = read room (fields-from 1 (runs (split ends-line text)))
+
+-- what reading a text finds, which is not read where it has more bytes than a text may have
+unfoldable pub found-in : ℕ → List ℕ → Reading
+found-in room text = cond (ltb most-text (length text)) Long (reading room text)
 
 -- what the end of a reading tells, where the words read are stored at the front of ws
 abbrev pub reading-of : Ending → List ℕ → Reading
 reading-of (ending.Words n) ws = Words (take n ws)
 reading-of (ending.NoWord n) ws = NoWord n
 reading-of (ending.NoRoom n) ws = NoRoom n
+reading-of ending.Long ws = Long

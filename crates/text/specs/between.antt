@@ -1,4 +1,5 @@
 -- What stands between the code and the definitions to be believed: laws and theorems tie the two together.
--- Reading: what the rest of a text means to a reader that stands within it. Input: its reading in chunks.
+-- Reading: what the rest of a text means to a reader that stands within it. Lays: words as lines, with comments
+-- between them.
 pub mod Reading
-pub mod Input
+pub mod Lays

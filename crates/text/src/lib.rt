@@ -1,8 +1,7 @@
 // Words as a text for people.
-// reader: the reading of a text. input: its reading from standard input. pack: words as bytes. spell: words as text.
-// message: what is said where something is wrong.
+// limits: how long a text is. reader: the reading of a text. input: the reading of standard input. answer: what a
+// program writes and says.
+pub mod answer;
 pub mod input;
-pub mod message;
-pub mod pack;
+pub mod limits;
 pub mod reader;
-pub mod spell;

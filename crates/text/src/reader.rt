@@ -1,17 +1,19 @@
 // The reading of a text, byte by byte.
+use crate::limits::TEXT;
 use access::put;
 ghost use mathlib.Core.Path.{_≡_};
 ghost use mathlib.Core.Bool.{false};
 ghost use mathlib.Core.List.{List, [], _∷_};
 ghost use Prim.Native.Nat.{ℕ, _+_, _<_, _^_};
 ghost use lib.ListN.{length};
-ghost use Rattle.text.specs.Text.{blank as is-blank, reading, reading-of};
-ghost use Rattle.text.specs.between.Reading.{ends-field, still, at-blank, at-comment, at-word, Reads, Starts, Stores};
+ghost use Rattle.text.specs.Text.{blank as is-blank, found-in, reading-of};
+ghost use Rattle.text.specs.between.Reading.{ends-field, still, at-blank, at-comment, at-word};
+ghost use Rattle.text.specs.between.Reading.{Reads, Starts, Stores};
 
 // What counts in a text.
-pub(crate) const LINE_END: u8 = b'\n';
+const LINE_END: u8 = b'\n';
 
-pub(crate) const SPACE: u8 = b' ';
+const SPACE: u8 = b' ';
 
 const COMMENT: u8 = b'#';
 
@@ -32,11 +34,12 @@ pub struct Reader {
     pub count: usize,
 }
 
-// What reading a text finds: how many words, or the line at which it stopped.
+// What reading a text finds: how many words, or the line at which it stopped, or that it is too long to be read.
 pub enum Ending {
     Words(usize),
     NoWord(u64),
     NoRoom(u64),
+    Long,
 }
 
 // White space within a line.
@@ -157,7 +160,7 @@ fn store(words: &mut [u32], count: usize, value: u32) -> bool
 }
 
 // A reader at the beginning of a text.
-pub fn start() -> Reader
+fn start() -> Reader
     ensures { λ r. ⌜ Starts r ⌝ }
 {
     Reader {
@@ -197,7 +200,7 @@ fn feed(reader: Reader, byte: u8, words: &mut [u32]) -> Reader
 }
 
 // Takes the next bytes of a text.
-pub fn feed_all(reader: Reader, bytes: &[u8], words: &mut [u32]) -> Reader
+fn feed_all(reader: Reader, bytes: &[u8], words: &mut [u32]) -> Reader
     requires { ⌜ reader .line + length (now bytes) < 2 ^ 64 ⌝ }
     ensures { λ r. ⌜ Reads reader (now (words .entry)) (now (bytes .entry)) r (now (words .exit)) ⌝ }
 {
@@ -211,7 +214,7 @@ pub fn feed_all(reader: Reader, bytes: &[u8], words: &mut [u32]) -> Reader
 }
 
 // Ends the reading, at the end of the text.
-pub fn finish(reader: Reader, words: &mut [u32]) -> Ending
+fn finish(reader: Reader, words: &mut [u32]) -> Ending
     ensures { λ r. ⌜ reading-of r (now (words .exit)) ≡ still reader (now (words .entry)) [] ⌝ }
 {
     let mode = reader.mode;
@@ -233,8 +236,10 @@ pub fn finish(reader: Reader, words: &mut [u32]) -> Ending
 
 // Reads a whole text.
 pub fn read_whole(text: &[u8], words: &mut [u32]) -> Ending
-    requires { ⌜ 1 + length (now text) < 2 ^ 64 ⌝ }
-    ensures { λ r. ⌜ reading-of r (now (words .exit)) ≡ reading (length (now (words .entry))) (now (text .entry)) ⌝ }
+    ensures { λ r. ⌜ reading-of r (now (words .exit)) ≡ found-in (length (now (words .entry))) (now (text .entry)) ⌝ }
 {
+    if TEXT < text.len() {
+        return Ending::Long;
+    }
     finish(feed_all(start(), text, words), words)
 }

@@ -1,0 +1,42 @@
+-- What the program `decode` answers to bytes: the text of their words, or what is wrong with them. Assumes nothing.
+use Prim.Native.Nat.{ℕ, _*_, _/_, _%_}
+use mathlib.Core.Bool.{Bool, cond}
+use mathlib.Core.List.{List}
+use lib.ListN.{length, take}
+use lib.Dec.{ltb, eqb}
+use Rattle.lines.specs.Lines.{ascii}
+use Rattle.sheet.specs.Limits.{limits}
+use Rattle.sheet.specs.Layout.{actions}
+use Rattle.program.specs.declared.frame.Frame.{Frame}
+use Rattle.program.specs.declared.frame.Frame.the-variants.{Broken, Long, Whole}
+use Rattle.program.specs.Form.{word-bytes, unpacked, input-form}
+use Rattle.text.specs.Limits.{most}
+use Rattle.text.specs.Answer.{Answer, only-writes, only-says}
+use Rattle.decode.specs.Layout.{rows, record-text}
+
+-- the words of bytes
+abbrev pub words-in : List ℕ → List ℕ
+words-in bytes = unpacked bytes (length bytes / word-bytes)
+
+-- words of which the first n are a task, with its plan behind it: in sections, unless it has more actions than any
+unfoldable pub text-whole : ℕ → List ℕ → List ℕ
+text-whole n ws = cond (ltb (limits .actions) (actions (take n ws))) (rows ws) (record-text n ws)
+
+-- words by the form of their bytes: plain where they are no task with its plan
+abbrev pub text-framed : Frame → List ℕ → List ℕ
+text-framed Broken ws = rows ws
+text-framed (Long n) ws = rows ws
+text-framed (Whole n m end) ws = text-whole n ws
+
+unfoldable pub text-of : List ℕ → List ℕ
+text-of bytes = text-framed (input-form 0 bytes) (words-in bytes)
+
+-- the text is written; or it is said that there are too many words, or a part of one
+unfoldable pub decoded : List ℕ → Answer
+decoded bytes =
+    cond (ltb (word-bytes * most) (length bytes)) (only-says (ascii "more words than a sheet and its list have"))
+    (cond (eqb (length bytes % word-bytes) 0) (only-writes (text-of bytes)) (only-says (ascii "the last word breaks off")))
+
+-- and to input of which these bytes were read, where a read may have failed before it ended
+abbrev pub decoded-input : Bool → List ℕ → Answer
+decoded-input failed bytes = cond failed (only-says (ascii "the words can't be read")) (decoded bytes)

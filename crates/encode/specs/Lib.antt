@@ -1,0 +1,2 @@
+-- Encode: what is answered to a text.
+pub mod Encode

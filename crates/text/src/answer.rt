@@ -1,0 +1,41 @@
+// What a program answers, in lent bytes: what it writes to standard output, and what it says on standard error.
+use libc::STDERR_FILENO;
+use libc::STDOUT_FILENO;
+use lines::put_text;
+ghost use mathlib.Core.List.{List, [], _∷_, _++_};
+ghost use Prim.Native.Nat.{ℕ};
+ghost use Rattle.lines.specs.Lines.{line-end};
+ghost use Rattle.lines.specs.Prints.{Prints};
+ghost use Rattle.text.specs.Answer.{only-says, Gives};
+
+// How many bytes are written, and how many are said.
+pub struct Answered {
+    pub written: usize,
+    pub said: usize,
+}
+
+// Says a line behind the first `at` bytes, and answers where it ends.
+pub fn say(errors: &mut [u8], at: usize, what: &[u8]) -> usize
+    ensures { λ r. ⌜ Prints (now (what .entry) ++ (line-end ∷ [])) at (now (errors .entry)) (now (errors .exit)) r ⌝ }
+{
+    let end = put_text(errors, at, what);
+    put_text(errors, end, b"\n")
+}
+
+// Says a line and writes nothing.
+pub fn refuse(errors: &mut [u8], what: &[u8]) -> Answered
+    ensures { λ r. ⌜ ((out : List ℕ) → Gives (only-says (now (what .entry))) out out
+        (now (errors .entry)) (now (errors .exit)) r) ⌝ }
+{
+    let said = say(errors, 0, what);
+    Answered { written: 0, said }
+}
+
+// Hands an answer out. Where its bytes can't be written, that is said instead, in the words of `lost`.
+pub fn give(written: &[u8], said: &[u8], lost: &[u8]) {
+    io::write_all(STDERR_FILENO, said);
+    if !io::write_all(STDOUT_FILENO, written) {
+        io::write_all(STDERR_FILENO, lost);
+        io::write_all(STDERR_FILENO, b"\n");
+    }
+}
