@@ -30,7 +30,7 @@ use Rattle.minimal.specs.Minimised.{most-unmarked, unmarked-checks, minimal-che
 use Rattle.program.specs.Printed.{refusal-line}
 use Rattle.program.specs.between.Room.{line-room}
 use Rattle.shorten.specs.Shorten.{report, shortened}
-use Rattle.shorten.specs.between.Reported.{most-text, Reports, Puts-lines}
+use Rattle.shorten.specs.between.Reported.{report-room, Reports, Puts-lines}
 
 -- the minimal reduction has a flag for each step
 minimal-length : (ends : State → Bool) (s : State) (p : List Action) → length (minimal ends s p) ≡ length p
@@ -62,18 +62,18 @@ module _ (w l before : List ℕ) (r : Minimised) (after : List ℕ) (room : leng
         }
 
     pub shortened-report : {out out′ : List ℕ} {end : ℕ} → Puts-lines (3 + length l) (report w l (minimal-of w l)) 0 out out′ end
-        → Prints (shortened w l) 0 out out′ end × (length (shortened w l) ≤ most-text)
+        → Prints (shortened w l) 0 out out′ end × (length (shortened w l) ≤ report-room)
     unfolding shortened
     shortened-report puts =
-        let fits : length (report w l (minimal-of w l)) ≤ most-text = omega (arith, puts .short, readable .few) in
+        let fits : length (report w l (minimal-of w l)) ≤ report-room = omega (arith, puts .short, readable .few) in
         rw (shortened, ← room, passes) (puts .prints, fits)
 
   -- or refused
   pub shortened-refusal : (refusal : Refusal) → r .answer ≡ Refused refusal → {out out′ : List ℕ} {end : ℕ}
       → Prints (refusal-line (told-refusal refusal)) 0 out out′ end → length (refusal-line (told-refusal refusal)) ≤ line-room
-      → Prints (shortened w l) 0 out out′ end × (length (shortened w l) ≤ most-text)
+      → Prints (shortened w l) 0 out out′ end × (length (shortened w l) ≤ report-room)
   unfolding shortened
   shortened-refusal refusal is prints short =
       let fires : answer (minimal-checks most-unmarked w l (length before)) ≡ some (told-refusal refusal) = sym (minimises .answers .refusal) ∙ ap told-answer is in
-      let fits : length (refusal-line (told-refusal refusal)) ≤ most-text = omega (arith, short) in
+      let fits : length (refusal-line (told-refusal refusal)) ≤ report-room = omega (arith, short) in
       rw (shortened, ← room, fires) (prints, fits)

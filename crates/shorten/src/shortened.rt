@@ -17,11 +17,11 @@ ghost use lib.ListN.{length};
 ghost use Rattle.program.specs.Printed.{Has-done};
 ghost use Rattle.program.specs.between.Room.{Text-put};
 ghost use Rattle.shorten.specs.Shorten.{shortened, printed};
-ghost use Rattle.shorten.specs.between.Reported.{most-text};
+ghost use Rattle.shorten.specs.between.Reported.{report-room};
 
 // Shortens a plan. The list left has room for the longest that is read.
 fn shorten(words: &[u32], plan: &[u32], out: &mut [u8]) -> usize
-    ensures { λ r. ⌜ Text-put most-text (now (out .entry)) (now (out .exit)) r
+    ensures { λ r. ⌜ Text-put report-room (now (out .entry)) (now (out .exit)) r
         (shortened (now (words .entry)) (now (plan .entry))) ⌝ }
 {
     let mut left = [0u32; Plan::STEPS];
@@ -35,7 +35,7 @@ fn shorten(words: &[u32], plan: &[u32], out: &mut [u8]) -> usize
 
 // Shortens the plan, unless the input is refused before.
 fn shorten_input(bytes: &[u8], out: &mut [u8]) -> usize
-    ensures { λ r. ⌜ Text-put most-text (now (out .entry)) (now (out .exit)) r (printed (now (bytes .entry))) ⌝ }
+    ensures { λ r. ⌜ Text-put report-room (now (out .entry)) (now (out .exit)) r (printed (now (bytes .entry))) ⌝ }
 {
     let mut words = [0u32; WORDS];
     let opened = open_input(bytes, 0, &mut words);
@@ -51,7 +51,7 @@ fn shorten_input(bytes: &[u8], out: &mut [u8]) -> usize
 
 // Reads the input to the front of `bytes`, and puts what is printed for it to the front of `out`.
 pub(crate) fn answer_input(bytes: &mut [u8], out: &mut [u8]) -> Done
-    requires { ⌜ most-text ≤ length (now out) ⌝ }
+    requires { ⌜ report-room ≤ length (now out) ⌝ }
     ensures { λ r. ⌜ Has-done printed (now (bytes .exit)) r (now (out .entry)) (now (out .exit)) ⌝ }
 {
     let input = read(bytes, 0, ALONE);

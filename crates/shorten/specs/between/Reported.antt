@@ -18,8 +18,8 @@ use Rattle.program.specs.between.Room.{line-room}
 use Rattle.minimal.specs.declared.within.Minimised.{Minimised}
 
 -- the most bytes that are printed: three lines, and one for each step
-abbrev pub most-text : ℕ
-most-text = line-room * (3 + most-steps)
+abbrev pub report-room : ℕ
+report-room = line-room * (3 + most-steps)
 
 -- a mask that is the reduction m of the list l
 pub record Masks-steps (l : List ℕ) (m : Reduction) (mask : Mask) : Type 0 where

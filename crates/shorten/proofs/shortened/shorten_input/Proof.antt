@@ -2,7 +2,7 @@
 use native.Mathlib.Omega.{arith}
 use mathlib.Core.Path.{refl}
 use Rattle.program.specs.between.Room.{Text-put}
-use Rattle.shorten.specs.between.Reported.{most-text}
+use Rattle.shorten.specs.between.Reported.{report-room}
 use Rattle.program.proofs.ReplyLaws.{reply-refused, reply-lodged}
 use borrow.Author.Needs.{needs}
 use Rattle.shorten.proofs.shortened.shorten_input.Statement.{statement}
@@ -44,14 +44,14 @@ same-length c = search needs
 returns : tie.Need-returns
 returns c =
     let put = c .before .before .put-refusal .ensures in
-    reply-refused _ _ _ _ (c .before .before .before .before .before .before .before .before .open-input .ensures .0) _ _ (Text-put most-text _ _ _) _ (c .before .before .before .before .before .opened .given .1) (put .0, omega (arith, put .1))
+    reply-refused _ _ _ _ (c .before .before .before .before .before .before .before .before .open-input .ensures .0) _ _ (Text-put report-room _ _ _) _ (c .before .before .before .before .before .opened .given .1) (put .0, omega (arith, put .1))
 
 same-length-2 : tie.Need-same-length-2
 same-length-2 c = search needs
 
 returns-2 : tie.Need-returns-2
 returns-2 c =
-    reply-lodged _ _ _ _ (c .before .before .before .before .before .before .before .before .before .before .before .before .open-input .ensures .0) _ _ (Text-put most-text _ _ _) _ _ _ _ _ (c .before .before .before .before .before .before .before .before .before .opened2 .given .1) (c .before .before .before .before .before .before .front .ensures) (c .before .before .before .before .plan-part .ensures) refl
+    reply-lodged _ _ _ _ (c .before .before .before .before .before .before .before .before .before .before .before .before .open-input .ensures .0) _ _ (Text-put report-room _ _ _) _ _ _ _ _ (c .before .before .before .before .before .before .before .before .before .opened2 .given .1) (c .before .before .before .before .before .before .front .ensures) (c .before .before .before .before .plan-part .ensures) refl
     (c .before .before .shorten .ensures)
 
 pub shorten-input-spec : {M : Type 1} → statement M
