@@ -1,10 +1,10 @@
 -- Elimination along the flags that the code holds: before each index they are what the definitions have eliminated so far. Assumes nothing.
-use Prim.Native.Nat.{ℕ, _+_, _-_, _≤_, _<_}
+use Prim.Native.Nat.{ℕ, _+_, _≤_, _<_}
 use native.Mathlib.Numerals.{add-one}
 use native.Mathlib.Omega.{arith}
 use mathlib.Core.Path.{_≡_, _∙_}
-use mathlib.Core.Bool.{true, false}
-use mathlib.Core.List.{List, _++_}
+use mathlib.Core.Bool.{true}
+use mathlib.Core.List.{List}
 use lib.ListN.{length, replicate, length-map, length-append, length-replicate}
 use lib.Seq.{take-at}
 use Rattle.sheet.specs.Decode.{initial, goal, action}
@@ -14,20 +14,24 @@ use Rattle.reduction.specs.Reduction.{Reduction, whole, valid, Before}
 use Rattle.reduction.specs.between.Elimination.{eliminated, eliminate}
 use Rattle.reduction.proofs.ReductionLaws.{kept-whole}
 use Rattle.reduction.proofs.BeforeLaws.{before-first}
-use Rattle.service.specs.between.Held.{mask, held}
+use Rattle.service.specs.between.Held.{mask, held, none-struck}
+use Rattle.service.proofs.HeldLaws.{all-held}
 use Rattle.elimination.specs.between.Current.{Current, Eliminates}
 
 -- nothing struck: the flags of a plan that is valid
-module _ (w l : List ℕ) (flags : Reduction) (few : length l ≤ most-steps) (is : flags ≡ replicate (length l) true ++ replicate (most-steps - length l) false) where
+module _ (w l : List ℕ) (flags : Reduction) (few : length l ≤ most-steps) (is : flags ≡ none-struck (length l)) where
+  whole-held : flags ≡ held l (whole l)
+  whole-held = all-held l flags few is
+
   pub all-mask : mask l flags ≡ whole (steps w l)
-  all-mask = rw (is, length-map l (action w)) (take-at (replicate (length l) true) _ (length l) (length-replicate (length l) true))
+  all-mask = rw (whole-held, length-map l (action w)) (take-at (replicate (length l) true) _ (length l) (length-replicate (length l) true))
 
   pub all-current : valid (initial w) (goal w) (steps w l) ≡ true → Current w l flags
   all-current v =
       record {
         few = few;
-        long = rw is (simp (length-append, length-replicate) (omega arith));
-        none-past = is ∙ rw (all-mask, length-map l (action w));
+        long = rw whole-held (simp (length-append, length-replicate) (omega arith));
+        none-past = whole-held ∙ rw (all-mask, length-map l (action w));
         valid-left = rw (all-mask, kept-whole (steps w l)) v;
       }
 
@@ -39,7 +43,7 @@ pub record Eliminating (w l : List ℕ) (i : ℕ) (flags : Reduction) (values : 
   pub before : Before (initial w) (steps w l) (mask l flags) i values
 
 pub eliminating-start : (w l : List ℕ) (flags : Reduction) (values : List ℕ) → length l ≤ most-steps → valid (initial w) (goal w) (steps w l) ≡ true
-    → flags ≡ replicate (length l) true ++ replicate (most-steps - length l) false → values ≡ initial w → Eliminating w l 0 flags values
+    → flags ≡ none-struck (length l) → values ≡ initial w → Eliminating w l 0 flags values
 unfolding eliminated
 eliminating-start w l flags values few v is starts =
     record { within = omega arith; current = all-current w l flags few is v; so-far = all-mask w l flags few is; before = rw starts (before-first (initial w) (steps w l) (mask l flags)) }

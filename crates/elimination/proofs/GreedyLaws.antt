@@ -4,8 +4,8 @@ use native.Mathlib.Omega.{arith}
 use mathlib.Core.Path.{_≡_, refl, sym, _∙_, ap, subst}
 use mathlib.Core.Bool.{true, false, true≢false}
 use mathlib.Core.Option.{none, some}
-use mathlib.Core.List.{List, _++_}
-use lib.ListN.{length, replicate, length-map}
+use mathlib.Core.List.{List}
+use lib.ListN.{length, length-map}
 use Rattle.sheet.specs.Decode.{initial, goal, action}
 use Rattle.plan.specs.Limits.{most-steps}
 use Rattle.plan.specs.Valid.{steps}
@@ -13,7 +13,7 @@ use Rattle.reduction.specs.Reduction.{Reduction, valid}
 use Rattle.reduction.specs.between.Elimination.{best, rounds, greedy}
 use Rattle.reduction.proofs.BeforeLaws.{before-first}
 use Rattle.elimination.specs.declared.greedy.Best.{Best}
-use Rattle.service.specs.between.Held.{mask, held}
+use Rattle.service.specs.between.Held.{mask, held, none-struck}
 use Rattle.elimination.specs.between.Current.{Current}
 use Rattle.elimination.specs.between.Round.{Picks, Looks}
 use Rattle.elimination.proofs.EliminateLaws.{all-current, all-mask}
@@ -38,7 +38,7 @@ pub record Rounding (w l : List ℕ) (n : ℕ) (flags : Reduction) : Type 0 wher
   pub leads : rounds (initial w) (goal w) (steps w l) (length l - n) (mask l flags) ≡ greedy (initial w) (goal w) (steps w l)
 
 pub rounding-start : (w l : List ℕ) (flags : Reduction) → length l ≤ most-steps → valid (initial w) (goal w) (steps w l) ≡ true
-    → flags ≡ replicate (length l) true ++ replicate (most-steps - length l) false → Rounding w l 0 flags
+    → flags ≡ none-struck (length l) → Rounding w l 0 flags
 unfolding greedy
 rounding-start w l flags few v is =
     let all : length l - 0 ≡ length (steps w l) = sym (length-map l (action w) ∙ omega arith) in

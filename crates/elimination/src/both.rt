@@ -7,10 +7,10 @@ use plan::check::check_lodged;
 use refusal::Verdict;
 use service::finish::finish;
 use service::room::check_room;
+use service::room::shorter;
 use tally::Order;
 use tally::Tally;
 ghost use mathlib.Core.Path.{_≡_};
-ghost use Prim.Native.Nat.{min};
 ghost use Rattle.elimination.specs.Eliminations.{Reduces-both, cheaper-part};
 
 // Both tallies, elimination's first, or a refusal, with its tallies zero.
@@ -18,13 +18,6 @@ pub struct Both {
     pub verdict: Verdict,
     pub first: Tally,
     pub second: Tally,
-}
-
-// The lower of two lengths.
-fn shorter(a: usize, b: usize) -> usize
-    ensures { λ r. ⌜ r ≡ min a b ⌝ }
-{
-    if b < a { b } else { a }
 }
 
 // Writes what elimination leaves of a plan to `first`, and what greedy elimination leaves to `second`.

@@ -5,7 +5,7 @@ use Prim.Native.Nat.{ℕ, zero, suc}
 use native.Mathlib.Omega.{arith}
 use mathlib.Core.Path.{_≡_, refl, sym, _∙_, ap, subst}
 use mathlib.Core.Bool.{Bool, true, false, cond, true≢false, false≢true}
-use mathlib.Core.Option.{Option, none, some, Option·map}
+use mathlib.Core.Option.{Option, none, some}
 use mathlib.Core.List.{List, [], _∷_}
 use lib.ListN.{length}
 use Rattle.sas.specs.Task.{State, Action}
@@ -18,7 +18,7 @@ use Rattle.reduction.proofs.ValidLaws.{runs-valid, valid-end, valid-fir
 use Rattle.reduction.proofs.ReductionLaws.{whole-valid, kept-length, compose, kept-compose, compose-valid, left-cost}
 use Rattle.reduction.proofs.LowerLaws.{lower-through}
 use Rattle.reduction.specs.Minimal.{First-difference, Wins, Minimal}
-use Rattle.reduction.specs.between.Found.{found, minimal}
+use Rattle.reduction.specs.between.Found.{begun-with, found, minimal}
 use Rattle.reduction.proofs.WinsLaws.{not-lower-through, not-lower-wins, lower-wins, wins-not-lower, wins-behind, wins-once, full-whole}
 
 -- whatever makes reductions valid, if they are all as long as the list, one at most is minimal
@@ -104,7 +104,7 @@ module _ (ends : State → Bool) where
         strikes (suc i) d = absurd (false≢true (d .before 0 (omega arith)))
 
     better-choice : (x y : Option Reduction) → Begun s a p false x → Begun s a p true y
-        → Choice s (a ∷ p) (better (a ∷ p) (Option·map (λ m. false ∷ m) x) (Option·map (λ m. true ∷ m) y))
+        → Choice s (a ∷ p) (better (a ∷ p) (begun-with false x) (begun-with true y))
     unfolding better
     better-choice none none c d = by-beginning (λ n. ⊥) c d
     better-choice (some m) none c d = record { valid = c .0; wins = by-beginning (λ n. Wins (a ∷ p) (false ∷ m) n) (c .1) (λ n v. absurd (d n v)) }
@@ -148,11 +148,11 @@ module _ (ends : State → Bool) where
 
   module _ (s : State) (a : Action) (p : List Action) where
     pub found-done : applicable s a ≡ true
-        → found ends s (a ∷ p) ≡ better (a ∷ p) (Option·map (λ m. false ∷ m) (found ends s p)) (Option·map (λ m. true ∷ m) (found ends (apply s a) p))
+        → found ends s (a ∷ p) ≡ better (a ∷ p) (begun-with false (found ends s p)) (begun-with true (found ends (apply s a) p))
     unfolding found
     found-done e = rw (e, found)
 
-    pub found-stuck : applicable s a ≡ false → found ends s (a ∷ p) ≡ better (a ∷ p) (Option·map (λ m. false ∷ m) (found ends s p)) none
+    pub found-stuck : applicable s a ≡ false → found ends s (a ∷ p) ≡ better (a ∷ p) (begun-with false (found ends s p)) none
     unfolding found
     found-stuck e = rw (e, found)
 

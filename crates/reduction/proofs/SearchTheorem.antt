@@ -5,7 +5,7 @@ use native.Mathlib.Numerals.{add-one}
 use native.Mathlib.Omega.{arith}
 use mathlib.Core.Path.{_≡_, refl, sym, _∙_, ap}
 use mathlib.Core.Bool.{Bool, true, false, cond, true≢false, false≢true}
-use mathlib.Core.Option.{Option, none, some, Option·map, Option·getD}
+use mathlib.Core.Option.{Option, none, some, Option·getD}
 use mathlib.Core.List.{List, [], _∷_, _++_, append-nil}
 use lib.ListN.{length, getD, set, take, drop, length-set, drop-of-length-le}
 use lib.Seq.{length-take-le, take-all, take-suc, take-suc-set, drop-cons, drop-drop, drop-set-lt, split-at, take-at, getD-at}
@@ -15,7 +15,7 @@ use Rattle.reduction.specs.Reduction.{Reduction, kept, whole, lower, val
 use Rattle.reduction.specs.Landmark.{step}
 use Rattle.reduction.specs.between.Elimination.{better}
 use Rattle.reduction.specs.Minimal.{Minimal}
-use Rattle.reduction.specs.between.Found.{found, minimal}
+use Rattle.reduction.specs.between.Found.{begun-with, found, minimal}
 use Rattle.reduction.specs.between.Search.{Visit, Tests, struck, done, handed, turn, first-visit, search}
 use Rattle.reduction.specs.between.Search.Turn.{strike, keep}
 use Rattle.reduction.specs.between.Sound.{Visited, Hopeless, Sound}
@@ -40,7 +40,7 @@ decided v = take (v .index) (v .so-far)
 
 -- what is found behind a visit's step from the state t, with the choice made there
 abbrev chosen : (State → Bool) → List Action → Visit → Bool → State → Option Reduction
-chosen ends p v c t = Option·map (λ n. c ∷ n) (found ends t (later p v))
+chosen ends p v c t = begun-with c (found ends t (later p v))
 
 -- both turns at a visit update its best with what is found of the rest, behind what was decided
 abbrev Finds : Tests → List Action → Visit → Type 0
@@ -90,7 +90,7 @@ module _ (T : Tests) (s : State) (p : List Action) (v : Visit) (inside : v .inde
       → Hopeless (T .ends) s p v c → v .best ≡ update p (decided v) (v .best) (chosen (T .ends) p v c t)
   hopeless-leaves c t valid hopeless = by-case (found (T .ends) t (later p v)) refl
     where
-      by-case : (x : Option Reduction) → found (T .ends) t (later p v) ≡ x → v .best ≡ update p (decided v) (v .best) (Option·map (λ n. c ∷ n) x)
+      by-case : (x : Option Reduction) → found (T .ends) t (later p v) ≡ x → v .best ≡ update p (decided v) (v .best) (begun-with c x)
       by-case none e = refl
       by-case (some n) e =
           let rest : Valid-for (T .ends) (v .state) (drop (v .index) p) (c ∷ n) = rw steps-next (valid n (found-minimal (T .ends) t (later p v) e .valid)) in

@@ -4,7 +4,7 @@ use native.Mathlib.Omega.{arith}
 use mathlib.Core.Path.{_≡_, refl, sym, _∙_}
 use mathlib.Core.Logic.{inl, inr}
 use mathlib.Core.Bool.{Bool, true, false, cond}
-use mathlib.Core.Option.{Option, none, some, Option·map}
+use mathlib.Core.Option.{Option, none, some}
 use mathlib.Core.List.{List, [], _∷_, _++_}
 use lib.ListN.{length, take, drop}
 use lib.Seq.{append-snoc}
@@ -12,6 +12,7 @@ use Rattle.sas.specs.Task.{Action}
 use Rattle.sas.specs.Plan.{cost}
 use Rattle.reduction.specs.Reduction.{Reduction, kept, lower}
 use Rattle.reduction.specs.between.Elimination.{better}
+use Rattle.reduction.specs.between.Found.{begun-with}
 use Rattle.reduction.proofs.ReductionLaws.{kept-behind}
 use Rattle.reduction.proofs.LowerLaws.{Lower, lower-true, true-lower, lower-through, lower-once}
 use Rattle.reduction.proofs.WinsLaws.{not-lower-through}
@@ -72,7 +73,7 @@ update p d b (some n) = lower-of p b (d ++ n)
 
 -- a decision more, or one in front of what is found
 pub update-decided : (p : List Action) (d : Reduction) (c : Bool) (b : Reduction) (x : Option Reduction)
-    → update p (d ++ (c ∷ [])) b x ≡ update p d b (Option·map (λ n. c ∷ n) x)
+    → update p (d ++ (c ∷ [])) b x ≡ update p d b (begun-with c x)
 update-decided p d c b none = refl
 update-decided p d c b (some n) = rw (append-snoc d c n)
 

@@ -1,6 +1,6 @@
 -- The search from the starting values: what the code tests is sound, by the laws of its cuts, and it begins with the flagged steps kept and the lodged plan as
 -- the best. So it finds the minimal reduction. What the code calls is a variable here, with what is known of it as a premise. Assumes nothing.
-use Prim.Native.Nat.{ℕ, _<_}
+use Prim.Native.Nat.{ℕ, _≤_, _<_}
 use native.Mathlib.Omega.{arith}
 use mathlib.Core.Path.{_≡_, refl, sym, _∙_}
 use mathlib.Core.Bool.{true}
@@ -20,23 +20,23 @@ use Rattle.plan.specs.Valid.{steps}
 use Rattle.cuts.specs.between.Bits.{Told-wanted}
 use Rattle.cuts.proofs.BitTheorem.{wanted-bars}
 use Rattle.service.specs.declared.finish.Kept.{Kept}
-use Rattle.service.specs.between.Held.{mask, held, Leaves}
-use Rattle.service.proofs.HeldLaws.{leaves}
+use Rattle.service.specs.between.Held.{mask, none-struck, Leaves}
+use Rattle.service.proofs.HeldLaws.{all-held, leaves}
 use Rattle.search.specs.between.Told.{Tells, code-tests, Ready, Finds}
 use Rattle.search.proofs.TurnsLaws.{Both-told}
 
 -- the flags of the lodged plan
-pub lodged-leaves : (l : List ℕ) (flags : Reduction) → flags ≡ held l (whole l) → Leaves l (whole l) flags
-lodged-leaves l flags is = leaves [] l (whole l) (whole l) flags (length-replicate (length l) true ∙ sym (length-map l (action []))) refl is
+pub lodged-leaves : (l : List ℕ) (flags : Reduction) → length l ≤ most-steps → flags ≡ none-struck (length l) → Leaves l (whole l) flags
+lodged-leaves l flags few is = leaves [] l (whole l) (whole l) flags (length-replicate (length l) true ∙ sym (length-map l (action []))) refl (all-held l flags few is)
 
 module _ (w l : List ℕ) (k : Kept) where
   -- a list over the limit can't be read
   pub too-long : most-steps < length l → Readable w l → Tells w l (whole l) k
   too-long long readable = absurd (omega (arith, readable .few))
 
-  pub lodged-told : (flags : Reduction) → flags ≡ held l (whole l) → (Readable w l → length (mask l flags) ≡ length l → Tells w l (mask l flags) k) → Readable w l
+  pub lodged-told : (flags : Reduction) → flags ≡ none-struck (length l) → (Readable w l → length (mask l flags) ≡ length l → Tells w l (mask l flags) k) → Readable w l
       → Tells w l (whole l) k
-  lodged-told flags is told readable = let left : Leaves l (whole l) flags = lodged-leaves l flags is in rw (left .same) at (told readable (left .fits))
+  lodged-told flags is told readable = let left : Leaves l (whole l) flags = lodged-leaves l flags (readable .few) is in rw (left .same) at (told readable (left .fits))
 
 -- what the code tests is sound
 pub code-sound : (w l : List ℕ) (flags : Reduction) (bits : List ℕ) → Readable w l → length flags ≡ length l → Told-wanted w l flags bits

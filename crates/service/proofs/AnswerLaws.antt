@@ -6,31 +6,30 @@ use mathlib.Core.Path.{_≡_, sym, _∙_, ap}
 use mathlib.Core.Option.{none}
 use mathlib.Core.List.{List}
 use lib.ListN.{length, replicate}
-use lib.Seq.{sets}
 use Rattle.refusal.specs.declared.Refusal.{Refusal}
 use Rattle.refusal.specs.Check.{Check, answer}
 use Rattle.tally.specs.declared.Tally.{Tally}
+use Rattle.tally.proofs.TallyLaws.{same-tally}
 use Rattle.plan.specs.declared.check.Answer.{Answer}
 use Rattle.plan.specs.declared.check.Answer.the-variants.{Valid, Refused}
 use Rattle.plan.specs.Checked.{told-answer}
 use Rattle.reduction.specs.Reduction.{Reduction}
-use Rattle.mask.specs.Mask.{mask-length, mask-bits, mask-words, ones-of}
-use Rattle.mask.specs.between.Places.{kept-by-words}
+use Rattle.mask.specs.Mask.{mask-length, mask-bits}
 use Rattle.mask.proofs.MaskTheorem.{ones-are-kept, mask-keeps}
-use Rattle.service.specs.between.Tallied.{tallied}
 use Rattle.service.specs.Reduced.{Answers}
-use Rattle.service.specs.between.Kept.{Keeps}
+use Rattle.service.specs.between.Kept.{Keeps, Finishes}
 use Rattle.service.proofs.TalliedLaws.{plainly}
 use Rattle.plan.specs.Readable.{Readable}
 
-pub keeps : (w l : List ℕ) (m : Reduction) (before after words : List ℕ) (tally : Tally) (ones : ℕ) → Readable w l → length m ≡ length l → words ≡ mask-words m
-    → tally ≡ tallied w l m → ones ≡ ones-of words → after ≡ sets before 0 (kept-by-words words l) → Keeps w l m before (record { cost = tally .cost; steps = ones }) words after
-keeps w l m before after words tally ones readable fits told-by counts counted writes =
+-- what is computed is by the rules where the list can be read and the flags are a reduction of it
+pub keeps : (w l : List ℕ) (m : Reduction) (before after words : List ℕ) (tally : Tally) → Readable w l → length m ≡ length l
+    → Finishes w l m before tally words after → Keeps w l m before tally words after
+keeps w l m before after words tally readable fits x =
     let few : length m ≤ mask-bits = omega (arith, readable .few) in
     record {
-      counted = rw (counts ∙ plainly w l m readable fits, counted, told-by, ones-are-kept m few);
-      told-by = told-by;
-      written = writes ∙ rw (told-by, mask-keeps m l few fits);
+      counted = same-tally _ _ (x .costs ∙ ap (λ t. t .cost) (plainly w l m readable fits)) (x .steps ∙ rw (x .told-by) (ones-are-kept m few));
+      told-by = x .told-by;
+      written = x .written ∙ rw (x .told-by, mask-keeps m l few fits);
     }
 
 module _ (checks : List Check) (w l : List ℕ) (m : Reduction) (before : List ℕ) (given : Answer) (checked : told-answer given ≡ answer checks) where

@@ -1,5 +1,5 @@
 -- The flags of a plan of which nothing is struck, raised one by one, and flags that hold a reduction. Assumes nothing.
-use Prim.Native.Nat.{ℕ, suc, _+_, _-_, _<_}
+use Prim.Native.Nat.{ℕ, suc, _+_, _-_, _≤_, _<_, min}
 use native.Mathlib.Omega.{arith}
 use mathlib.Core.Path.{_≡_, sym, _∙_, ap}
 use mathlib.Core.Bool.{Bool, true, false}
@@ -8,8 +8,9 @@ use lib.ListN.{length, set, replicate, length-replicate, length-append, length-m
 use lib.Seq.{set-at, take-at}
 use Rattle.sheet.specs.Decode.{action}
 use Rattle.plan.specs.Valid.{steps}
-use Rattle.reduction.specs.Reduction.{Reduction}
-use Rattle.service.specs.between.Held.{mask, held, Leaves}
+use Rattle.plan.specs.Limits.{most-steps}
+use Rattle.reduction.specs.Reduction.{Reduction, whole}
+use Rattle.service.specs.between.Held.{mask, held, none-struck, Leaves}
 
 -- of `most` flags the first i are up
 abbrev pub raised : ℕ → ℕ → List Bool
@@ -20,6 +21,14 @@ raised-more most i h =
     let fewer : most - i ≡ suc (most - (i + 1)) = omega arith in
     rw (fewer, set-at (replicate i true) false (replicate (most - (i + 1)) false) true i (length-replicate i true), ← replicate-append-replicate i 1 true)
     (sym (append-assoc (replicate i true) (true ∷ []) (replicate (most - (i + 1)) false)))
+
+-- all flags that there are for n steps
+pub all-raised : (n : ℕ) → raised most-steps (min n most-steps) ≡ none-struck n
+all-raised n = let left : most-steps - min n most-steps ≡ most-steps - n = omega arith in rw left
+
+-- of a list within the limit they hold the whole of it
+pub all-held : (l : List ℕ) (flags : Reduction) → length l ≤ most-steps → flags ≡ none-struck (length l) → flags ≡ held l (whole l)
+all-held l flags few is = let all : min (length l) most-steps ≡ length l = omega arith in is ∙ rw all
 
 -- the flags that hold a reduction of the steps
 pub leaves : (w l : List ℕ) (m left flags : Reduction) → length left ≡ length (steps w l) → left ≡ m → flags ≡ held l left → Leaves l m flags

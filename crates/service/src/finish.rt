@@ -4,10 +4,7 @@ use mask::Mask;
 use mask::mask_of;
 use mask::write_kept;
 use tally::Tally;
-ghost use mathlib.Core.Path.{_≡_};
-ghost use lib.ListN.{length};
-ghost use Rattle.service.specs.between.Kept.{Keeps};
-ghost use Rattle.plan.specs.Readable.{Readable};
+ghost use Rattle.service.specs.between.Kept.{Finishes};
 
 // The tally and the mask of a reduction.
 pub struct Kept {
@@ -17,9 +14,7 @@ pub struct Kept {
 
 // Writes the kept steps of a plan to the front of `out`. Their number is that of the ones in the mask.
 pub fn finish(words: &[u32], plan: &[u32], flags: &[bool], out: &mut [u32]) -> Kept
-    requires { ⌜ Readable (now words) (now plan) ⌝ }
-    requires { ⌜ length (now flags) ≡ length (now plan) ⌝ }
-    ensures { λ r. ⌜ Keeps (now (words .entry)) (now (plan .entry)) (now (flags .entry))
+    ensures { λ r. ⌜ Finishes (now (words .entry)) (now (plan .entry)) (now (flags .entry))
         (now (out .entry)) (r .tally) (r .mask .words) (now (out .exit)) ⌝ }
 {
     let mask = mask_of(flags);

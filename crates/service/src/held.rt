@@ -1,20 +1,17 @@
 // A reduction as flags: one for each step that a plan may have, none up past its last.
+use crate::room::shorter;
 use plan::limits::Plan;
 ghost use mathlib.Core.Path.{_≡_};
-ghost use mathlib.Core.Bool.{true, false};
-ghost use mathlib.Core.List.{_++_};
-ghost use Prim.Native.Nat.{_-_, _≤_};
-ghost use lib.ListN.{replicate};
-ghost use Rattle.plan.specs.Limits.{most-steps};
+ghost use Rattle.service.specs.between.Held.{none-struck};
 
-// The flags of a plan of n steps of which none is struck.
+// The flags of a plan of n steps of which none is struck; every flag is up where a plan may not have as many.
 pub fn all_kept(n: usize) -> [bool; Plan::STEPS]
-    requires { ⌜ n ≤ most-steps ⌝ }
-    ensures { λ r. ⌜ r ≡ replicate n true ++ replicate (most-steps - n) false ⌝ }
+    ensures { λ r. ⌜ r ≡ none-struck n ⌝ }
 {
+    let up = shorter(n, Plan::STEPS);
     let mut flags = [false; Plan::STEPS];
     let mut i = 0;
-    while i < n {
+    while i < up {
         flags[i] = true;
         i += 1;
     }

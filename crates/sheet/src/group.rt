@@ -25,16 +25,18 @@ impl Group {
         word(w, self.at)
     }
 
-    // The group without its first fact. How long a fact is, is a matter of the words: one word each in the one edition
-    // that is read.
+    // The group without its first fact, and an empty group as it is. How long a fact is, is a matter of the words: one
+    // word each in the one edition that is read.
     pub fn rest(self, w: &[u32]) -> Group
-        requires { ⌜ self .at < self .end ⌝ }
         ensures { λ r. ⌜ r ≡ rest-of (now (w .entry)) self ⌝ }
     {
-        Group {
-            at: self.at + 1,
-            end: self.end,
+        if self.at < self.end {
+            return Group {
+                at: self.at + 1,
+                end: self.end,
+            };
         }
+        self
     }
 }
 

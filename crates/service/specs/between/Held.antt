@@ -1,8 +1,8 @@
 -- A reduction as the code holds it: flags for the most steps that a plan may have, none up past the plan's last.
 -- Assumes nothing.
-use Prim.Native.Nat.{ℕ, _-_, _≤_}
+use Prim.Native.Nat.{ℕ, _-_, _≤_, min}
 use mathlib.Core.Path.{_≡_}
-use mathlib.Core.Bool.{false}
+use mathlib.Core.Bool.{true, false}
 use mathlib.Core.List.{List, _++_}
 use lib.ListN.{length, take, replicate}
 use Rattle.plan.specs.Limits.{most-steps}
@@ -15,6 +15,10 @@ mask l flags = take (length l) flags
 -- the flags that a reduction of the plan l is
 abbrev pub held : List ℕ → Reduction → Reduction
 held l m = m ++ replicate (most-steps - length l) false
+
+-- the flags of a plan of n steps of which none is struck: n of them are up, or all where there are fewer
+abbrev pub none-struck : ℕ → Reduction
+none-struck n = replicate (min n most-steps) true ++ replicate (most-steps - n) false
 
 -- flags that are the reduction m of the plan l
 pub record Leaves (l : List ℕ) (m flags : Reduction) : Type 0 where

@@ -1,6 +1,8 @@
 -- The groups of facts of a sheet as the code goes through them, fact by fact. Assumes nothing.
 use Prim.Native.Nat.{ℕ, _+_}
+use mathlib.Core.Bool.{cond}
 use mathlib.Core.List.{List}
+use lib.Dec.{ltb}
 use Rattle.sas.specs.Task.{Assignment}
 use Rattle.sheet.specs.declared.group.Group.{Group}
 use Rattle.sheet.specs.Layout.{word, goal-start, goal-end, precondition-start, effect-start, effect-end}
@@ -25,6 +27,6 @@ facts-in w g = facts w (g .at) (g .end)
 abbrev pub first-fact : List ℕ → Group → ℕ
 first-fact w g = word w (g .at)
 
--- the group without its first fact, which is one word
-abbrev pub rest-of : List ℕ → Group → Group
-rest-of w g = record { at = g .at + 1; end = g .end }
+-- the group without its first fact, which is one word; an empty group is all that is left of it
+unfoldable pub rest-of : List ℕ → Group → Group
+rest-of w g = cond (ltb (g .at) (g .end)) (record { at = g .at + 1; end = g .end }) g

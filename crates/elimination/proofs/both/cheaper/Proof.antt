@@ -2,6 +2,7 @@
 use Rattle.elimination.proofs.ServiceLaws.{both-refused, both-kept}
 use Rattle.elimination.specs.declared.single.Elimination.the-variants.{Plain, Greedy}
 use Rattle.elimination.proofs.LeavesLaws.{left-leaves}
+use Rattle.service.proofs.AnswerLaws.{keeps}
 use Rattle.service.proofs.LodgedLaws.{room-checked, nothing-refused, lodged-valid}
 use Rattle.plan.proofs.PlanLaws.{passed-readable}
 use mathlib.Core.Path.{sym}
@@ -49,9 +50,7 @@ slice-aggregate-finish c =
     sym (left-leaves _ _ _ passed Plain _ (c .before .flags-left .ensures) .fits)
 
 finish-requires : tie.Need-finish-requires
-finish-requires c κs =
-    let passed = nothing-refused _ _ _ _ _ _ (c .before .before .before .before .before .before .check-room .ensures) (c .before .before .before .before .before .check-lodged .ensures) _ (c .before .before .before .enum-told .given .1) in
-    (passed-readable _ _ _ passed, left-leaves _ _ _ passed Plain _ (c .before .before .flags-left .ensures) .fits)
+finish-requires c κs = search needs
 
 flags-left-requires-2 : tie.Need-flags-left-requires-2
 flags-left-requires-2 c κs =
@@ -69,9 +68,7 @@ slice-aggregate-finish-2 c =
     sym (left-leaves _ _ _ passed Greedy _ (c .before .flags-left2 .ensures) .fits)
 
 finish-requires-2 : tie.Need-finish-requires-2
-finish-requires-2 c κs =
-    let passed = nothing-refused _ _ _ _ _ _ (c .before .before .before .before .before .before .before .before .before .before .before .before .check-room .ensures) (c .before .before .before .before .before .before .before .before .before .before .before .check-lodged .ensures) _ (c .before .before .before .before .before .before .before .before .before .enum-told .given .1) in
-    (passed-readable _ _ _ passed, left-leaves _ _ _ passed Greedy _ (c .before .before .flags-left2 .ensures) .fits)
+finish-requires-2 c κs = search needs
 
 same-length : tie.Need-same-length
 same-length c = search needs
@@ -85,8 +82,11 @@ returns-2 c =
     let checked = c .before .before .before .before .before .before .before .before .before .before .before .before .before .before .before .before .check-lodged .ensures in
     let valid = c .before .before .before .before .before .before .before .before .before .before .before .before .before .before .enum-told .given .1 in
     let passed = nothing-refused _ _ _ _ _ _ asked checked _ valid in
-    both-kept _ _ _ _ _ _ (c .before .before .before .before .before .before .before .before .before .before .before .before .before .before .before .before .before .before .shorter .ensures) (room-checked _ _ _ _ _ _ asked checked) _ _ _ _ _ _ _ _ _ valid (left-leaves _ _ _ passed Plain _ (c .before .before .before .before .before .before .before .before .before .before .before .before .before .flags-left .ensures) .same)
-    (left-leaves _ _ _ passed Greedy _ (c .before .before .before .before .before .before .before .flags-left2 .ensures) .same) (c .before .before .before .before .before .before .before .before .before .before .finish .ensures) (c .before .before .before .before .finish2 .ensures)
+    let readable = passed-readable _ _ _ passed in
+    let left = left-leaves _ _ _ passed Plain _ (c .before .before .before .before .before .before .before .before .before .before .before .before .before .flags-left .ensures) in
+    let left′ = left-leaves _ _ _ passed Greedy _ (c .before .before .before .before .before .before .before .flags-left2 .ensures) in
+    both-kept _ _ _ _ _ _ (c .before .before .before .before .before .before .before .before .before .before .before .before .before .before .before .before .before .before .shorter .ensures) (room-checked _ _ _ _ _ _ asked checked) _ _ _ _ _ _ _ _ _ valid (left .same) (left′ .same)
+    (keeps _ _ _ _ _ _ _ readable (left .fits) (c .before .before .before .before .before .before .before .before .before .before .finish .ensures)) (keeps _ _ _ _ _ _ _ readable (left′ .fits) (c .before .before .before .before .finish2 .ensures))
 
 pub cheaper-spec : {M : Type 1} → statement M
 cheaper-spec =

@@ -18,7 +18,7 @@ abbrev μ-loop : tie.MeasureT-loop
 μ-loop words plan flags₀ values₀ i₀ flags values i = length plan - i
 
 all-kept-requires : tie.Need-all-kept-requires Inv-loop μ-loop
-all-kept-requires c κs = omega (arith, c .before .before .pre .0 .few)
+all-kept-requires c κs = search needs
 
 initial-requires : tie.Need-initial-requires Inv-loop μ-loop
 initial-requires c κs = search needs

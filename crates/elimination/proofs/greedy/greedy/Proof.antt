@@ -1,6 +1,5 @@
 -- `greedy` meets its contract. The loop's invariant: the rounds that are left lead to what all rounds lead to. Assumes nothing.
 use borrow.Author.Needs.{needs}
-use native.Mathlib.Omega.{arith}
 use Prim.Native.Nat.{_-_}
 use lib.ListN.{length}
 use Rattle.elimination.proofs.GreedyLaws.{Rounding, rounding-start, rounding-more, rounding-ends, rounding-over}
@@ -14,7 +13,7 @@ abbrev μ-loop : tie.MeasureT-loop
 μ-loop words plan flags₀ rounds₀ flags rounds = length plan - rounds
 
 all-kept-requires : tie.Need-all-kept-requires Inv-loop μ-loop
-all-kept-requires c κs = omega (arith, c .before .before .pre .0 .few)
+all-kept-requires c κs = search needs
 
 loop-holds : tie.Need-loop-holds Inv-loop μ-loop
 loop-holds c = let entry = c .before .before .before in rounding-start _ _ _ (entry .pre .0 .few) (entry .pre .1) (c .all-kept .ensures)

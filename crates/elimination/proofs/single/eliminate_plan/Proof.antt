@@ -1,6 +1,6 @@
 -- `eliminate_plan` meets its contract: a list that passes is valid where the elimination begins, and it leaves what the definition says. Assumes nothing.
 use Rattle.elimination.proofs.LeavesLaws.{left-leaves}
-use Rattle.service.proofs.AnswerLaws.{answers-refused, answers-kept}
+use Rattle.service.proofs.AnswerLaws.{keeps, answers-refused, answers-kept}
 use Rattle.service.proofs.LodgedLaws.{room-checked, nothing-refused, lodged-valid}
 use Rattle.plan.proofs.PlanLaws.{passed-readable}
 use mathlib.Core.Path.{sym}
@@ -44,9 +44,7 @@ slice-aggregate-finish c =
     sym (left-leaves _ _ _ passed (c .before .before .before .before .before .before .before .before .before .args .by) _ (c .before .flags-left .ensures) .fits)
 
 finish-requires : tie.Need-finish-requires
-finish-requires c κs =
-    let passed = nothing-refused _ _ _ _ _ _ (c .before .before .before .before .before .before .check-room .ensures) (c .before .before .before .before .before .check-lodged .ensures) _ (c .before .before .before .enum-told .given .1) in
-    (passed-readable _ _ _ passed, left-leaves _ _ _ passed (c .before .before .before .before .before .before .before .before .before .before .args .by) _ (c .before .before .flags-left .ensures) .fits)
+finish-requires c κs = search needs
 
 told-requires : tie.Need-told-requires
 told-requires c κs = search needs
@@ -60,8 +58,9 @@ returns-2 c =
     let checked = c .before .before .before .before .before .before .before .before .before .check-lodged .ensures in
     let valid = c .before .before .before .before .before .before .before .enum-told .given .1 in
     let passed = nothing-refused _ _ _ _ _ _ asked checked _ valid in
+    let left = left-leaves _ _ _ passed (c .before .before .before .before .before .before .before .before .before .before .before .before .before .before .args .by) _ (c .before .before .before .before .before .before .flags-left .ensures) in
     rw (c .told .ensures .0, c .told .ensures .1)
-    (answers-kept _ _ _ _ _ _ (room-checked _ _ _ _ _ _ asked checked) _ _ _ _ _ valid (left-leaves _ _ _ passed (c .before .before .before .before .before .before .before .before .before .before .before .before .before .before .args .by) _ (c .before .before .before .before .before .before .flags-left .ensures) .same) (c .before .before .before .finish .ensures))
+    (answers-kept _ _ _ _ _ _ (room-checked _ _ _ _ _ _ asked checked) _ _ _ _ _ valid (left .same) (keeps _ _ _ _ _ _ _ (passed-readable _ _ _ passed) (left .fits) (c .before .before .before .finish .ensures)))
 
 pub eliminate-plan-spec : {M : Type 1} → statement M
 eliminate-plan-spec =

@@ -21,7 +21,7 @@ array-share-prefix-all : tie.Need-array-share-prefix-all
 array-share-prefix-all c = search needs
 
 slice-aggregate-kept-of-2 : tie.Need-slice-aggregate-kept-of-2
-slice-aggregate-kept-of-2 c = sym (lodged-leaves (c .before .before .before .before .before .args .plan .now) _ (c .before .all-kept .ensures) .fits)
+slice-aggregate-kept-of-2 c = sym (lodged-leaves (c .before .before .before .before .before .args .plan .now) _ (c .before .before .if1 .left) (c .before .all-kept .ensures) .fits)
 
 kept-of-requires-2 : tie.Need-kept-of-requires-2
 kept-of-requires-2 c κs = search needs

@@ -1,5 +1,5 @@
--- `finish` meets its contract: what it calls is what the law of a kept reduction asks. Assumes nothing.
-use Rattle.service.proofs.AnswerLaws.{keeps}
+-- `finish` meets its contract, by what its calls do. Assumes nothing.
+use mathlib.Core.Path.{ap}
 use borrow.Author.Needs.{needs}
 use Rattle.service.proofs.finish.finish.Statement.{statement}
 use Rattle.service.proofs.finish.finish.Tie as tie
@@ -20,7 +20,13 @@ same-length : tie.Need-same-length
 same-length c = search needs
 
 returns : tie.Need-returns
-returns c = let start = c .before .before .before .before .before .before .before .before .before .before .before in keeps _ _ _ _ _ _ _ _ (start .pre .0) (start .pre .1) (c .before .before .before .before .before .before .mask-of .ensures) (c .before .before .before .before .before .tally-of .ensures) (c .before .before .before .before .count .ensures) (c .before .before .write-kept .ensures .0)
+returns c =
+    record {
+      costs = ap (λ t. t .cost) (c .before .before .before .before .before .tally-of .ensures);
+      steps = c .before .before .before .before .count .ensures;
+      told-by = c .before .before .before .before .before .before .mask-of .ensures;
+      written = c .before .before .write-kept .ensures .0;
+    }
 
 pub finish-spec : {M : Type 1} → statement M
 finish-spec =

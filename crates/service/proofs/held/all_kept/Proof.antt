@@ -1,18 +1,21 @@
 -- `all_kept` meets its contract. The loop's invariant: the first i flags are up. Assumes nothing.
-use Prim.Native.Nat.{_<_, _-_, _≤_}
+use Prim.Native.Nat.{_<_, _-_, _≤_, min}
 use borrow.Author.Needs.{needs}
 use native.Mathlib.Omega.{arith}
 use mathlib.Core.Path.{_≡_, refl, _∙_}
 use Rattle.plan.specs.Limits.{most-steps}
-use Rattle.service.proofs.HeldLaws.{raised, raised-more}
+use Rattle.service.proofs.HeldLaws.{raised, raised-more, all-raised}
 use Rattle.service.proofs.held.all_kept.Statement.{statement}
 use Rattle.service.proofs.held.all_kept.Tie as tie
 
 abbrev Inv-loop : tie.InvT-loop
-Inv-loop n flags₀ i₀ flags i = (i ≤ n) × (flags ≡ raised most-steps i)
+Inv-loop n up flags₀ i₀ flags i = (i ≤ up) × (flags ≡ raised most-steps i)
 
 abbrev μ-loop : tie.MeasureT-loop
-μ-loop n flags₀ i₀ flags i = n - i
+μ-loop n up flags₀ i₀ flags i = up - i
+
+shorter-requires : tie.Need-shorter-requires Inv-loop μ-loop
+shorter-requires c κs = search needs
 
 loop-holds : tie.Need-loop-holds Inv-loop μ-loop
 loop-holds c = (search needs, refl)
@@ -27,12 +30,15 @@ loop-less : tie.Need-loop-less Inv-loop μ-loop
 loop-less c = search needs
 
 loop-again : tie.Need-loop-again Inv-loop μ-loop
-loop-again c = let room : c .before .loop .i < most-steps = omega (arith, c .before .before .pre) in (search needs, rw (c .before .loop .inv .1) (raised-more 255 (c .before .loop .i) room))
+loop-again c = let room : c .before .loop .i < most-steps = omega (arith, c .before .before .shorter .ensures) in (search needs, rw (c .before .loop .inv .1) (raised-more 255 (c .before .loop .i) room))
 
 returns : tie.Need-returns Inv-loop μ-loop
-returns c = let all : c .before .loop .i ≡ c .before .before .args .n = omega arith in c .before .loop .inv .1 ∙ rw all
+returns c =
+    let start = c .before .before in
+    let all : c .before .loop .i ≡ min (start .before .args .n) most-steps = omega (arith, start .shorter .ensures) in
+    c .before .loop .inv .1 ∙ rw all (all-raised (start .before .args .n))
 
 pub all-kept-spec : {M : Type 1} → statement M
 all-kept-spec =
     tie.close
-    (tie.spec Inv-loop μ-loop loop-holds array-write-flags add-i loop-less loop-again returns)
+    (tie.spec Inv-loop μ-loop shorter-requires loop-holds array-write-flags add-i loop-less loop-again returns)

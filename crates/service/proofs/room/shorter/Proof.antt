@@ -1,7 +1,7 @@
 -- `shorter` meets its contract, by its test. Assumes nothing.
 use native.Mathlib.Omega.{arith}
-use Rattle.elimination.proofs.both.shorter.Statement.{statement}
-use Rattle.elimination.proofs.both.shorter.Tie as tie
+use Rattle.service.proofs.room.shorter.Statement.{statement}
+use Rattle.service.proofs.room.shorter.Tie as tie
 
 returns : tie.Need-returns
 returns c = omega (arith, c .if1 .taken)
