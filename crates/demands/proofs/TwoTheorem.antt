@@ -12,7 +12,8 @@ use Rattle.refusal.specs.declared.Verdict.{Verdict}
 use Rattle.refusal.specs.declared.Verdict.the-variants.{Passed, Refused}
 use Rattle.refusal.specs.Refusal.{Told, told}
 use Rattle.refusal.specs.Check.{Check, answer, unless-refused}
-use Rattle.reduction.specs.Reduction.{Reduction, kept, count, whole, lower}
+use Rattle.reduction.specs.Reduction.{Reduction, kept, count, whole}
+use Rattle.reduction.specs.between.Order.{lower}
 use Rattle.reduction.proofs.ReductionLaws.{kept-whole, count-whole, kept-length}
 use Rattle.reduction.proofs.LowerLaws.{lower-true, true-lower}
 use Rattle.reduction.proofs.EliminationTheorem.{elimination-in-words, greedy-in-words}
@@ -23,7 +24,8 @@ use Rattle.tally.specs.Tally.{nothing}
 use Rattle.tally.proofs.TallyLaws.{full-of-steps, full-of-cost, counted}
 use Rattle.sheet.specs.Decode.{initial, goal, action}
 use Rattle.plan.specs.declared.check.Answer.{Answer}
-use Rattle.plan.specs.Valid.{steps, final}
+use Rattle.plan.specs.Valid.{steps}
+use Rattle.plan.specs.between.Fault.{final}
 use Rattle.plan.specs.Checked.{plan-checks, told-answer, told-tally, lodged-tally, Checks}
 use Rattle.plan.proofs.PlanLaws.{passed-readable}
 use Rattle.plan.proofs.PlanTheorem.{plan-theorem, passes-exactly}

@@ -27,7 +27,7 @@ use Rattle.plan.specs.declared.check.Answer.{Answer}
 use Rattle.plan.specs.Readable.{Readable}
 use Rattle.plan.specs.Valid.{steps}
 use Rattle.plan.specs.Checked.{plan-checks, told-answer, told-tally, no-state, Checks}
-use Rattle.plan.specs.Truth.{Fails-at}
+use Rattle.plan.specs.Valid.{Fails-at}
 use Rattle.service.specs.Reduced.{Reduces}
 use Rattle.landmark.specs.Marks.{Masks}
 use Rattle.elimination.specs.declared.single.Elimination.{Elimination}

@@ -15,7 +15,8 @@ use Rattle.tally.proofs.TallyLaws.{counted}
 use Rattle.sheet.specs.Layout.{cost-word}
 use Rattle.sheet.specs.Decode.{action}
 use Rattle.plan.specs.Valid.{steps}
-use Rattle.reduction.specs.Reduction.{Reduction, kept, lower}
+use Rattle.reduction.specs.Reduction.{Reduction, kept}
+use Rattle.reduction.specs.between.Order.{lower}
 use Rattle.service.specs.between.Held.{mask}
 use Rattle.service.specs.between.Tallied.{is-less}
 use Rattle.service.proofs.TalliedLaws.{left-bounded}

@@ -19,7 +19,8 @@ use Rattle.tally.specs.declared.Order.the-variants.{Less, Equal, Greater}
 use Rattle.tally.specs.Tally.{comparison}
 use Rattle.sheet.specs.Decode.{action}
 use Rattle.plan.specs.Valid.{steps}
-use Rattle.reduction.specs.Reduction.{Reduction, kept, count, lower}
+use Rattle.reduction.specs.Reduction.{Reduction, kept, count}
+use Rattle.reduction.specs.between.Order.{lower}
 use Rattle.reduction.proofs.ReductionLaws.{kept-length, left-length}
 use Rattle.service.specs.Reduced.{reduction-checks, tally-left, output-left}
 use Rattle.refusal.specs.Refusal.{told}

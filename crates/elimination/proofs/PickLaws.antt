@@ -11,7 +11,8 @@ use Rattle.tally.specs.Tally.{nothing, comparison}
 use Rattle.sheet.specs.Decode.{initial, goal}
 use Rattle.step.specs.between.Advance.{Advances}
 use Rattle.plan.specs.Valid.{steps}
-use Rattle.reduction.specs.Reduction.{Reduction, kept, lower, Before}
+use Rattle.reduction.specs.Reduction.{Reduction, kept, Before}
+use Rattle.reduction.specs.between.Order.{lower}
 use Rattle.reduction.specs.between.Elimination.{trial, better, best}
 use Rattle.reduction.proofs.TrialLaws.{unkept-fails}
 use Rattle.elimination.specs.declared.greedy.Best.{Best}

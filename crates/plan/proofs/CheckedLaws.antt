@@ -19,7 +19,8 @@ use Rattle.plan.specs.declared.check.Answer.the-variants.{Valid, Refused
 use Rattle.plan.specs.declared.walk.Walked.{Walked}
 use Rattle.plan.specs.Limits.{most-steps}
 use Rattle.plan.specs.Readable.{Readable}
-use Rattle.plan.specs.Valid.{steps, fault, final}
+use Rattle.plan.specs.Valid.{steps}
+use Rattle.plan.specs.between.Fault.{fault, final}
 use Rattle.plan.specs.between.Walk.{Walks}
 use Rattle.plan.specs.Checked.{read-checks, lodged-checks, no-state, Checks}
 use Rattle.plan.specs.between.Lodged.{Checks-lodged}

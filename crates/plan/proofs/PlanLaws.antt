@@ -25,7 +25,8 @@ use Rattle.sheet.specs.Decode.{domains, initial, goal, action, task}
 use Rattle.sheet.specs.Causes.{sheet-checks, Accepted}
 use Rattle.sheet.proofs.Accepted.{action-known, accepted-well-formed, cost-limit}
 use Rattle.plan.specs.Limits.{most-steps}
-use Rattle.plan.specs.Valid.{steps, fault}
+use Rattle.plan.specs.Valid.{steps}
+use Rattle.plan.specs.between.Fault.{fault}
 use Rattle.plan.specs.Checked.{unknown-place, list-checks, read-checks, valid-checks, lodged-checks}
 use Rattle.plan.proofs.FaultLaws.{steps-drop}
 use Rattle.plan.specs.Readable.{Entries-known, Readable-within, Readable}

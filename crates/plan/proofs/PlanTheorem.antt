@@ -19,9 +19,11 @@ use Rattle.step.proofs.StateLaws.{few-variables, array-parts, initial-length}
 use Rattle.refusal.proofs.CheckLaws.{told-parts, answer-nothing}
 use Rattle.sheet.specs.Limits.{limits}
 use Rattle.sheet.specs.Decode.{initial, goal, action, task}
-use Rattle.plan.specs.Valid.{steps, fault, final}
+use Rattle.plan.specs.Valid.{steps}
+use Rattle.plan.specs.between.Fault.{fault, final}
 use Rattle.plan.specs.Checked.{plan-checks, end-state}
-use Rattle.plan.specs.Truth.{Fails-at, Told-truly}
+use Rattle.plan.specs.Valid.{Fails-at}
+use Rattle.plan.specs.between.Truly.{Told-truly}
 use Rattle.plan.proofs.FaultLaws.{final-length, runs-faultless, unmet-fault, stuck-fault, faultless-runs, fault-told}
 use Rattle.plan.proofs.PlanLaws.{steps-known, passed-readable, fault-answers, faultless-passes, passes-faultless}
 use Rattle.plan.specs.Readable.{Readable}

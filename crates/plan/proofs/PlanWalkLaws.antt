@@ -14,7 +14,8 @@ use Rattle.tally.specs.declared.Tally.{Tally}
 use Rattle.tally.specs.Tally.{nothing, one-more, after}
 use Rattle.step.specs.between.Advance.{Advances}
 use Rattle.plan.specs.declared.walk.Walked.{Walked}
-use Rattle.plan.specs.Valid.{steps, fault, final}
+use Rattle.plan.specs.Valid.{steps}
+use Rattle.plan.specs.between.Fault.{fault, final}
 use Rattle.plan.specs.between.Walk.{Walks}
 use Rattle.plan.proofs.FaultLaws.{fault-here, fault-more, fault-goal, final-more, final-over, after-more, after-over}
 

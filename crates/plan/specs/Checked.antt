@@ -22,7 +22,8 @@ use Rattle.step.specs.State.{in-array}
 use Rattle.plan.specs.declared.check.Answer.{Answer}
 use Rattle.plan.specs.declared.check.Answer.the-variants.{Valid, Refused}
 use Rattle.plan.specs.Limits.{most-steps}
-use Rattle.plan.specs.Valid.{steps, fault, final}
+use Rattle.plan.specs.Valid.{steps}
+use Rattle.plan.specs.between.Fault.{fault, final}
 
 -- 9: the position of the first unknown action
 unfoldable pub unknown-place : List ℕ → List ℕ → Place

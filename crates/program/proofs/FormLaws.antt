@@ -14,7 +14,8 @@ use Rattle.plan.specs.Limits.{most-steps}
 use Rattle.program.specs.declared.frame.Frame.{Frame}
 use Rattle.program.specs.declared.frame.Frame.the-variants.{Broken, Long, Whole}
 use Rattle.sheet.specs.Layout.{header}
-use Rattle.program.specs.Form.{word-bytes, word-at, task-length, outside, plan-length, plan-start, record-end, record-form, as-input, input-form, header-bytes, bytes-to-read}
+use Rattle.program.specs.Form.{word-bytes, word-at, task-length, outside, plan-length, plan-start, record-end, record-form, as-input, input-form}
+use Rattle.program.specs.between.Needed.{header-bytes, bytes-to-read}
 
 -- a number that is not outside the limits
 pub inside-limits : (n : ℕ) → outside n ≡ false → (header ≤ n) × (n ≤ limits .words)

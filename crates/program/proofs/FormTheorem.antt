@@ -10,7 +10,8 @@ use lib.Seq.{take-all, length-take-le}
 use lib.Dec.{ltb}
 use borrow.Author.Tests.{ltb-true, ltb-false}
 use Rattle.plan.specs.Limits.{most-steps}
-use Rattle.program.specs.Form.{word-at, length-at, task-length, plan-length, plan-start, record-end, outside, record-form, header-bytes, bytes-to-read}
+use Rattle.program.specs.Form.{word-at, length-at, task-length, plan-length, plan-start, record-end, outside, record-form}
+use Rattle.program.specs.between.Needed.{header-bytes, bytes-to-read}
 use Rattle.program.proofs.InputWordLaws.{word-stays}
 use Rattle.program.proofs.FormLaws.{form-outside, form-long, form-whole, reads-header, reads-start, reads-end}
 

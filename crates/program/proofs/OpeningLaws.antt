@@ -12,7 +12,8 @@ use Rattle.sheet.proofs.TableLaws.{table-take, table-part}
 use Rattle.program.specs.declared.frame.Frame.{Frame}
 use Rattle.program.specs.declared.frame.Frame.the-variants.{Broken, Long, Whole}
 use Rattle.program.specs.declared.opened.Opened.the-variants as opened
-use Rattle.program.specs.Form.{word-at, unpacked, plan-words, further-words, input-form, most-words}
+use Rattle.program.specs.Form.{word-at, unpacked, plan-words, further-words, input-form}
+use Rattle.program.specs.between.Needed.{most-words}
 use Rattle.program.specs.Long.{long-refusal}
 use Rattle.program.specs.Opening.{Refused, Lodged, opening}
 use Rattle.program.specs.between.Found.{opening-of}

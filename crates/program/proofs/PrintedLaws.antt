@@ -12,7 +12,7 @@ use Rattle.lines.specs.Lines.{ascii, line}
 use Rattle.lines.specs.Prints.{Prints}
 use Rattle.refusal.specs.Refusal.{Told}
 use Rattle.program.specs.between.Room.{line-room}
-use Rattle.program.specs.Form.{bytes-to-read}
+use Rattle.program.specs.between.Needed.{bytes-to-read}
 use Rattle.program.specs.Printed.{refusal-line, Has-read, Has-done}
 use Rattle.program.specs.declared.input.Input.{Input}
 

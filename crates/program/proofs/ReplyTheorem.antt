@@ -9,7 +9,8 @@ use lib.Seq.{take-all}
 use Rattle.refusal.specs.Refusal.{Told}
 use Rattle.program.specs.declared.frame.Frame.{Frame}
 use Rattle.program.specs.declared.frame.Frame.the-variants.{Broken, Long, Whole}
-use Rattle.program.specs.Form.{record-form, bytes-to-read}
+use Rattle.program.specs.Form.{record-form}
+use Rattle.program.specs.between.Needed.{bytes-to-read}
 use Rattle.program.specs.Long.{long-refusal}
 use Rattle.program.specs.Opening.{Refused, opening}
 use Rattle.program.specs.Reply.{reply-further}

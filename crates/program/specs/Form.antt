@@ -82,23 +82,3 @@ as-input bytes (Whole n m end) = cond (ltb end (length bytes)) Broken (Whole n m
 -- the form of an input of one record
 unfoldable pub input-form : ℕ → List ℕ → Frame
 input-form further bytes = as-input bytes (record-form further bytes)
-
--- the bytes to word 3, the last of the words that every task has
-abbrev pub header-bytes : ℕ
-header-bytes = word-bytes * header
-
--- how many bytes in all must have been read to tell the form, as far as those read so far show: those to word 3; then
--- those to the length of the plan; then, unless it is too long, the record, and so many bytes beyond it: one for an
--- input of one record, to see that nothing follows, and none where other records may
-unfoldable pub bytes-to-read : ℕ → ℕ → List ℕ → ℕ
-bytes-to-read further beyond bytes =
-    cond (ltb (length bytes) header-bytes || outside (task-length bytes)) header-bytes
-    (cond (ltb (length bytes) (plan-start bytes) || ltb most-steps (plan-length bytes)) (plan-start bytes)
-    (record-end further bytes + beyond))
-
--- the most words of a record before its further ones, and the most bytes that are ever read
-abbrev pub most-words : ℕ
-most-words = limits .words + 1 + most-steps
-
-abbrev pub most-bytes : ℕ → ℕ → ℕ
-most-bytes further beyond = word-bytes * (most-words + further) + beyond

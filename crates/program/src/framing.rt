@@ -10,7 +10,7 @@ use sheet::limits::Sheet;
 ghost use mathlib.Core.Path.{_≡_};
 ghost use Prim.Native.Nat.{_<_, _≤_, _^_};
 ghost use Rattle.program.specs.Form.{outside as outside-limits, task-length, record-form, input-form};
-ghost use Rattle.program.specs.Form.{bytes-to-read, most-bytes};
+ghost use Rattle.program.specs.between.Needed.{bytes-to-read, most-bytes};
 
 // How many bytes beyond a record are read where nothing may follow it, to see that nothing does.
 pub const ALONE: u32 = 1;

@@ -8,7 +8,8 @@ use refusal::Refusal;
 ghost use mathlib.Core.Path.{_≡_};
 ghost use Prim.Native.Nat.{_+_, _≤_};
 ghost use lib.ListN.{length};
-ghost use Rattle.program.specs.Form.{unpacked, most-words};
+ghost use Rattle.program.specs.Form.{unpacked};
+ghost use Rattle.program.specs.between.Needed.{most-words};
 ghost use Rattle.program.specs.Opening.{opening};
 ghost use Rattle.program.specs.between.Found.{opening-of};
 

@@ -13,7 +13,8 @@ use lib.Dec.{ltb, eqb}
 use borrow.Author.Tests.{ltb-true, ltb-false, eqb-true, eqb-false}
 use Rattle.sas.specs.Task.{Assignment, State, Action, idle}
 use Rattle.sas.specs.Plan.{satisfies}
-use Rattle.reduction.specs.Reduction.{Reduction, keeps, kept, lower, Before, Valid-for, Contains}
+use Rattle.reduction.specs.Reduction.{Reduction, keeps, kept, Before, Valid-for}
+use Rattle.reduction.specs.between.Order.{lower, Contains}
 use Rattle.reduction.specs.Landmark.{step}
 use Rattle.reduction.specs.between.Search.{Visit, both, bound}
 use Rattle.reduction.specs.between.Sound.{Flags-kept, Visited, Follows, Hopeless, Cut, Lacks}

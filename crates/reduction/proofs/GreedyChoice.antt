@@ -9,7 +9,8 @@ use mathlib.Core.List.{List}
 use lib.Dec.{ltb}
 use borrow.Author.Tests.{ltb-true, ltb-false}
 use Rattle.sas.specs.Task.{Assignment, State, Action}
-use Rattle.reduction.specs.Reduction.{Reduction, kept, lower}
+use Rattle.reduction.specs.Reduction.{Reduction, kept}
+use Rattle.reduction.specs.between.Order.{lower}
 use Rattle.reduction.specs.between.Elimination.{trial, better, best}
 use Rattle.reduction.proofs.LowerLaws.{lower-through, lower-once, lower-self}
 

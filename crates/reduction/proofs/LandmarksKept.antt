@@ -11,7 +11,8 @@ use borrow.Author.Tests.{not-true}
 use Rattle.sas.specs.Task.{Fact, Assignment, State, Action}
 use Rattle.sas.specs.Plan.{holds, result, written, may-write}
 use Rattle.sas.proofs.ActionLaws.{stays-false}
-use Rattle.reduction.specs.Reduction.{Reduction, keeps, kept, meets, valid, Contains}
+use Rattle.reduction.specs.Reduction.{Reduction, keeps, kept, meets, valid}
+use Rattle.reduction.specs.between.Order.{Contains}
 use Rattle.reduction.specs.between.Wanted.{has, wanted}
 use Rattle.reduction.specs.between.Sound.{Flags-kept}
 use Rattle.reduction.proofs.ValidLaws.{valid-first}

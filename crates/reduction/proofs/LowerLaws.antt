@@ -11,7 +11,7 @@ use lib.Dec.{ltb, eqb}
 use borrow.Author.Tests.{ltb-true, ltb-false, lt-ltb, eqb-true, eqb-false, eq-eqb}
 use Rattle.sas.specs.Task.{Action}
 use Rattle.sas.specs.Plan.{cost}
-use Rattle.reduction.specs.Reduction.{lower}
+use Rattle.reduction.specs.between.Order.{lower}
 use Rattle.reduction.proofs.MemberLaws.{or-cases, or-neither}
 
 abbrev pub Lower : List Action → List Action → Type 0

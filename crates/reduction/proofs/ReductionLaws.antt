@@ -11,7 +11,8 @@ use lib.Dec.{ltb}
 use borrow.Author.Tests.{ltb-true, ltb-false}
 use Rattle.sas.specs.Task.{State, Action, Task}
 use Rattle.sas.specs.Plan.{cost, Plan}
-use Rattle.reduction.specs.Reduction.{Contains, Reduction, keeps, kept, count, whole, valid-for, Valid-for, Valid-reduction}
+use Rattle.reduction.specs.Reduction.{Reduction, keeps, kept, count, whole, valid-for, Valid-for, Valid-reduction}
+use Rattle.reduction.specs.between.Order.{Contains}
 use Rattle.reduction.proofs.ValidLaws.{valid-plan}
 
 pub kept-whole : {A : Type 0} (p : List A) → kept (whole p) p ≡ p

@@ -11,7 +11,8 @@ use lib.ListN.{length, getD, set, take, drop, length-set, drop-of-length-le}
 use lib.Seq.{length-take-le, take-all, take-suc, take-suc-set, drop-cons, drop-drop, drop-set-lt, split-at, take-at, getD-at}
 use Rattle.sas.specs.Task.{State, Action, idle}
 use Rattle.sas.specs.Plan.{applicable, apply}
-use Rattle.reduction.specs.Reduction.{Reduction, kept, whole, lower, valid-for, Valid-for}
+use Rattle.reduction.specs.Reduction.{Reduction, kept, whole, valid-for, Valid-for}
+use Rattle.reduction.specs.between.Order.{lower}
 use Rattle.reduction.specs.Landmark.{step}
 use Rattle.reduction.specs.between.Elimination.{better}
 use Rattle.reduction.specs.Minimal.{Minimal}

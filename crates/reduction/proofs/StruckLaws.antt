@@ -7,7 +7,8 @@ use mathlib.Core.List.{List, [], _∷_}
 use lib.ListN.{set}
 use Rattle.sas.specs.Task.{Action}
 use Rattle.sas.specs.Plan.{cost}
-use Rattle.reduction.specs.Reduction.{Reduction, kept, count, Contains}
+use Rattle.reduction.specs.Reduction.{Reduction, kept, count}
+use Rattle.reduction.specs.between.Order.{Contains}
 use Rattle.reduction.specs.Trials.{struck-from}
 use Rattle.reduction.proofs.ReductionLaws.{kept-none}
 

@@ -11,7 +11,8 @@ use Rattle.sas.specs.Task.{Assignment, State, Action}
 use Rattle.sas.specs.Plan.{satisfies, applicable, apply, run}
 use Rattle.sas.proofs.ActionLaws.{result-applicable, result-assigned}
 use Rattle.sas.proofs.RunLaws.{run-nothing, run-applied}
-use Rattle.reduction.specs.Reduction.{Reduction, keeps, kept, count, meets, valid, Contains}
+use Rattle.reduction.specs.Reduction.{Reduction, keeps, kept, count, meets, valid}
+use Rattle.reduction.specs.between.Order.{Contains}
 use Rattle.reduction.specs.between.Elimination.{trial}
 use Rattle.reduction.specs.Trials.{walk, after}
 use Rattle.reduction.proofs.ValidLaws.{runs-valid, valid-first}

@@ -13,7 +13,8 @@ use lib.Dec.{ltb}
 use borrow.Author.Tests.{ltb-true, ltb-false}
 use Rattle.sas.specs.Task.{Assignment, State, Action}
 use Rattle.sas.specs.Plan.{cost}
-use Rattle.reduction.specs.Reduction.{Reduction, keeps, kept, count, Valid-reduction, Contains}
+use Rattle.reduction.specs.Reduction.{Reduction, keeps, kept, count, Valid-reduction}
+use Rattle.reduction.specs.between.Order.{Contains}
 use Rattle.reduction.specs.between.Elimination.{trial, best}
 use Rattle.reduction.specs.Trials.{Trial-leaves, Trial-fails, cost-struck, steps-struck, Takes}
 use Rattle.reduction.proofs.ReductionLaws.{kept-length, kept-inside}

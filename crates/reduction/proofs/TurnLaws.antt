@@ -6,7 +6,8 @@ use mathlib.Core.List.{List, [], _∷_}
 use lib.ListN.{getD}
 use Rattle.sas.specs.Task.{State, Action}
 use Rattle.sas.specs.Plan.{applicable}
-use Rattle.reduction.specs.Reduction.{Reduction, kept, lower}
+use Rattle.reduction.specs.Reduction.{Reduction, kept}
+use Rattle.reduction.specs.between.Order.{lower}
 use Rattle.reduction.specs.between.Search.{Visit, Tests, struck, done, handed, turn, first-visit, search}
 use Rattle.reduction.specs.between.Search.Turn.{strike, keep}
 

@@ -10,7 +10,8 @@ use lib.ListN.{length, take, drop}
 use lib.Seq.{append-snoc}
 use Rattle.sas.specs.Task.{Action}
 use Rattle.sas.specs.Plan.{cost}
-use Rattle.reduction.specs.Reduction.{Reduction, kept, lower}
+use Rattle.reduction.specs.Reduction.{Reduction, kept}
+use Rattle.reduction.specs.between.Order.{lower}
 use Rattle.reduction.specs.between.Elimination.{better}
 use Rattle.reduction.specs.between.Found.{begun-with}
 use Rattle.reduction.proofs.ReductionLaws.{kept-behind}

@@ -13,7 +13,8 @@ use Rattle.sas.specs.Task.{Fact, Assignment, State, Action}
 use Rattle.sas.specs.Plan.{holds, satisfies, result, written, needed, may-write, needs}
 use Rattle.sas.proofs.FactLaws.{satisfied-holds}
 use Rattle.sas.proofs.ActionLaws.{idle-needs-nothing, result-applicable, needed-holds, written-or-held}
-use Rattle.reduction.specs.Reduction.{Reduction, keeps, kept, valid-for, Contains}
+use Rattle.reduction.specs.Reduction.{Reduction, keeps, kept, valid-for}
+use Rattle.reduction.specs.between.Order.{Contains}
 use Rattle.reduction.specs.Landmark.{step}
 use Rattle.reduction.specs.between.Wanted.{has, wanted}
 use Rattle.reduction.proofs.ValidLaws.{valid-end, valid-first}

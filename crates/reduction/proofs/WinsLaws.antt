@@ -9,7 +9,8 @@ use mathlib.Core.List.{List, [], _∷_}
 use lib.ListN.{length}
 use Rattle.sas.specs.Task.{Action}
 use Rattle.sas.specs.Plan.{cost}
-use Rattle.reduction.specs.Reduction.{Reduction, keeps, kept, count, whole, lower}
+use Rattle.reduction.specs.Reduction.{Reduction, keeps, kept, count, whole}
+use Rattle.reduction.specs.between.Order.{lower}
 use Rattle.reduction.proofs.ReductionLaws.{kept-length, strike-count, contains-whole, count-whole, left-cost}
 use Rattle.reduction.proofs.LowerLaws.{Lower, lower-true, true-lower, lower-false, lower-through}
 use Rattle.reduction.specs.Minimal.{First-difference, Wins}

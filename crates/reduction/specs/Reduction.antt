@@ -2,13 +2,12 @@
 -- Assumes nothing.
 use Prim.Native.Nat.{ℕ, suc}
 use mathlib.Core.Path.{_≡_}
-use mathlib.Core.Bool.{Bool, true, false, _&&_, _||_}
+use mathlib.Core.Bool.{Bool, true, false}
 use mathlib.Core.Option.{none, some}
 use mathlib.Core.List.{List, [], _∷_}
 use lib.ListN.{length, getD, take, replicate}
-use lib.Dec.{ltb, eqb}
 use Rattle.sas.specs.Task.{Assignment, State, Action}
-use Rattle.sas.specs.Plan.{satisfies, run, cost}
+use Rattle.sas.specs.Plan.{satisfies, run}
 
 -- "A reduction, or striking, strikes none, some or all of its steps and keeps the order of the rest": one Boolean for
 -- each lodged step, true where it is kept
@@ -56,14 +55,6 @@ valid s goal p = valid-for (meets goal) s p
 -- "A reduction is valid when the list it leaves is."
 abbrev pub Valid-reduction : State → Assignment → List Action → Reduction → Type 0
 Valid-reduction s goal p m = Valid-for (meets goal) s p m
-
--- of two lists the first has the lower price, or the same price and fewer steps
-unfoldable pub lower : List Action → List Action → Bool
-lower p q = ltb (cost p) (cost q) || (eqb (cost p) (cost q) && ltb (length p) (length q))
-
--- the second reduction is the first with none, some or all of its steps struck
-abbrev pub Contains : Reduction → Reduction → Type 0
-Contains m n = (i : ℕ) → keeps n i → keeps m i
 
 -- the kept steps before index i lead from s to t
 abbrev pub Before : State → List Action → Reduction → ℕ → State → Type 0

@@ -9,7 +9,8 @@ use lib.ListN.{length, getD, set, length-set, length-map}
 use lib.Seq.{set-getD}
 use Rattle.sas.specs.Task.{Action}
 use Rattle.sas.specs.Plan.{cost}
-use Rattle.reduction.specs.Reduction.{Reduction, kept, count, lower}
+use Rattle.reduction.specs.Reduction.{Reduction, kept, count}
+use Rattle.reduction.specs.between.Order.{lower}
 use Rattle.reduction.specs.Landmark.{step}
 use Rattle.reduction.proofs.ReductionLaws.{kept-length}
 use Rattle.tally.specs.declared.Tally.{Tally}

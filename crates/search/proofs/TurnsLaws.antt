@@ -12,7 +12,8 @@ use borrow.Author.Tests.{ltb-true, ltb-false}
 use Rattle.sas.specs.Task.{State}
 use Rattle.sas.specs.Plan.{satisfies, applicable, apply}
 use Rattle.sas.proofs.ActionLaws.{apply-length}
-use Rattle.reduction.specs.Reduction.{Reduction, kept, lower}
+use Rattle.reduction.specs.Reduction.{Reduction, kept}
+use Rattle.reduction.specs.between.Order.{lower}
 use Rattle.reduction.specs.between.Search.{Tests, bound}
 use Rattle.reduction.specs.between.Search.Turn.{strike, keep}
 use Rattle.reduction.proofs.ReductionLaws.{alike-behind}

@@ -9,7 +9,8 @@ use mathlib.Core.List.{List, [], _∷_}
 use lib.ListN.{length, drop}
 use lib.Dec.{lit≤}
 use Rattle.sas.specs.Plan.{holds, first-failing, satisfies, applicable, assign, apply, written, needed, cost, Plan}
-use Rattle.reduction.specs.Reduction.{kept, count, lower}
+use Rattle.reduction.specs.Reduction.{kept, count}
+use Rattle.reduction.specs.between.Order.{lower}
 use Rattle.reduction.specs.between.Elimination.{better}
 use Rattle.reduction.specs.between.Wanted.{some-fact, same-fact, has, wanted}
 use Rattle.reduction.specs.between.Landmarks.{landmarks-behind, landmarks}

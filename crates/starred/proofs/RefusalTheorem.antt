@@ -8,7 +8,7 @@ use Rattle.reduction.specs.between.Wanted.{some-fact, same-fact, has, wanted}
 use Rattle.reduction.specs.between.Landmarks.{landmarks-behind, landmarks}
 use Rattle.sheet.specs.Decode.{table, facts, initial, goal, action}
 use Rattle.sheet.specs.Causes.{bad-length, bad-edition, bad-counts, due, wrong-size, bad-pair, pair-place, bad-variable, variable-place, bad-fact, group-place, action-place, fact-place, cost-place, sheet-checks}
-use Rattle.plan.specs.Valid.{fault}
+use Rattle.plan.specs.between.Fault.{fault}
 use Rattle.plan.specs.Checked.{unknown-place, list-checks, read-checks, valid-checks, lodged-checks}
 use Rattle.service.specs.Reduced.{room-checks}
 use Rattle.landmark.specs.Marks.{marks}

@@ -12,7 +12,8 @@ use lib.ListN.{length}
 use Rattle.refusal.specs.Place.{first-of-next, first-of, first}
 use Rattle.refusal.specs.Check.{answer}
 use Rattle.sas.specs.Plan.{holds, first-failing, satisfies, applicable, assign, apply, written, needed, result, run, cost}
-use Rattle.reduction.specs.Reduction.{Reduction, kept, count, valid-for, valid, lower, meets}
+use Rattle.reduction.specs.Reduction.{Reduction, kept, count, valid-for, valid, meets}
+use Rattle.reduction.specs.between.Order.{lower}
 use Rattle.reduction.specs.between.Elimination.{trial, eliminated, eliminate, better, best, rounds, greedy}
 use Rattle.reduction.specs.Trials.{walk, after}
 use Rattle.reduction.specs.between.Wanted.{some-fact, same-fact, has, wanted}
@@ -24,7 +25,8 @@ use Rattle.mask.specs.Mask.{binary, words-of, mask-words}
 use Rattle.sheet.specs.Decode.{table, facts, initial, goal, action}
 use Rattle.sheet.specs.Causes.{bad-length, bad-edition, bad-counts, due, wrong-size, bad-pair, pair-place, bad-variable, variable-place, bad-fact, group-place, action-place, fact-place, cost-place, sheet-checks}
 use Rattle.plan.specs.Limits.{most-steps}
-use Rattle.plan.specs.Valid.{steps, fault}
+use Rattle.plan.specs.Valid.{steps}
+use Rattle.plan.specs.between.Fault.{fault}
 use Rattle.plan.specs.Checked.{unknown-place, list-checks, read-checks, valid-checks, lodged-checks, plan-checks, lodged-tally}
 use Rattle.plan.proofs.PlanLaws.{read-readable}
 use Rattle.plan.proofs.PlanTheorem.{plan-theorem, passes-exactly}

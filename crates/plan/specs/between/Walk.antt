@@ -8,7 +8,8 @@ use Rattle.sheet.specs.Layout.{cost-word}
 use Rattle.sheet.specs.Decode.{goal}
 use Rattle.tally.specs.Tally.{nothing, after}
 use Rattle.plan.specs.declared.walk.Walked.{Walked}
-use Rattle.plan.specs.Valid.{steps, fault, final}
+use Rattle.plan.specs.Valid.{steps}
+use Rattle.plan.specs.between.Fault.{fault, final}
 
 pub record Walks (w l before : List ℕ) (r : Walked) (after-it : List ℕ) : Type 0 where
   pub place : r .fault ≡ fault (goal w) before 1 (steps w l)

@@ -8,7 +8,8 @@ use lib.ListN.{length, getD, set}
 use Rattle.sas.specs.Task.{Assignment, State, Action}
 use Rattle.sas.specs.Plan.{satisfies}
 use Rattle.reduction.specs.Trials.{walk, after}
-use Rattle.reduction.specs.Reduction.{Reduction, kept, whole, lower}
+use Rattle.reduction.specs.Reduction.{Reduction, kept, whole}
+use Rattle.reduction.specs.between.Order.{lower}
 
 -- "Trial at position i: strike step i, walk the rest from the state before i, and strike also each later step that
 -- can't be done. The trial succeeds when the goal holds after the whole walk": what it leaves, if it succeeds. The walk

@@ -7,7 +7,8 @@ use mathlib.Core.List.{List, [], _∷_}
 use lib.ListN.{getD, set}
 use Rattle.sas.specs.Task.{State, Action}
 use Rattle.sas.specs.Plan.{applicable, apply}
-use Rattle.reduction.specs.Reduction.{Reduction, kept, whole, lower}
+use Rattle.reduction.specs.Reduction.{Reduction, kept, whole}
+use Rattle.reduction.specs.between.Order.{lower}
 
 -- what a turn sees where it comes to a step: the step's index and the state there; what is kept so far, that is, what
 -- was decided before the index and from it on the flagged steps; and the best reduction found before

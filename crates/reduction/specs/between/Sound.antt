@@ -7,7 +7,8 @@ use mathlib.Core.List.{List}
 use lib.ListN.{length, getD, take, drop}
 use Rattle.sas.specs.Task.{Fact, Assignment, State, Action}
 use Rattle.sas.specs.Plan.{holds}
-use Rattle.reduction.specs.Reduction.{Reduction, kept, lower, Valid-for, Contains, Before}
+use Rattle.reduction.specs.Reduction.{Reduction, kept, Valid-for, Before}
+use Rattle.reduction.specs.between.Order.{lower, Contains}
 use Rattle.reduction.specs.between.Wanted.{wanted}
 use Rattle.reduction.specs.between.Search.{Visit, Tests}
 

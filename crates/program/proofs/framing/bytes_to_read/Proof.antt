@@ -7,7 +7,8 @@ use mathlib.Core.Bool.{false}
 use borrow.Author.Needs.{needs}
 use lib.ListN.{length}
 use Rattle.sheet.specs.Limits.{limits}
-use Rattle.program.specs.Form.{task-length, outside, header-bytes}
+use Rattle.program.specs.Form.{task-length, outside}
+use Rattle.program.specs.between.Needed.{header-bytes}
 use Rattle.program.proofs.FormLaws.{inside-limits, reads-header, reads-outside, reads-start, reads-long, reads-end}
 use Rattle.program.proofs.framing.bytes_to_read.Statement.{statement}
 use Rattle.program.proofs.framing.bytes_to_read.Tie as tie

@@ -1,24 +1,20 @@
--- What holds of the check of a plan (document 01: list) that can be read, in the words of SAS+: `plan-theorem` of
--- proofs/PlanTheorem. Assumes nothing.
+-- What holds of the check of a list, in the words of SAS+. Assumes nothing.
 use Prim.Native.Nat.{ℕ, _+_, _-_}
 use mathlib.Core.Path.{_≡_}
-use mathlib.Core.Logic.{_⊎_, _↔_}
+use mathlib.Core.Logic.{_↔_}
 use mathlib.Core.Option.{none, some}
 use mathlib.Core.List.{List, _++_}
-use lib.ListN.{length, replicate}
+use lib.ListN.{replicate}
 use Rattle.refusal.specs.Refusal.{Told}
 use Rattle.refusal.specs.Check.{answer}
-use Rattle.sas.specs.Plan.{run, Plan, Stuck, Unmet}
+use Rattle.sas.specs.Plan.{run, Plan}
 use Rattle.sheet.specs.Limits.{limits}
 use Rattle.sheet.specs.Layout.{variables}
-use Rattle.sheet.specs.Decode.{initial, goal, task}
-use Rattle.plan.specs.Valid.{steps, final}
+use Rattle.sheet.specs.Decode.{initial, task}
+use Rattle.plan.specs.Valid.{steps}
+use Rattle.plan.specs.between.Fault.{final}
 use Rattle.plan.specs.Checked.{plan-checks, end-state}
-
--- where a list that can be read is no plan: place k is that of the first step that can't be done, or one past the last
--- and only the goal is unmet
-abbrev pub Fails-at : List ℕ → List ℕ → ℕ → Type 0
-Fails-at w l k = Stuck (initial w) (steps w l) k ⊎ ((k ≡ length l + 1) × Unmet (goal w) (initial w) (steps w l))
+use Rattle.plan.specs.Valid.{Fails-at}
 
 -- what holds of the check of a list l that can be read, of the sheet w
 pub record Told-truly (w l : List ℕ) : Type 0 where
