@@ -35,7 +35,8 @@ text-of bytes = text-framed (input-form 0 bytes) (words-in bytes)
 unfoldable pub decoded : List ℕ → Answer
 decoded bytes =
     cond (ltb (word-bytes * most) (length bytes)) (only-says (ascii "more words than a sheet and its list have"))
-    (cond (eqb (length bytes % word-bytes) 0) (only-writes (text-of bytes)) (only-says (ascii "the last word breaks off")))
+    (cond (eqb (length bytes % word-bytes) 0) (only-writes (text-of bytes))
+    (only-says (ascii "the last word breaks off")))
 
 -- and to input of which these bytes were read, where a read may have failed before it ended
 abbrev pub decoded-input : Bool → List ℕ → Answer

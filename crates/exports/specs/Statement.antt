@@ -1,5 +1,5 @@
--- Demand 3 of what the exported minimal reduction writes to lent words, as one statement. Steps stand at indices from 0,
--- one less than document 01's positions. Assumes nothing.
+-- Demand 3 of what the exported minimal reduction writes to lent words, as one statement. Steps stand at indices from
+-- 0, one less than document 01's positions. Assumes nothing.
 use Prim.Native.Nat.{ℕ, _≤_, _<_}
 use mathlib.Core.Path.{_≡_}
 use mathlib.Core.Option.{none, some}

@@ -47,8 +47,8 @@ order-number Greater = 2
 unfoldable pub lent-state : List ℕ → List ℕ
 lent-state words = table (word words) 0 (limits .variables)
 
--- one step over lent words: the state after it over `state`, of which 64 words are read and written, as far as there are
--- so many, and the answer over `out`
+-- one step over lent words: the state after it over `state`, of which 64 words are read and written, as far as there
+-- are so many, and the answer over `out`
 pub record Steps-lent (w : List ℕ) (a : ℕ) (state state′ out out′ : List ℕ) : Type 0 where
   pub values : state′ ≡ sets state 0 (state-after w (lent-state state) a)
   pub answered : out′ ≡ sets out 0 (answer-words (answer (step-checks w (lent-state state) a)))

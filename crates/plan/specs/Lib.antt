@@ -1,5 +1,5 @@
--- Document 01's list. Limits: how long it may be. Readable: when it can be read. Valid: its steps, and where it fails to
--- be valid. Checked: what the check of a list answers.
+-- Document 01's list. Limits: how long it may be. Readable: when it can be read. Valid: its steps, and where it fails
+-- to be valid. Checked: what the check of a list answers.
 pub mod Limits
 pub mod Readable
 pub mod Valid

@@ -33,8 +33,8 @@ pub record Has-done (text : List ℕ → List ℕ) (bytes : List ℕ) (done : Do
   pub printed : take (done .written) after ≡ text (take (done .input .count) bytes)
   pub others : drop (done .written) after ≡ drop (done .written) before
 
--- what is assumed of the C library's `read`: the bytes read are the input's first, in order, and where the reading ended
--- early they are all that it has
+-- what is assumed of the C library's `read`: the bytes read are the input's first, in order, and where the reading
+-- ended early they are all that it has
 pub record Read-from (whole bytes : List ℕ) (input : Input) : Type 0 where
   pub in-order : take (input .count) bytes ≡ take (input .count) whole
   pub at-end : input .ended ≡ true → length whole ≤ input .count

@@ -11,7 +11,8 @@ use Rattle.refusal.specs.Place.{when, or-else, first-of, first}
 use Rattle.refusal.specs.Check.{Check, answer}
 use Rattle.sheet.specs.Limits.{limits}
 use Rattle.sheet.specs.Layout.{word, edition, variables, actions, stated-length, header, pairs, pairs-end}
-use Rattle.sheet.specs.Layout.{offset, size, part-end, domain, start, goal-start, goal-end, cost-word, precondition-start}
+use Rattle.sheet.specs.Layout.{offset, size, part-end, domain, start, goal-start, goal-end, cost-word}
+use Rattle.sheet.specs.Layout.{precondition-start}
 use Rattle.sheet.specs.Layout.{effect-start, effect-end}
 use Rattle.sheet.specs.Decode.{fact-of}
 
