@@ -13,7 +13,7 @@ use Rattle.plan.specs.Limits.{most-steps}
 use Rattle.program.specs.Form.{word-at, length-at, task-length, plan-length, plan-start, record-end, outside, record-form}
 use Rattle.program.specs.between.Needed.{header-bytes, bytes-to-read}
 use Rattle.program.proofs.InputWordLaws.{word-stays}
-use Rattle.program.proofs.FormLaws.{form-outside, form-long, form-whole, reads-header, reads-start, reads-end}
+use Rattle.program.proofs.FormLaws.{form-outside, form-long, form-whole, reads-header, reads-outside, reads-start, reads-long, reads-end}
 
 -- how far bytes go: not to word 3; to a word 3 outside its limits; not to the length of the plan; to a length that is too large; to one that is not
 data Reach (bytes : List ℕ) : Type 0 where
@@ -71,6 +71,29 @@ module _ (further beyond : ℕ) where
 
   pub settled : (xs ys : List ℕ) → needed xs ≤ length xs → record-form further (xs ++ ys) ≡ record-form further xs
   settled xs ys h = with-more xs ys h (reach xs)
+
+  -- and until they are there, as many must be read as before
+  module _ (xs ys : List ℕ) (less : length (xs ++ ys) < needed xs) where
+    longer : length (xs ++ ys) ≡ length xs + length ys
+    longer = length-append xs ys
+
+    task-stays : header-bytes ≤ length xs → task-length xs ≡ task-length (xs ++ ys)
+    task-stays header = sym (word-stays xs ys length-at header)
+
+    as-before : Reach xs → needed (xs ++ ys) ≡ needed xs
+    as-before (short s) = let all : needed xs ≡ header-bytes = reads-header further beyond xs s in reads-header further beyond (xs ++ ys) (omega arith) ∙ sym all
+    as-before (unfit header e) = absurd (omega (arith, longer, reads-outside further beyond xs header (task-length xs) refl e))
+    as-before (cut header inside s) =
+        let all : needed xs ≡ plan-start xs = reads-start further beyond xs header (task-length xs) refl inside s in
+        reads-start further beyond (xs ++ ys) (omega (arith, longer)) (task-length xs) (task-stays header) inside (omega arith) ∙ sym all
+    as-before (long header inside there l) = absurd (omega (arith, longer, reads-long further beyond xs header (task-length xs) refl inside there (plan-length xs) refl l))
+    as-before (listed header inside there few) =
+        reads-end further beyond (xs ++ ys) (omega (arith, longer)) (task-length xs) (task-stays header) inside (omega (arith, longer)) (plan-length xs)
+        (sym (word-stays xs ys (task-length xs) there)) few
+        ∙ sym (reads-end further beyond xs header (task-length xs) refl inside there (plan-length xs) refl few)
+
+  pub still-needed : (xs ys : List ℕ) → length (xs ++ ys) < needed xs → needed (xs ++ ys) ≡ needed xs
+  still-needed xs ys less = as-before xs ys less (reach xs)
 
   -- where that is so of what f tells of bytes, f tells the same of the first k bytes of an input as of all of it, if no more than k must be read
   pub enough : {A : Type 0} (f : List ℕ → A) → ((xs ys : List ℕ) → needed xs ≤ length xs → f (xs ++ ys) ≡ f xs)

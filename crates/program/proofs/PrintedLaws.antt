@@ -1,18 +1,21 @@
 -- The line of a refusal, by its number and its place; and what must have been read, where it has. Assumes nothing.
-use Prim.Native.Nat.{ℕ, _≤_}
+use Prim.Native.Nat.{ℕ, _+_, _≤_, _<_}
 use native.Mathlib.Omega.{arith}
 use native.Mathlib.Nat.{zero-add}
-use mathlib.Core.Path.{_≡_, sym, _∙_}
+use mathlib.Core.Path.{_≡_, sym, _∙_, ap}
 use mathlib.Core.Bool.{true, false, false≢true}
 use mathlib.Core.List.{List, [], _∷_, _++_}
 use lib.ListN.{length, take, drop}
-use lib.Seq.{length-take-le, sets-eq, take-append-seam, drop-append-seam}
+use lib.Seq.{length-take-le, sets-eq, take-append-add, take-append-seam, drop-append-seam}
+use lib.Dec.{lit<}
 use Rattle.io.specs.Counts.{Counts}
 use Rattle.lines.specs.Lines.{ascii, line}
 use Rattle.lines.specs.Prints.{Prints}
 use Rattle.refusal.specs.Refusal.{Told}
 use Rattle.program.specs.between.Room.{line-room}
 use Rattle.program.specs.between.Needed.{bytes-to-read}
+use Rattle.program.proofs.FormLaws.{reads-header}
+use Rattle.program.proofs.FormTheorem.{still-needed}
 use Rattle.program.specs.Printed.{refusal-line, Has-read, Has-done}
 use Rattle.program.specs.declared.input.Input.{Input}
 
@@ -28,12 +31,34 @@ refusal-fits t numbered placed short = rw (← numbered, ← placed) short
 front-counts : (n : ℕ) (bytes : List ℕ) → n ≤ length bytes → Counts n bytes
 front-counts n bytes h = (h, sym (length-take-le n bytes h))
 
-module _ (further beyond : ℕ) (bytes : List ℕ) (n : ℕ) (there : n ≤ length bytes) where
-  pub read-to-end : Has-read further beyond bytes (record { count = n; ended = true })
-  read-to-end = record { counted = front-counts n bytes there; enough = λ e. absurd (false≢true (sym e)) }
+module _ (further beyond : ℕ) (bytes : List ℕ) where
+  -- nothing has been read
+  pub read-nothing : Has-read further beyond bytes (record { count = 0; ended = true })
+  read-nothing =
+      record {
+        counted = front-counts 0 bytes (omega arith);
+        enough = λ e. absurd (false≢true (sym e));
+        short = λ e. rw (reads-header further beyond [] (lit< tt)) (lit< tt);
+      }
 
-  pub read-enough : (want : ℕ) → want ≡ bytes-to-read further beyond (take n bytes) → want ≤ n → Has-read further beyond bytes (record { count = n; ended = false })
-  read-enough want is low = record { counted = front-counts n bytes there; enough = λ e. rw (← is) low }
+  module _ (n want : ℕ) (there : n ≤ length bytes) (is : want ≡ bytes-to-read further beyond (take n bytes)) where
+    -- all that must be
+    pub read-enough : want ≤ n → Has-read further beyond bytes (record { count = n; ended = false })
+    read-enough low = record { counted = front-counts n bytes there; enough = λ e. rw (← is) low; short = λ e. absurd (false≢true e) }
+
+    -- or less, though more was asked for
+    pub read-short : (rest after : List ℕ) (got : ℕ) → after ≡ take n bytes ++ rest → n + got ≤ length after → n + got < want
+        → Has-read further beyond after (record { count = n + got; ended = true })
+    read-short rest after got is-after room less =
+        let front : length (take n bytes) ≡ n = length-take-le n bytes there in
+        let read : take (n + got) after ≡ take n bytes ++ take got rest = rw is-after (rw front at (take-append-add (take n bytes) rest got)) in
+        let long : length (take n bytes ++ take got rest) ≡ n + got = ap length (sym read) ∙ length-take-le (n + got) after room in
+        let same = still-needed further beyond (take n bytes) (take got rest) (omega (arith, long, is)) in
+        record {
+          counted = front-counts (n + got) after room;
+          enough = λ e. absurd (false≢true (sym e));
+          short = λ e. rw read (omega (arith, same, is));
+        }
 
 -- a text that is put at the front, where there is room for it
 module _ (text before after : List ℕ) (written : ℕ) (room : length text ≤ length before) (prints : Prints text 0 before after written) where

@@ -1,5 +1,5 @@
 -- What a program prints of a tally and of a refusal, and what it has read and printed. Assumes nothing.
-use Prim.Native.Nat.{ℕ, _≤_}
+use Prim.Native.Nat.{ℕ, _≤_, _<_}
 use mathlib.Core.Path.{_≡_}
 use mathlib.Core.Bool.{true, false}
 use mathlib.Core.List.{List, [], _∷_}
@@ -20,11 +20,12 @@ tally-line word t = line word (t .steps ∷ t .cost ∷ [])
 abbrev pub refusal-line : Told → List ℕ
 refusal-line t = line (ascii "refused") (t .number ∷ t .place ∷ [])
 
--- what has been read stands at the front of the bytes lent: all that must be read to tell the form of the input, unless
--- the input ended before
+-- what has been read stands at the front of the bytes lent: all that must be read to tell the form of the input, or,
+-- where the input ended early, fewer
 pub record Has-read (further beyond : ℕ) (bytes : List ℕ) (input : Input) : Type 0 where
   pub counted : Counts (input .count) bytes
   pub enough : input .ended ≡ false → bytes-to-read further beyond (take (input .count) bytes) ≤ input .count
+  pub short : input .ended ≡ true → input .count < bytes-to-read further beyond (take (input .count) bytes)
 
 -- what a program that prints this text of its input has done: what it has read, and its answer, which is the text of
 -- the bytes read; every other byte is as it was

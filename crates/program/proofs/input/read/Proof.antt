@@ -1,12 +1,12 @@
 -- `read` meets its contract. The loop's invariant: what has been read lies inside the bytes that are lent, whose length does not change. The measure is how many bytes
 -- may still be read: it falls, since a turn that goes on has read all that it asked for, and it asked for more. Assumes nothing.
 use Prim.Native.Nat.{_≤_, _-_}
-use mathlib.Core.Path.{_≡_, sym}
+use mathlib.Core.Path.{_≡_, refl, sym}
 use borrow.Author.Needs.{needs}
 use lib.ListN.{length}
 use lib.Seq.{length-take-le}
 use Rattle.program.specs.between.Needed.{most-bytes}
-use Rattle.program.proofs.PrintedLaws.{read-to-end, read-enough}
+use Rattle.program.proofs.PrintedLaws.{read-nothing, read-enough, read-short}
 use Rattle.program.proofs.input.read.Statement.{statement}
 use Rattle.program.proofs.input.read.Tie as tie
 
@@ -26,7 +26,7 @@ add-if1-2 : tie.Need-add-if1-2 Inv-loop μ-loop
 add-if1-2 c = search needs
 
 returns : tie.Need-returns Inv-loop μ-loop
-returns c = read-to-end _ _ _ _ (search needs)
+returns c = read-nothing _ _ _
 
 loop-holds : tie.Need-loop-holds Inv-loop μ-loop
 loop-holds c = search needs
@@ -44,7 +44,7 @@ same-length : tie.Need-same-length Inv-loop μ-loop
 same-length c = search needs
 
 returns-2 : tie.Need-returns-2 Inv-loop μ-loop
-returns-2 c = read-enough _ _ _ _ (search needs) _ (c .before .bytes-to-read .ensures .0) (c .if2 .taken)
+returns-2 c = read-enough _ _ _ _ _ (search needs) (c .before .bytes-to-read .ensures .0) (c .if2 .taken)
 
 sub-read-full : tie.Need-sub-read-full Inv-loop μ-loop
 sub-read-full c = search needs
@@ -65,7 +65,7 @@ same-length-2 : tie.Need-same-length-2 Inv-loop μ-loop
 same-length-2 c = search needs
 
 returns-3 : tie.Need-returns-3 Inv-loop μ-loop
-returns-3 c = read-to-end _ _ _ _ (search needs)
+returns-3 c = read-short _ _ _ _ _ (c .before .before .before .before .before .before .before .before .loop .inv .0) (c .before .before .before .before .before .before .bytes-to-read .ensures .0) _ _ _ refl (search needs) (c .if3 .taken)
 
 loop-less : tie.Need-loop-less Inv-loop μ-loop
 loop-less c = search needs
