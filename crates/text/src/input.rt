@@ -1,16 +1,19 @@
 // The reading of standard input.
 use libc::STDIN_FILENO;
 ghost use Rattle.io.specs.Counts.{Counts};
+ghost use Rattle.text.specs.Input.{To-the-end};
 
-// How many bytes were read, and whether a read failed before the input ended.
+// How many bytes were read, whether a read failed, and else how many bytes the last read gave: none at the input's end.
 pub struct Input {
     pub count: usize,
     pub failed: bool,
+    pub last: usize,
 }
 
 // Reads the input to its end, or until the bytes lent are full.
 pub fn read_input(bytes: &mut [u8]) -> Input
     ensures { λ r. ⌜ Counts (r .count) (now (bytes .exit)) ⌝ }
+    ensures { λ r. ⌜ To-the-end (now (bytes .exit)) r ⌝ }
 {
     let mut have = 0;
     while have < bytes.len() {
@@ -19,6 +22,7 @@ pub fn read_input(bytes: &mut [u8]) -> Input
             return Input {
                 count: have,
                 failed: true,
+                last: 0,
             };
         }
         let more = io::count(got, &bytes[have..]);
@@ -26,6 +30,7 @@ pub fn read_input(bytes: &mut [u8]) -> Input
             return Input {
                 count: have,
                 failed: false,
+                last: more,
             };
         }
         have += more;
@@ -33,5 +38,6 @@ pub fn read_input(bytes: &mut [u8]) -> Input
     Input {
         count: have,
         failed: false,
+        last: have,
     }
 }

@@ -1,6 +1,9 @@
 -- may still be read. Assumes nothing.
 use Prim.Native.Nat.{_≤_, _-_}
 use mathlib.Core.Path.{_≡_, sym}
+use native.Mathlib.Omega.{arith}
+use mathlib.Core.Logic.{inl, inr}
+use mathlib.Core.Bool.{false≢true}
 use borrow.Author.Needs.{needs}
 use lib.ListN.{length}
 use lib.Seq.{length-take-le}
@@ -32,7 +35,7 @@ same-length : tie.Need-same-length Inv-loop μ-loop
 same-length c = search needs
 
 returns : tie.Need-returns Inv-loop μ-loop
-returns c = (search needs, sym (length-take-le _ _ (search needs)))
+returns c = ((search needs, sym (length-take-le _ _ (search needs))), λ e. absurd (false≢true (sym e)))
 
 sub-count : tie.Need-sub-count Inv-loop μ-loop
 sub-count c = search needs
@@ -50,7 +53,7 @@ same-length-2 : tie.Need-same-length-2 Inv-loop μ-loop
 same-length-2 c = search needs
 
 returns-2 : tie.Need-returns-2 Inv-loop μ-loop
-returns-2 c = (search needs, sym (length-take-le _ _ (search needs)))
+returns-2 c = ((search needs, sym (length-take-le _ _ (search needs))), λ e. inl (c .if2 .taken))
 
 add-have : tie.Need-add-have Inv-loop μ-loop
 add-have c = search needs
@@ -65,7 +68,9 @@ same-length-3 : tie.Need-same-length-3 Inv-loop μ-loop
 same-length-3 c = search needs
 
 returns-3 : tie.Need-returns-3 Inv-loop μ-loop
-returns-3 c = (search needs, sym (length-take-le _ _ (search needs)))
+returns-3 c =
+    let all : c .before .loop .have ≡ length (c .before .loop .bytes) = omega arith in
+    ((search needs, sym (length-take-le _ _ (search needs))), λ e. inr all)
 
 pub read-input-spec : {M : Type 1} → statement M
 read-input-spec =
