@@ -18,6 +18,7 @@ ghost use Rattle.lines.specs.Prints.{Prints};
 ghost use Rattle.program.specs.Form.{word-bytes};
 ghost use Rattle.text.specs.Limits.{most};
 ghost use Rattle.text.specs.Answer.{Gives};
+ghost use Rattle.decode.specs.between.Room.{text-bytes};
 ghost use Rattle.decode.specs.Decode.{text-whole, text-framed, text-of, decoded, decoded-input};
 
 // Puts words of which the first `task` may be a task, with its plan behind it.
@@ -78,8 +79,10 @@ pub(crate) struct Decoding {
     pub(crate) answer: Answered,
 }
 
-// Reads words from standard input, and decodes them.
+// Reads words from standard input, and decodes them. What is written fits into as many bytes as are asked for
+// (`text-fits`).
 pub(crate) fn decode_input(bytes: &mut [u8], out: &mut [u8], errors: &mut [u8]) -> Decoding
+    requires { ⌜ text-bytes ≤ length (now out) ⌝ }
     ensures { λ r. ⌜ Gives (decoded-input (r .failed) (take (r .read) (now (bytes .exit))))
         (now (out .entry)) (now (out .exit)) (now (errors .entry)) (now (errors .exit)) (r .answer) ⌝ }
 {

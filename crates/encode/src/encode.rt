@@ -11,8 +11,10 @@ use text::limits::MOST;
 use text::reader::Ending;
 use text::reader::read_whole;
 ghost use mathlib.Core.List.{List};
-ghost use Prim.Native.Nat.{ℕ};
-ghost use lib.ListN.{take};
+ghost use Prim.Native.Nat.{ℕ, _*_, _≤_};
+ghost use lib.ListN.{length, take};
+ghost use Rattle.program.specs.Form.{word-bytes};
+ghost use Rattle.text.specs.Limits.{most};
 ghost use Rattle.text.specs.Answer.{only-says, Gives};
 ghost use Rattle.encode.specs.Encode.{at-line, encoded, encoded-input};
 
@@ -57,8 +59,10 @@ pub(crate) struct Encoding {
     pub(crate) answer: Answered,
 }
 
-// Reads a text from standard input, and encodes it.
+// Reads a text from standard input, and encodes it. What is written fits into as many bytes as are asked for
+// (`written-fits`).
 pub(crate) fn encode_input(bytes: &mut [u8], out: &mut [u8], errors: &mut [u8]) -> Encoding
+    requires { ⌜ word-bytes * most ≤ length (now out) ⌝ }
     ensures { λ r. ⌜ Gives (encoded-input (r .failed) (take (r .read) (now (bytes .exit))))
         (now (out .entry)) (now (out .exit)) (now (errors .entry)) (now (errors .exit)) (r .answer) ⌝ }
 {
