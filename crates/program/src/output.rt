@@ -5,9 +5,10 @@ use lines::put_line;
 use lines::put_row;
 use refusal::Refusal;
 use tally::Tally;
+ghost use mathlib.Core.Path.{_≡_};
 ghost use mathlib.Core.List.{[], _∷_};
 ghost use Prim.Native.Nat.{_≤_};
-ghost use lib.ListN.{length};
+ghost use lib.ListN.{length, take};
 ghost use Rattle.lines.specs.Lines.{numeral, line, row};
 ghost use Rattle.lines.specs.Prints.{Prints};
 ghost use Rattle.refusal.specs.Refusal.{told-refusal};
@@ -64,19 +65,18 @@ pub fn put_refusal(out: &mut [u8], at: usize, refusal: Refusal) -> usize
     )
 }
 
-// Writes a text to standard output, and says on standard error where that can't be done.
-fn write_text(text: &[u8]) {
+// The first n bytes, or all where there are fewer: what has been put into them.
+pub fn first_bytes(bytes: &[u8], n: usize) -> &[u8]
+    ensures { λ r. ⌜ now r ≡ take n (now (bytes .entry)) ⌝ }
+{
+    if n < bytes.len() { &bytes[..n] } else { bytes }
+}
+
+// Writes a text to standard output, and says on standard error where that can't be done. No contract can say what a
+// call of C writes, so this is all that it does.
+pub fn write_text(text: &[u8]) {
     if io::write_all(STDOUT_FILENO, text) {
         return;
     }
     io::write_all(STDERR_FILENO, b"the answer can't be written\n");
-}
-
-// Writes the first n bytes, or all where there are fewer.
-pub fn write_front(bytes: &[u8], n: usize) {
-    if n < bytes.len() {
-        write_text(&bytes[..n]);
-    } else {
-        write_text(bytes);
-    }
 }

@@ -8,7 +8,8 @@ use crate::shortened::answer_input;
 use plan::limits::Plan;
 use program::framing::BYTES;
 use program::output::LINE;
-use program::output::write_front;
+use program::output::first_bytes;
+use program::output::write_text;
 
 // The most bytes that are printed: three lines, and one for each step.
 const TEXT: usize = LINE * (3 + Plan::STEPS);
@@ -17,5 +18,5 @@ fn main() {
     let mut bytes = [0u8; BYTES];
     let mut text = [0u8; TEXT];
     let done = answer_input(&mut bytes, &mut text);
-    write_front(&text, done.written);
+    write_text(first_bytes(&text, done.written));
 }

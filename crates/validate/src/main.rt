@@ -6,11 +6,12 @@ mod check;
 use crate::check::answer_input;
 use program::framing::BYTES;
 use program::output::LINE;
-use program::output::write_front;
+use program::output::first_bytes;
+use program::output::write_text;
 
 fn main() {
     let mut bytes = [0u8; BYTES];
     let mut text = [0u8; LINE];
     let done = answer_input(&mut bytes, &mut text);
-    write_front(&text, done.written);
+    write_text(first_bytes(&text, done.written));
 }

@@ -7,9 +7,10 @@ use minimal::reduce::minimal_reduction;
 use plan::check::Answer;
 use plan::check::check_plan;
 use program::output::LINE;
+use program::output::first_bytes;
 use program::output::put_refusal;
 use program::output::put_tally;
-use program::output::write_front;
+use program::output::write_text;
 
 // How many steps are not marked. No more are marked than there are.
 fn unmarked(words: &[u32], plan: &[u32]) -> usize {
@@ -58,5 +59,5 @@ pub(crate) fn print_found(name: &[u8], number: u64, words: &[u32], plan: &[u32])
     let begun = put_text(&mut line, numbered, b": ");
     let lodged = put_lodged(words, plan, &mut line, begun);
     let end = put_kept(words, plan, &mut line, lodged);
-    write_front(&line, end);
+    write_text(first_bytes(&line, end));
 }

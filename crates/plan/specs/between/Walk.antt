@@ -1,4 +1,4 @@
--- What the walk along a plan hands back. Not to be believed: the laws of Valid tie it to what the check of a plan
+-- What the walk along a plan hands back. Not to be believed: the laws of Fault tie it to what the check of a plan
 -- promises. Assumes nothing.
 use mathlib.Core.Path.{_≡_}
 use mathlib.Core.List.{List, map}
