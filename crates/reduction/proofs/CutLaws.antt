@@ -8,7 +8,7 @@ use mathlib.Core.Logic.{inl, inr}
 use mathlib.Core.Bool.{Bool, true, false, true≢false}
 use mathlib.Core.List.{List, _∷_}
 use lib.ListN.{length, getD, set, drop, length-set}
-use lib.Seq.{getD-set-other, getD-drop, drop-cons}
+use lib.Seq.{getD-set-other, drop-cons}
 use lib.Dec.{ltb, eqb}
 use borrow.Author.Tests.{ltb-true, ltb-false, eqb-true, eqb-false}
 use Rattle.sas.specs.Task.{Assignment, State, Action, idle}
@@ -18,7 +18,7 @@ use Rattle.reduction.specs.between.Order.{lower, Contains}
 use Rattle.reduction.specs.Landmark.{step}
 use Rattle.reduction.specs.between.Search.{Visit, both, bound}
 use Rattle.reduction.specs.between.Sound.{Flags-kept, Visited, Follows, Hopeless, Cut, Lacks}
-use Rattle.reduction.proofs.ReductionLaws.{kept-length, strike-cost, strike-count, alike-before, alike-behind}
+use Rattle.reduction.proofs.ReductionLaws.{kept-length, strike-cost, strike-count, contains-behind, alike-before, alike-behind}
 use Rattle.reduction.proofs.LowerLaws.{Lower}
 use Rattle.reduction.proofs.WinsLaws.{not-lower, not-lower-through}
 use Rattle.reduction.proofs.WantedLaws.{wanted-holds}
@@ -35,7 +35,7 @@ both-cut {ends} {s} {p} {choice = choice} x y first second v inside visited trie
     by-case false e = first v inside visited tried e
 
 -- what keeps all that another reduction keeps is not lower
-contains-not-lower : (p : List Action) (m n : Reduction) → length m ≡ length p → length n ≡ length p → Contains m n → lower (kept m p) (kept n p) ≡ false
+pub contains-not-lower : (p : List Action) (m n : Reduction) → length m ≡ length p → length n ≡ length p → Contains m n → lower (kept m p) (kept n p) ≡ false
 contains-not-lower p m n fits other-fits h = not-lower (kept m p) (kept n p) never
   where
     never : Lower (kept m p) (kept n p) → ⊥
@@ -83,7 +83,6 @@ module _ {ends : State → Bool} {s : State} {p : List Action} {flags : Reductio
   wanted-cut goal test met bars v inside visited tried barred r follows =
       let lacks : Lacks goal p flags v = bars v inside visited barred in
       let rest = valid-struck ends (v .state) (step p (v .index)) (drop (v .index + 1) p) (follows-rest inside visited follows) in
-      let later : Contains (drop (v .index + 1) r) (drop (v .index + 1) flags) =
-      λ k up. getD-drop (v .index + 1) r k false ∙ flagged r (follows .valid) (v .index + 1 + k) (sym (getD-drop (v .index + 1) flags k false) ∙ up) in
+      let later : Contains (drop (v .index + 1) r) (drop (v .index + 1) flags) = contains-behind r flags (v .index + 1) (flagged r (follows .valid)) in
       let held = wanted-holds ends goal met (v .state) _ _ _ (lacks .fact) (rest .fits) (rest .valid-left) later (lacks .wanted-behind) in
       absurd (true≢false (sym held ∙ lacks .unheld))

@@ -38,3 +38,9 @@ pub mod TurnLaws
 pub mod CutLaws
 -- SearchTheorem: the search returns the minimal reduction.
 pub mod SearchTheorem
+-- HeldLaws: which facts hold after an action and before an index, by what was done before.
+pub mod HeldLaws
+-- UseLaws: a step that sets nothing of use is never kept, and all that the search is told is sound.
+pub mod UseLaws
+-- CourseLaws: the search stays on course, and passes flagged steps without a test.
+pub mod CourseLaws

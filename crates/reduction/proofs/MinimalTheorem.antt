@@ -60,7 +60,7 @@ module _ (ends : State → Bool) where
     unfolding kept
     valid-struck v = record { fits = omega (arith, v .fits); valid-left = v .valid-left }
 
-    valid-kept : {m : Reduction} → Valid-for ends s (a ∷ p) (true ∷ m) → (applicable s a ≡ true) × Valid-for ends (apply s a) p m
+    pub valid-kept : {m : Reduction} → Valid-for ends s (a ∷ p) (true ∷ m) → (applicable s a ≡ true) × Valid-for ends (apply s a) p m
     unfolding kept
     valid-kept {m} v =
         let (t, done, rest) = valid-first ends s a (kept m p) (v .valid-left) in

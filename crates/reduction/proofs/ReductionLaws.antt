@@ -149,6 +149,10 @@ left-length m p fits = omega (arith, kept-length m p fits, strike-count (whole p
 pub left-cost : (m : Reduction) (p : List Action) → length m ≡ length p → cost (kept m p) ≤ cost p
 left-cost m p fits = rw kept-whole at (strike-cost (whole p) m p (contains-whole m p fits))
 
+-- where a reduction keeps all that another does, it does so from an index on
+pub contains-behind : (m n : Reduction) (i : ℕ) → Contains m n → Contains (drop i m) (drop i n)
+contains-behind m n i h k up = getD-drop i m k false ∙ h (i + k) (sym (getD-drop i n k false) ∙ up)
+
 -- what two reductions have alike before an index, and from it on
 pub alike-before : (m n : Reduction) (i k : ℕ) → take i m ≡ take i n → k < i → getD m k false ≡ getD n k false
 alike-before m n i k same h = sym (getD-take i m k false h) ∙ ap (λ r. getD r k false) same ∙ getD-take i n k false h

@@ -68,7 +68,7 @@ module _ (T : Tests) (s : State) (p : List Action) (v : Visit) (inside : v .inde
   decides-keep : take (suc (v .index)) (set (v .so-far) (v .index) true) ≡ decided v ++ (true ∷ [])
   decides-keep = take-suc-set (v .so-far) (v .index) true (omega (arith, visited .fits))
 
-  struck-visited : getD (T .flags) (v .index) false ≡ false → Visited s p (T .flags) (struck v)
+  pub struck-visited : getD (T .flags) (v .index) false ≡ false → Visited s p (T .flags) (struck v)
   struck-visited down =
       record {
         fits = visited .fits;
@@ -76,7 +76,7 @@ module _ (T : Tests) (s : State) (p : List Action) (v : Visit) (inside : v .inde
         to-come = later-alike;
       }
 
-  done-visited : applicable (v .state) (here p v) ≡ true → Visited s p (T .flags) (done (here p v) v)
+  pub done-visited : applicable (v .state) (here p v) ≡ true → Visited s p (T .flags) (done (here p v) v)
   done-visited able =
       record {
         fits = length-set (v .so-far) (v .index) true ∙ visited .fits;

@@ -91,7 +91,7 @@ wanted-why goal (a ∷ p) m f w =
     (wanted-cases goal a p m f w)
 
 -- a fact that the first step does not write and that is wanted behind it is wanted before it
-wanted-before : (goal : Assignment) (a : Action) (p : List Action) (m : Reduction) (f : Fact) → (may-write a f → ⊥) → wanted goal p (drop 1 m) f ≡ true
+pub wanted-before : (goal : Assignment) (a : Action) (p : List Action) (m : Reduction) (f : Fact) → (may-write a f → ⊥) → wanted goal p (drop 1 m) f ≡ true
     → wanted goal (a ∷ p) m f ≡ true
 unfolding wanted
 wanted-before goal a p m f unwritten h = rw (no-member-has (written a) f unwritten, h, or-true)

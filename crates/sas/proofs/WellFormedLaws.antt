@@ -1,6 +1,6 @@
--- The facts of an assignment whose variables rise are known, of variables from its lower bound on; and to assign known facts keeps a state within its
--- domains. By induction on how the variables rise. Assumes nothing.
-use Prim.Native.Nat.{ℕ, _≤_, _<_}
+-- The facts of an assignment whose variables rise are known, of variables from its lower bound on, and no more than those; and to assign known facts keeps a
+-- state within its domains. By induction on how the variables rise. Assumes nothing.
+use Prim.Native.Nat.{ℕ, _-_, _≤_, _<_}
 use native.Mathlib.Omega.{arith}
 use mathlib.Core.Path.{_≡_, refl, _∙_}
 use mathlib.Core.List.{List, List·Memᴰ, List·Memᴰ·head, List·Memᴰ·tail}
@@ -26,6 +26,11 @@ rising-known (fact known above rest) (List·Memᴰ·tail later) = rising-known r
 pub rising-above : {domains : List ℕ} {from : ℕ} {f : Fact} {q : Assignment} → Rising domains from q → List·Memᴰ f q → from ≤ f .variable
 rising-above (fact known above rest) (List·Memᴰ·head same) = rw same above
 rising-above (fact known above rest) (List·Memᴰ·tail later) = omega (arith, rising-above rest later)
+
+-- there are no more facts than variables from `from` on
+pub rising-few : {domains : List ℕ} {from : ℕ} {q : Assignment} → Rising domains from q → length q ≤ length domains - from
+rising-few empty = omega arith
+rising-few (fact known above rest) = omega (arith, known .variable, rising-few rest)
 
 -- a known fact's variable may be set to its value
 set-within : {domains : List ℕ} {s : State} {f : Fact} → Known domains f → Within domains s → Within domains (set s (f .variable) (f .value))

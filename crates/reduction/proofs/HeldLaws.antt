@@ -1,0 +1,110 @@
+-- Whether a fact holds after an action is told by whether it held before: what the action writes holds, a fact of a variable that it sets otherwise does not,
+-- and every other one is as before. So what a search has decided before an index tells which facts hold there. An assignment all of whose facts hold is
+-- satisfied, a run keeps the number of variables, and the actions of a plan over the domains are so behind each index and at it. By the laws of `apply`, and
+-- by list induction. Assumes nothing.
+use Prim.Native.Nat.{ℕ, zero, suc, _<_}
+use native.Mathlib.Omega.{arith}
+use mathlib.Core.Path.{_≡_, refl, sym, _∙_, ap}
+use mathlib.Core.Logic.{⊎-elim}
+use mathlib.Core.Bool.{Bool, true, false, true≢false, not, _&&_, _||_, and-eq-true-iff, or-true}
+use mathlib.Core.Option.{some}
+use mathlib.Core.List.{List, [], _∷_, List·Memᴰ, List·Memᴰ·head, List·Memᴰ·tail, Memᴰ·cast, Memᴰ·append-right}
+use lib.ListN.{length, getD, take, drop, take-append-drop}
+use lib.Seq.{drop-cons, take-take}
+use lib.Dec.{eqb}
+use borrow.Author.Tests.{eqb-true, eq-eqb}
+use Rattle.sas.specs.Task.{Fact, Assignment, State, Action, idle}
+use Rattle.sas.specs.Plan.{holds, satisfies, apply, run, written, may-write}
+use Rattle.sas.specs.between.WellFormed.{Action-formed}
+use Rattle.sas.proofs.FactLaws.{holds-value, satisfies-nothing, satisfies-more}
+use Rattle.sas.proofs.WellFormedLaws.{Actions-formed}
+use Rattle.sas.proofs.ActionLaws.{result-assigned, apply-length, apply-other, apply-holds, written-known}
+use Rattle.sas.proofs.RunLaws.{run-end, run-first}
+use Rattle.reduction.specs.Reduction.{Reduction}
+use Rattle.reduction.specs.Landmark.{step}
+use Rattle.reduction.specs.between.Wanted.{has}
+use Rattle.reduction.specs.between.Course.{touches, held-after, held}
+use Rattle.reduction.proofs.ReductionLaws.{alike-before}
+use Rattle.reduction.proofs.MemberLaws.{or-cases, found, found-passes, has-member, has-no-member}
+
+-- an assignment all of whose facts hold is satisfied
+pub all-satisfied : (s : State) (q : Assignment) → ((f : Fact) → List·Memᴰ f q → holds s f ≡ true) → satisfies s q ≡ true
+all-satisfied s [] h = satisfies-nothing s
+all-satisfied s (f ∷ q) h = satisfies-more s f q (h f (List·Memᴰ·head refl)) ∙ all-satisfied s q (λ g m. h g (List·Memᴰ·tail m))
+
+-- a run keeps the number of variables
+pub run-length : {t : State} (s : State) (p : List Action) → run s p ≡ some t → length t ≡ length s
+run-length {t} s [] h = ap length (sym (run-end s t h))
+run-length s (a ∷ p) h = let (u, first, rest) = run-first s a p h in run-length u p rest ∙ ap length (result-assigned s a first) ∙ apply-length s a
+
+module _ {domains : List ℕ} {p : List Action} (formed : Actions-formed domains p) (i : ℕ) where
+  -- where a plan's actions are over the domains, so are those from an index on
+  pub formed-behind : Actions-formed domains (drop i p)
+  formed-behind a m = formed a (rw take-append-drop at (Memᴰ·append-right (take i p) m))
+
+  -- and so is the one at the index
+  pub step-formed : i < length p → Action-formed domains (step p i)
+  step-formed inside = formed-behind (step p i) (rw (drop-cons p i idle inside) (List·Memᴰ·head refl))
+
+-- of one variable one fact holds
+one-value : (t : State) (f g : Fact) → f .variable ≡ g .variable → holds t f ≡ true → holds t g ≡ true → f ≡ g
+one-value t f g same h k =
+    let value : f .value ≡ g .value = sym (holds-value t f h) ∙ ap (λ x. getD t x 0) same ∙ holds-value t g k in
+    λ i. record { variable = same i; value = value i }
+
+-- a fact of a variable that an action may not write is as before
+untouched-held : (a : Action) (f : Fact) (t : State) → touches a f ≡ false → holds (apply t a) f ≡ holds t f
+unfolding holds touches
+untouched-held a f t h = rw (apply-length t a, apply-other t a (f .variable) other)
+  where
+    other : (g : Fact) → may-write a g → g .variable ≡ f .variable → ⊥
+    other g w same = true≢false (sym (found (λ g. eqb (g .variable) (f .variable)) w (eq-eqb _ _ same)) ∙ h)
+
+-- whether a fact holds after an action, by whether it held before
+pub apply-held : {domains : List ℕ} (a : Action) (f : Fact) (t : State) → Action-formed domains a → length t ≡ length domains
+    → holds (apply t a) f ≡ held-after a f (holds t f)
+unfolding held-after touches
+apply-held {domains} a f t formed fits = by-case (has (written a) f) (touches a f) refl refl
+  where
+    written-holds : (g : Fact) → may-write a g → holds (apply t a) g ≡ true
+    written-holds g w = apply-holds a formed t w (omega (arith, written-known a formed w .variable))
+
+    set-otherwise : (b : Bool) → has (written a) f ≡ false → touches a f ≡ true → holds (apply t a) f ≡ b → b ≡ false
+    set-otherwise false e h k = refl
+    set-otherwise true e h k =
+        let (g, w, same) = found-passes (λ g. eqb (g .variable) (f .variable)) (written a) h in
+        let one : f ≡ g = one-value (apply t a) f g (sym (eqb-true _ _ same)) k (written-holds g w) in
+        absurd (has-no-member (written a) f e (Memᴰ·cast one w))
+
+    by-case : (x y : Bool) → has (written a) f ≡ x → touches a f ≡ y → holds (apply t a) f ≡ (x || not y && holds t f)
+    by-case true y e h = written-holds f (has-member (written a) f e)
+    by-case false true e h = set-otherwise (holds (apply t a) f) e h refl
+    by-case false false e h = untouched-held a f t h
+
+-- where more held before an action, more holds after it
+pub held-more : {x y : Bool} (a : Action) (f : Fact) → (x ≡ true → y ≡ true) → held-after a f x ≡ true → held-after a f y ≡ true
+unfolding held-after
+held-more {x} a f more h =
+    ⊎-elim
+    (λ here. rw here)
+    (λ before. let (untouched, held) = and-eq-true-iff (not (touches a f)) x .0 before in rw (untouched, more held, or-true))
+    (or-cases (has (written a) f) (not (touches a f) && x) h)
+
+module _ (s : State) (p : List Action) (m : Reduction) (f : Fact) (i : ℕ) where
+  -- behind a kept step, by what the step does
+  pub held-kept : getD m i false ≡ true → held s p m f (suc i) ≡ held-after (step p i) f (held s p m f i)
+  unfolding held
+  held-kept up = rw up
+
+  -- behind a struck one as before it
+  pub held-struck : getD m i false ≡ false → held s p m f (suc i) ≡ held s p m f i
+  unfolding held
+  held-struck down = rw down
+
+-- the same decisions before an index, the same facts there
+pub held-alike : (s : State) (p : List Action) (m n : Reduction) (f : Fact) (i : ℕ) → take i m ≡ take i n → held s p m f i ≡ held s p n f i
+unfolding held
+held-alike s p m n f zero same = refl
+held-alike s p m n f (suc i) same =
+    let before : take i m ≡ take i n = sym (take-take i (suc i) m (omega arith)) ∙ ap (take i) same ∙ take-take i (suc i) n (omega arith) in
+    rw (alike-before m n (suc i) i same (omega arith), held-alike s p m n f i before)
