@@ -27,6 +27,13 @@ pub fn put(words: &mut [u32], i: usize, x: u32)
     }
 }
 
+// The wide word at index i.
+pub fn word64(words: &[u64], i: usize) -> u64
+    ensures { λ r. ⌜ r ≡ getD (now (words .entry)) i 0 ⌝ }
+{
+    if i < words.len() { words[i] } else { 0 }
+}
+
 // Writes x at index i, among wide words.
 pub fn put64(words: &mut [u64], i: usize, x: u64)
     ensures { λ _. ⌜ now (words .exit) ≡ set (now (words .entry)) i x ⌝ }

@@ -1,5 +1,5 @@
-// The facts that are wanted behind each step of a plan: those that a flagged step or the goal needs before any step
-// writes them. A search strikes a step only where each of them that the step may write holds already.
-// bits: a word for each step, with a bit for each fact that it may write. hold: the test of such a word in a state.
+// What a search asks at the unflagged steps of a plan, prepared once: which of the facts that a step may write are
+// wanted behind it (a flagged step or the goal needs them before any step writes them), and which are needed there at
+// all. A step is struck only where each wanted one holds already, and kept only where a needed one does not.
+// bits: for each such step a word for either question, with a bit for each fact that the step may write.
 pub mod bits;
-pub mod hold;

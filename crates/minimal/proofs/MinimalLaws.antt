@@ -6,7 +6,7 @@ use mathlib.Core.Path.{_≡_, refl, sym, _∙_, ap}
 use mathlib.Core.Bool.{true, false}
 use mathlib.Core.Option.{none, some}
 use mathlib.Core.List.{List, [], _∷_}
-use lib.ListN.{length}
+use lib.ListN.{length, length-map, length-replicate}
 use borrow.Author.Tests.{lt-ltb, le-ltb}
 use Rattle.refusal.specs.declared.Refusal.{Refusal}
 use Rattle.refusal.specs.declared.Refusal.the-variants.{Unmarked}
@@ -14,8 +14,9 @@ use Rattle.refusal.specs.declared.Verdict.{Verdict}
 use Rattle.refusal.specs.Refusal.{told-refusal, told}
 use Rattle.refusal.specs.Check.{answer}
 use Rattle.refusal.proofs.CheckLaws.{answer-fires, answer-passes, answer-nothing, answer-first, answer-second}
-use Rattle.reduction.specs.Reduction.{Reduction, count, meets}
+use Rattle.reduction.specs.Reduction.{Reduction, count, whole, meets}
 use Rattle.reduction.specs.between.Sound.{Flags-kept}
+use Rattle.reduction.proofs.ReductionLaws.{kept-length, kept-whole}
 use Rattle.reduction.proofs.LandmarksKept.{landmarks-kept}
 use Rattle.tally.specs.declared.Tally.{Tally}
 use Rattle.tally.proofs.TallyLaws.{same-tally}
@@ -26,7 +27,7 @@ use Rattle.plan.specs.declared.check.Answer.{Answer}
 use Rattle.plan.specs.declared.check.Answer.the-variants.{Valid, Refused}
 use Rattle.plan.specs.Valid.{steps}
 use Rattle.plan.specs.Readable.{Readable}
-use Rattle.plan.specs.Checked.{told-answer}
+use Rattle.plan.specs.Checked.{lodged-tally, told-answer}
 use Rattle.plan.proofs.PlanLaws.{passed-readable}
 use Rattle.landmark.specs.Marks.{marks, marked, unmarked}
 use Rattle.landmark.specs.between.Flagged.{Marks, Marks-lodged}
@@ -35,8 +36,11 @@ use Rattle.landmark.proofs.MarkTheorem.{marks-length}
 use Rattle.service.specs.declared.finish.Kept.{Kept}
 use Rattle.service.specs.between.Held.{mask, Leaves}
 use Rattle.service.specs.between.Kept.{Keeps}
-use Rattle.service.specs.Reduced.{room-checks, reduction-checks}
+use Rattle.service.specs.Reduced.{tally-left, room-checks, reduction-checks}
+use Rattle.service.proofs.LodgedLaws.{lodged-valid}
 use Rattle.service.proofs.AnswerLaws.{answers-refused, answers-kept}
+use Rattle.choice.specs.between.Chosen.{most-choices, open-before}
+use Rattle.choice.proofs.ChosenLaws.{open-counted}
 use Rattle.search.specs.between.Told.{Tells, Finds}
 use Rattle.minimal.specs.declared.within.Minimised.{Minimised}
 use Rattle.minimal.specs.Minimised.{unmarked-checks, minimal-checks, minimal-of, Minimises}
@@ -85,6 +89,15 @@ module _ (limit : ℕ) (w l before : List ℕ) (v : Verdict) (given : Answer) (f
     unfolding minimal-checks
     only-unmarked = answer-second (reduction-checks w l (length before)) _ passed
 
+    lodged-is : lodged ≡ lodged-tally w l
+    lodged-is = rw (passed, valid) at (checked .tally)
+
+    -- the tally of the lodged list is that of what nothing is struck from
+    whole-tally : lodged-tally w l ≡ tally-left w l (whole l)
+    whole-tally =
+        let whole-steps : whole l ≡ whole (steps w l) = rw length-map in
+        same-tally _ _ (rw (whole-steps, kept-whole)) (sym (sym (kept-length (whole l) l (length-replicate (length l) true)) ∙ ap length (kept-whole l)))
+
     -- the flags as a reduction of the list
     pub marks-left : Leaves l (marks w l) flags
     marks-left = marks-leave w l flags (rw passed at (checked .flagged))
@@ -120,18 +133,28 @@ module _ (limit : ℕ) (w l before : List ℕ) (v : Verdict) (given : Answer) (f
           refuses-all limit w l before (Unmarked (length l - ones)) r (only-unmarked ∙ fires) refuses
 
       -- or the list is shortened
-      pub minimises : (k left : Kept) (after : List ℕ) → length l - ones ≤ limit → Finds w l (mask l flags) k → Writes l k before left after
+      pub minimises : (k left : Kept) (after : List ℕ) → limit ≤ most-choices → length l - ones ≤ limit → Finds w l (mask l flags) lodged k → Writes l k before left after
           → Minimises limit w l before (record { answer = Valid (left .tally); mask = left .mask; lodged = lodged; marked = ones }) after
       unfolding unmarked-checks
-      minimises k left after h found writes =
-          let kept : Flags-kept (meets (goal w)) (initial w) (steps w l) (mask l flags) = rw (marks-left .same) (marks-kept w l) in
-          let tells : Tells w l (minimal-of w l) k = found .tells readable (marks-left .fits) kept in
+      minimises k left after within h found writes =
+          let few : open-before (marks w l) (length l) ≤ most-choices =
+          omega (arith, rw (marks-length w l) at (open-counted (marks w l)), ones-marked) in
+          let tells : Tells w l (minimal-of w l) k =
+          found .tells
+          (record {
+            readable = readable;
+            fits = marks-left .fits;
+            valid = lodged-valid _ w l passed;
+            flagged = rw (marks-left .same) (marks-kept w l);
+            few = rw (marks-left .same) few;
+          })
+          (lodged-is ∙ whole-tally) in
           let passes : answer (minimal-checks limit w l (length before)) ≡ none =
           only-unmarked ∙ answer-passes _ [] (rw (← others, le-ltb limit (length l - ones) h)) ∙ answer-nothing in
           record {
             answers =
                 answers-kept _ w l (minimal-of w l) before (Valid lodged) (sym passes) lodged (minimal-of w l) after (left .mask .words) (left .tally) refl refl
                 (written-keeps (minimal-of w l) k left after tells writes);
-            lodged = rw passes (rw (passed, valid) at (checked .tally));
+            lodged = rw passes lodged-is;
             marks = rw passes ones-marked;
           }

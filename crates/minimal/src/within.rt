@@ -9,6 +9,8 @@ use search::best::minimal;
 use service::finish::Kept;
 use service::room::check_room;
 use tally::Tally;
+ghost use Prim.Native.Nat.{_≤_};
+ghost use Rattle.choice.specs.between.Chosen.{most-choices};
 ghost use Rattle.minimal.specs.Minimised.{Minimises};
 ghost use Rattle.minimal.specs.between.Written.{Writes, Refuses};
 
@@ -51,8 +53,9 @@ fn write_out(plan: &[u32], kept: Kept, out: &mut [u32]) -> Kept
 }
 
 // Writes what the minimal reduction leaves of a plan to the front of `out`; refuses where more than `limit` steps are
-// unmarked.
-pub fn reduce_within(words: &[u32], plan: &[u32], out: &mut [u32], limit: usize) -> Minimised
+// unmarked. The search has room for so many.
+pub(crate) fn reduce_within(words: &[u32], plan: &[u32], out: &mut [u32], limit: usize) -> Minimised
+    requires { ⌜ limit ≤ most-choices ⌝ }
     ensures { λ r. ⌜ Minimises limit (now (words .entry)) (now (plan .entry)) (now (out .entry)) r (now (out .exit)) ⌝ }
 {
     let checked = mark_lodged(words, plan, check_room(plan.len(), out.len()));
@@ -67,7 +70,7 @@ pub fn reduce_within(words: &[u32], plan: &[u32], out: &mut [u32], limit: usize)
             if limit < unmarked {
                 return refused(Refusal::Unmarked(unmarked));
             }
-            let left = write_out(plan, minimal(words, plan, &flags[..n]), out);
+            let left = write_out(plan, minimal(words, plan, &flags[..n], lodged), out);
             let tally = left.tally;
             let mask = left.mask;
             Minimised {

@@ -1,192 +1,391 @@
--- What each way through the two turns makes of the reduction so far and the best, by the laws of the turns of the search: the code's tests are theirs, and
--- what it calls at the next step is theirs there. What the code calls is a variable here, with what is known of it as a premise. Assumes nothing.
-use Prim.Native.Nat.{ℕ, zero, suc, _+_, _≤_, _<_}
+-- What each way through the two turns makes of the reduction so far and the best, by the laws of the turns of the search: the code's tests are theirs, by what the
+-- rows tell, and what it calls at the next unflagged step is theirs there, since flagged steps are passed. What the code calls is a variable here, with what is known
+-- of it as a premise. Assumes nothing.
+use Prim.Native.Nat.{ℕ, suc, _+_, _-_, _≤_, _<_}
+use native.Mathlib.Numerals.{add-one}
 use native.Mathlib.Omega.{arith}
-use mathlib.Core.Path.{_≡_, refl, sym, _∙_, ap}
-use mathlib.Core.Bool.{Bool, true, false, false≢true}
-use mathlib.Core.List.{List, [], _∷_, _++_}
-use lib.ListN.{length, getD, set, take, drop, drop-of-length-le, List·getD-eq-default}
-use lib.Seq.{drop-drop, drop-set-lt}
-use lib.Dec.{ltb}
-use borrow.Author.Tests.{ltb-true, ltb-false}
-use Rattle.sas.specs.Task.{State}
-use Rattle.sas.specs.Plan.{satisfies, applicable, apply}
-use Rattle.sas.proofs.ActionLaws.{apply-length}
-use Rattle.reduction.specs.Reduction.{Reduction, kept}
-use Rattle.reduction.specs.between.Order.{lower}
-use Rattle.reduction.specs.between.Search.{Tests, bound}
+use mathlib.Core.Path.{_≡_, refl, sym, _∙_, ap, subst}
+use mathlib.Core.Bool.{Bool, true, false, not, _&&_, and-false}
+use mathlib.Core.List.{List, [], _∷_}
+use lib.ListN.{length, getD, set, take, drop, replicate, length-map, length-replicate, drop-of-length-le}
+use lib.Dec.{ltb, eqb}
+use lib.Seq.{drop-cons, getD-take, getD-set-same, take-set-le, length-take-le}
+use lib.Bits.{bitOr}
+use borrow.Author.Tests.{ltb-true, ltb-false, eqb-true, eqb-false, not-true, not-false}
+use Rattle.sas.specs.Task.{idle}
+use Rattle.sas.specs.Plan.{applicable}
+use Rattle.sas.proofs.WellFormedLaws.{Actions-formed}
+use Rattle.reduction.specs.Reduction.{Reduction}
+use Rattle.reduction.specs.Landmark.{step}
+use Rattle.reduction.specs.between.Order.{Contains}
+use Rattle.reduction.specs.between.Search.{Visit, Tests, struck, done, handed, bound}
 use Rattle.reduction.specs.between.Search.Turn.{strike, keep}
+use Rattle.reduction.specs.between.Cuts.{wanted-held, useful, tests}
+use Rattle.reduction.specs.between.Course.{On-course}
+use Rattle.reduction.proofs.TurnLaws.{turns, strike-met, strike-not-lower, keep-end, strike-barred, strike-goes-on, keep-stuck, keep-barred, keep-goes-on}
+use Rattle.reduction.proofs.CourseLaws.{Moves-to, moved, course-handed, course-ends, course-struck, course-done, course-runs}
 use Rattle.reduction.proofs.ReductionLaws.{alike-behind}
-use Rattle.reduction.proofs.TurnLaws.{turns, strike-met, strike-unmet, strike-not-lower, keep-end}
-use Rattle.reduction.proofs.TurnLaws.{strike-flagged, strike-barred, strike-goes-on, keep-stuck, keep-barred, keep-goes-on}
-use Rattle.tally.specs.Tally.{comparison}
-use Rattle.sheet.specs.Decode.{goal, action}
-use Rattle.step.specs.between.Advance.{Advances}
-use Rattle.step.specs.State.{state-size, front}
+use Rattle.tally.specs.Tally.{one-more, comparison}
+use Rattle.sheet.specs.Layout.{cost-word}
+use Rattle.sheet.specs.Decode.{domains, initial, goal, action, task}
+use Rattle.sheet.proofs.Accepted.{accepted-well-formed}
 use Rattle.plan.specs.Valid.{steps}
-use Rattle.plan.proofs.FaultLaws.{drop-next}
-use Rattle.cuts.specs.between.Bits.{strikes}
-use Rattle.service.specs.declared.finish.Kept.{Kept}
+use Rattle.plan.proofs.PlanLaws.{steps-formed}
+use Rattle.cuts.proofs.BitTheorem.{wanted-told, useful-told}
 use Rattle.service.specs.between.Tallied.{is-less}
-use Rattle.search.specs.between.Told.{Tells, Keeps-step, code-tests, visit, Ready, Turn-told}
-use Rattle.search.proofs.SoFarLaws.{tells-lower}
+use Rattle.choice.specs.between.Chosen.{most-choices, open-before}
+use Rattle.choice.specs.between.Packed.{has-all, written-over, Tells-state}
+use Rattle.choice.specs.between.Rows.{strike-row, keep-row, use-row, struck-row, kept-row, costs-before}
+use Rattle.choice.proofs.ChosenLaws.{open-unflagged, open-rises, open-stays, Next-open, next-open}
+use Rattle.choice.proofs.RowTheorem.{strike-row-tells, keep-row-tells, use-row-tells, struck-row-writes, kept-row-writes, cost-tells, costs-long}
+use Rattle.search.specs.declared.chosen.Chosen.{Chosen}
+use Rattle.search.specs.between.Told.{Chooses, Lent, Lent-rows, At-choice, Turn-told}
+use Rattle.search.specs.between.Unpacked.{bit-of}
+use Rattle.search.proofs.SoFarLaws.{chooses-more, chooses-lower}
 
--- what two reductions have from index i on alike they have from the next on
-alike-later : (m g : Reduction) (i : ℕ) → drop i m ≡ drop i g → drop (i + 1) m ≡ drop (i + 1) g
-alike-later m g i same = sym (drop-drop 1 i m) ∙ ap (drop 1) same ∙ drop-drop 1 i g
+-- what the search's laws ask of a list that is lent
+module _ (w l : List ℕ) (flags : Reduction) (lent : Lent w l flags) where
+  pub all-formed : Actions-formed (domains w) (steps w l)
+  all-formed = steps-formed w l (lent .readable .accepted) (lent .readable .known)
 
--- as many values laid over the front of others are the front
-part-laid : (n : ℕ) (s t : List ℕ) → length t ≡ length (take n s) → take n (t ++ drop n s) ≡ t
-part-laid zero s [] h = refl
-part-laid zero s (x ∷ t) h = absurd (omega arith)
-part-laid (suc n) [] [] h = refl
-part-laid (suc n) [] (x ∷ t) h = absurd (omega arith)
-part-laid (suc n) (y ∷ s) [] h = absurd (omega arith)
-part-laid (suc n) (y ∷ s) (x ∷ t) h = ap (λ r. x ∷ r) (part-laid n s t (omega arith))
+  pub starts-sized : length (initial w) ≡ length (domains w)
+  unfolding task
+  starts-sized = accepted-well-formed w (lent .readable .accepted) .initial .complete
 
--- the part of an array that a turn lends is the state that the array holds
-pub lent-front : (w values copy lent : List ℕ) (n : ℕ) → copy ≡ values → n ≡ state-size w → lent ≡ take n copy → lent ≡ front w values
-lent-front w values copy lent n copies fits part = part ∙ rw (copies, fits)
+  steps-long : length (steps w l) ≡ length l
+  steps-long = length-map l (action w)
 
--- a flag that is read as down
-pub unflagged : (up flag : Bool) → up ≡ flag → up ≡ false → flag ≡ false
-unflagged up flag read e = sym read ∙ e
+  pub flags-fit : length flags ≡ length (steps w l)
+  flags-fit = lent .fits ∙ sym steps-long
 
--- a flag that is up is that of a step
-up-inside : (flags : Reduction) (i : ℕ) → getD flags i false ≡ true → i < length flags
-up-inside flags i up = by-case (ltb i (length flags)) refl
-  where
-    by-case : (b : Bool) → ltb i (length flags) ≡ b → i < length flags
-    by-case true e = ltb-true i (length flags) e
-    by-case false e = absurd (false≢true (sym (List·getD-eq-default flags false {n = i} (ltb-false i (length flags) e)) ∙ up))
-
--- the step at index i comes next
-steps-next : (w l : List ℕ) (i : ℕ) → i < length l → steps w (drop i l) ≡ action w (getD l i 0) ∷ steps w (drop (i + 1) l)
-steps-next w l i h = rw (drop-next l i h)
-
--- both turns at index i, as `Turn-told` has one of them
-pub record Both-told (w l : List ℕ) (flags : Reduction) (bits : List ℕ) (i : ℕ) (s : State) (so-far best after : Kept) : Type 0 where
-  pub tells : Ready w l flags → (m b : Reduction) → Tells w l m so-far → drop i m ≡ drop i flags → Tells w l b best
-      → Tells w l (turns (code-tests w l flags bits) (steps w l) (steps w (drop i l)) (visit i s m b)) after
-
-module _ (w l : List ℕ) (flags : Reduction) (bits : List ℕ) (i : ℕ) (s : State) (k best : Kept) where
   abbrev T : Tests
-  T = code-tests w l flags bits
+  T = tests (goal w) (steps w l) flags
 
-  -- a flagged step has only the keeping turn
-  pub flagged-told : (up : Bool) (after : Kept) → up ≡ getD flags i false → up ≡ true → Turn-told w l flags bits keep i s k best after
-      → Both-told w l flags bits i s k best after
-  flagged-told up after read e keeps =
+  abbrev Course : Visit → Type 0
+  Course v = On-course (goal w) (initial w) (steps w l) flags v
+
+  -- both turns at an index that may be flagged are those at the next unflagged step
+  pub record Comes-to (v : Visit) (d : ℕ) : Type 0 where
+    pub at : Visit
+    pub choice : At-choice l flags at d
+    pub next : Next-open flags (v .index) (length l) (at .index)
+    pub course : Course at
+    pub so-far : at .so-far ≡ v .so-far
+    pub best : at .best ≡ v .best
+    pub turned : turns T (steps w l) (drop (v .index) (steps w l)) v ≡ turns T (steps w l) (drop (at .index) (steps w l)) at
+
+  pub comes-to : (v : Visit) (d : ℕ) → v .index ≤ length l → d ≡ open-before flags (v .index) → Course v → Comes-to v d
+  comes-to v d within numbered course = to-next (next-open flags (length l - v .index) (v .index))
+    where
+      to-next : (j : ℕ) × Next-open flags (v .index) (v .index + (length l - v .index)) j → Comes-to v d
+      to-next (j, next) =
+          let end : v .index + (length l - v .index) ≡ length l = omega arith in
+          let moves : Moves-to (goal w) (initial w) (steps w l) flags v j =
+          course-runs (goal w) (initial w) (steps w l) flags (domains w) all-formed starts-sized (lent .valid) (lent .flagged) flags-fit j (next .later)
+          (rw (steps-long, ← end) (next .within)) (next .passed) course in
+          record {
+            at = moved v j (moves .state);
+            choice =
+                record {
+                  within = rw end at (next .within);
+                  unflagged = λ below. next .unflagged (rw end below);
+                  numbered = numbered ∙ sym (open-stays flags (v .index) j (next .later) (next .passed));
+                };
+            next = rw end at next;
+            course = moves .course;
+            so-far = refl;
+            best = refl;
+            turned = moves .turned;
+          }
+
+-- both turns at unflagged step d, as `Turn-told` has one of them
+pub record Both-told (costs needs : List ℕ) (d : ℕ) (state : List ℕ) (so-far best after : Chosen) : Type 0 where
+  pub tells : (w l : List ℕ) (flags : Reduction) (rows : Lent-rows w l flags costs needs) (v : Visit) → At-choice l flags v d
+      → On-course (goal w) (initial w) (steps w l) flags v → Tells-state w l (v .so-far) (v .index) state → Chooses w l flags (v .so-far) so-far → Chooses w l flags (v .best) best
+      → Chooses w l flags (turns (tests (goal w) (steps w l) flags) (steps w l) (drop (v .index) (steps w l)) v) after
+
+-- what the rows and the choices tell at a visit of unflagged step d
+module _ (w l : List ℕ) (flags : Reduction) (costs needs : List ℕ) (rows : Lent-rows w l flags costs needs) (v : Visit) (d : ℕ) (at : At-choice l flags v d)
+    (course : On-course (goal w) (initial w) (steps w l) flags v) (state : List ℕ) (seen : Tells-state w l (v .so-far) (v .index) state) where
+  lent : Lent w l flags
+  lent = rows .lent
+
+  count-told : length costs ≡ open-before flags (length l)
+  count-told =
+      rw (rows .priced)
+      (length-take-le (open-before flags (length l)) (costs-before w l flags (replicate most-choices 0) (length l))
+      (rw (costs-long w l flags (replicate most-choices 0) (length l), length-replicate {A = ℕ} most-choices 0) (lent .few)))
+
+  -- the step is left, or none is
+  step-left : d < length costs → v .index < length l
+  step-left h = by-case (eqb (v .index) (length l)) refl
+    where
+      by-case : (b : Bool) → eqb (v .index) (length l) ≡ b → v .index < length l
+      by-case true e = absurd (omega (arith, count-told, at .numbered, ap (open-before flags) (eqb-true (v .index) (length l) e)))
+      by-case false e = omega (arith, at .within, eqb-false (v .index) (length l) e)
+
+  none-left : length costs ≤ d → v .index ≡ length l
+  none-left h = by-case (ltb (v .index) (length l)) refl
+    where
+      by-case : (b : Bool) → ltb (v .index) (length l) ≡ b → v .index ≡ length l
+      by-case true e =
+          let inside : v .index < length l = ltb-true (v .index) (length l) e in
+          absurd (omega (arith, count-told, at .numbered, open-unflagged flags (v .index) (at .unflagged inside), open-rises flags (suc (v .index)) (length l) inside))
+      by-case false e = omega (arith, at .within, ltb-false (v .index) (length l) e)
+
+  at-end : length costs ≤ d → drop (v .index) (steps w l) ≡ []
+  at-end h = drop-of-length-le (steps w l) {i = v .index} (rw (steps-long w l flags lent) (omega (arith, none-left h)))
+
+  module _ (inside : v .index < length l) where
+    down : getD flags (v .index) false ≡ false
+    down = at .unflagged inside
+
+    inside-steps : v .index < length (steps w l)
+    inside-steps = rw (steps-long w l flags lent) inside
+
+    next-step : drop (v .index) (steps w l) ≡ step (steps w l) (v .index) ∷ drop (v .index + 1) (steps w l)
+    next-step = rw add-one (drop-cons (steps w l) (v .index) idle inside-steps)
+
+    price-told : getD costs d 0 ≡ cost-word w (getD l (v .index) 0)
+    price-told =
+        rw (rows .priced, at .numbered)
+        (getD-take (open-before flags (length l)) (costs-before w l flags (replicate most-choices 0) (length l)) (open-before flags (v .index)) 0
+        (omega (arith, open-unflagged flags (v .index) down, open-rises flags (suc (v .index)) (length l) inside))
+        ∙ cost-tells w l flags (lent .few) (v .index) inside down)
+
+    strike-tested : has-all needs (strike-row (d + 1)) state ≡ wanted-held (goal w) (steps w l) flags v
+    strike-tested =
+        rw (rows .filled, at .numbered)
+        (strike-row-tells w l flags (rows .wanted) (rows .needed) (lent .readable) (lent .few) v course inside down state seen
+        ∙ wanted-told w l flags (rows .wanted) (rows .needed) (lent .readable) (rows .behind) v inside down)
+
+    keep-tested : has-all needs (keep-row (d + 1)) state ≡ applicable (v .state) (step (steps w l) (v .index))
+    keep-tested =
+        rw (rows .filled, at .numbered)
+        (keep-row-tells w l flags (rows .wanted) (rows .needed) (lent .readable) (lent .few) v course inside down state seen)
+
+    use-tested : has-all needs (use-row (d + 1)) state ≡ not (useful (goal w) (steps w l) v)
+    use-tested =
+        rw (rows .filled, at .numbered)
+        (use-row-tells w l flags (rows .wanted) (rows .needed) (lent .readable) (lent .few) v course inside down state seen
+        ∙ useful-told w l flags (rows .wanted) (rows .needed) (lent .readable) (rows .behind) v inside down)
+
+    -- a reduction that decides as the visit did before its index keeps the flagged steps behind it
+    module _ (n : Reduction) (contains : Contains n flags) (alike : take (v .index) n ≡ take (v .index) (v .so-far)) (j : ℕ)
+        (next : Next-open flags (v .index + 1) (length l) j) where
+      passes : Next-open flags (suc (v .index)) (length l) j
+      passes = rw add-one at next
+
+      keeps-passed : (o : ℕ) → v .index < o → o < j → getD n o false ≡ true
+      keeps-passed o above below = contains o (passes .passed o above below)
+
+      struck-written : getD n (v .index) false ≡ false → Tells-state w l n j (written-over needs (struck-row (d + 1)) state)
+      struck-written out =
+          rw (rows .filled, at .numbered)
+          (struck-row-writes w l flags (rows .wanted) (rows .needed) (lent .readable) (lent .few) (v .index) inside down (v .so-far) n j passes keeps-passed alike state seen out)
+
+      kept-written : getD n (v .index) false ≡ true → Tells-state w l n j (written-over needs (kept-row (d + 1)) state)
+      kept-written up =
+          rw (rows .filled, at .numbered)
+          (kept-row-writes w l flags (rows .wanted) (rows .needed) (lent .readable) (lent .few) (v .index) inside down (v .so-far) n j passes keeps-passed alike state seen up)
+
+  -- both turns from the next index on, by what the code's turns make at the next unflagged step
+  goes-on : (x : Visit) (after-state : List ℕ) (so-far best after : Chosen) → x .index ≡ v .index + 1 → v .index < length l
+      → On-course (goal w) (initial w) (steps w l) flags x
+      → ((j : ℕ) → Next-open flags (v .index + 1) (length l) j → Tells-state w l (x .so-far) j after-state)
+      → Chooses w l flags (x .so-far) so-far → Chooses w l flags (x .best) best
+      → Both-told costs needs (d + 1) after-state so-far best after
+      → Chooses w l flags (turns (tests (goal w) (steps w l) flags) (steps w l) (drop (x .index) (steps w l)) x) after
+  goes-on x after-state so-far best after next inside on-course shown kept-told best-told both =
+      let further : d + 1 ≡ open-before flags (x .index) =
+      rw (next, add-one, at .numbered, add-one) (sym (open-unflagged flags (v .index) (at .unflagged inside))) in
+      let comes : Comes-to w l flags lent x (d + 1) = comes-to w l flags lent x (d + 1) (rw next (omega arith)) further on-course in
+      rw (comes .turned)
+      (both .tells w l flags rows (comes .at) (comes .choice) (comes .course) (rw (comes .so-far) (shown (comes .at .index) (subst (λ n. Next-open flags n (length l) (comes .at .index)) next (comes .next))))
+      (rw (comes .so-far) kept-told) (rw (comes .best) best-told))
+
+module _ (costs needs : List ℕ) (d : ℕ) (state : List ℕ) (k best : Chosen) where
+  pub both-told : (first after : Chosen) → Turn-told costs needs strike d state k best first → Turn-told costs needs keep d state k first after
+      → Both-told costs needs d state k best after
+  both-told first after strikes-first then-keeps =
       record {
-        tells = λ ready m b tells same told.
-            let inside : i < length l = omega (arith, up-inside flags i (sym read ∙ e), ready .fits) in
-            rw (steps-next w l i inside, strike-flagged T (steps w l) _ _ (visit i s m b) (sym read ∙ e)) (rw (steps-next w l i inside) at (keeps .tells ready m b tells same told));
+        tells = λ w l flags rows v at course seen tells told.
+            let lent : Lent w l flags = rows .lent in
+            then-keeps .tells w l flags rows (handed v _) (record { within = at .within; unflagged = at .unflagged; numbered = at .numbered })
+            (course-handed (goal w) (initial w) (steps w l) flags (domains w) (all-formed w l flags lent) (starts-sized w l flags lent) (lent .valid) (lent .flagged)
+            (flags-fit w l flags lent) _ course)
+            seen tells (strikes-first .tells w l flags rows v at course seen tells told);
       }
 
-  pub both-told : (first after : Kept) → Turn-told w l flags bits strike i s k best first → Turn-told w l flags bits keep i s k first after
-      → Both-told w l flags bits i s k best after
-  both-told first after strikes-first then-keeps =
-      record { tells = λ ready m b tells same told. then-keeps .tells ready m _ tells same (strikes-first .tells ready m b tells same told) }
-
   -- no step is left
-  module _ (over : length l ≤ i) where
-    none-left : steps w (drop i l) ≡ []
-    none-left = rw (drop-of-length-le l over)
-
-    pub kept-to-end : Turn-told w l flags bits keep i s k best best
-    kept-to-end = record { tells = λ ready m b tells same told. rw (none-left, keep-end T (steps w l) (visit i s m b)) told }
+  module _ (over : length costs ≤ d) where
+    pub kept-to-end : Turn-told costs needs keep d state k best best
+    kept-to-end =
+        record {
+          tells = λ w l flags rows v at course seen tells told.
+              rw (at-end w l flags costs needs rows v d at course state seen over, keep-end (tests (goal w) (steps w l) flags) (steps w l) v) told;
+        }
 
     module _ (low : Bool) (compared : low ≡ is-less (comparison (k .tally) (best .tally))) where
-      lower-told : Ready w l flags → (m b : Reduction) → Tells w l m k → Tells w l b best → lower (kept m (steps w l)) (kept b (steps w l)) ≡ low
-      lower-told ready m b tells told = sym (tells-lower w l m b k best (ready .readable) tells told) ∙ sym compared
-
-      pub not-lower-at-end : low ≡ false → Turn-told w l flags bits strike i s k best best
+      pub not-lower-at-end : low ≡ false → Turn-told costs needs strike d state k best best
       not-lower-at-end e =
           record {
-            tells = λ ready m b tells same told.
-                rw (none-left, strike-not-lower T (steps w l) (visit i s m b) (lower-told ready m b tells told ∙ e)) told;
+            tells = λ w l flags rows v at course seen tells told.
+                rw (
+                  at-end w l flags costs needs rows v d at course state seen over,
+                  strike-not-lower (tests (goal w) (steps w l) flags) (steps w l) v
+                      (sym (chooses-lower w l flags (v .so-far) (v .best) k best (rows .lent .readable) tells told) ∙ sym compared ∙ e),
+                ) told;
           }
 
-      module _ (is-lower : low ≡ true) (met : Bool) (lent : State) (fronts : lent ≡ s) (goal-met : met ≡ satisfies lent (goal w)) where
-        pub unmet-at-end : met ≡ false → Turn-told w l flags bits strike i s k best best
-        unmet-at-end e =
-            record {
-              tells = λ ready m b tells same told. rw (none-left, strike-unmet T (steps w l) (visit i s m b) (rw fronts at (sym goal-met ∙ e))) told;
-            }
+      -- the goal holds there: what it needs was asked for before
+      pub lower-at-end : low ≡ true → Turn-told costs needs strike d state k best k
+      lower-at-end e =
+          record {
+            tells = λ w l flags rows v at course seen tells told.
+                let lent : Lent w l flags = rows .lent in
+                let ends = course-ends (goal w) (initial w) (steps w l) flags (domains w) (all-formed w l flags lent) (starts-sized w l flags lent) (lent .valid)
+                (lent .flagged) (flags-fit w l flags lent)
+                (none-left w l flags costs needs rows v d at course state seen over ∙ sym (steps-long w l flags lent)) course in
+                rw (
+                  at-end w l flags costs needs rows v d at course state seen over,
+                  strike-met (tests (goal w) (steps w l) flags) (steps w l) v
+                      (sym (chooses-lower w l flags (v .so-far) (v .best) k best (rows .lent .readable) tells told) ∙ sym compared ∙ e) ends,
+                ) tells;
+          }
 
-        pub met-at-end : met ≡ true → Turn-told w l flags bits strike i s k best k
-        met-at-end e =
-            record {
-              tells = λ ready m b tells same told.
-                  rw (none-left, strike-met T (steps w l) (visit i s m b) (lower-told ready m b tells told ∙ is-lower) (rw fronts at (sym goal-met ∙ e))) tells;
-            }
+  -- step d is left
+  module _ (some : d < length costs) where
+    module _ (may : Bool) (r : ℕ) (row : r ≡ strike-row (d + 1)) (tested : may ≡ has-all needs r state) where
+      tested-row : may ≡ has-all needs (strike-row (d + 1)) state
+      tested-row = rw row at tested
 
-  -- the step at index i is left
-  module _ (h : i < length l) where
-    -- a striking turn
-    module _ (may : Bool) (lent : State) (fronts : lent ≡ s) (tested : may ≡ strikes w l bits i lent) where
-      pub not-struck : may ≡ false → Turn-told w l flags bits strike i s k best best
+      pub not-struck : may ≡ false → Turn-told costs needs strike d state k best best
       not-struck e =
           record {
-            tells = λ ready m b tells same told. rw (steps-next w l i h, strike-barred T (steps w l) _ _ (visit i s m b) (rw fronts at (sym tested ∙ e))) told;
+            tells = λ w l flags rows v at course seen tells told.
+                let inside : v .index < length l = step-left w l flags costs needs rows v d at course state seen some in
+                rw (
+                  next-step w l flags costs needs rows v d at course state seen inside,
+                  strike-barred (tests (goal w) (steps w l) flags) (steps w l) _ _ v
+                      (sym (strike-tested w l flags costs needs rows v d at course state seen inside) ∙ sym tested-row ∙ e),
+                ) told;
           }
 
-      pub struck : (after : Kept) → getD flags i false ≡ false → may ≡ true → Both-told w l flags bits (i + 1) s k best after
-          → Turn-told w l flags bits strike i s k best after
-      struck after down e both =
+      pub struck-on : (r′ : ℕ) (next : List ℕ) (after : Chosen) → may ≡ true → r′ ≡ struck-row (d + 1) → next ≡ written-over needs r′ state
+          → Both-told costs needs (d + 1) next k best after → Turn-told costs needs strike d state k best after
+      struck-on r′ next after e row′ writes both =
           record {
-            tells = λ ready m b tells same told.
-                rw (steps-next w l i h, strike-goes-on T (steps w l) _ _ (visit i s m b) down (rw fronts at (sym tested ∙ e)))
-                (both .tells ready m b tells (alike-later m flags i same) told);
+            tells = λ w l flags rows v at course seen tells told.
+                let inside : v .index < length l = step-left w l flags costs needs rows v d at course state seen some in
+                let may-be : wanted-held (goal w) (steps w l) flags v ≡ true =
+                sym (strike-tested w l flags costs needs rows v d at course state seen inside) ∙ sym tested-row ∙ e in
+                let lent : Lent w l flags = rows .lent in
+                let on-course = course-struck (goal w) (initial w) (steps w l) flags (domains w) (all-formed w l flags lent) (starts-sized w l flags lent) (lent .valid)
+                (lent .flagged) (flags-fit w l flags lent) (inside-steps w l flags costs needs rows v d at course state seen inside) (at .unflagged inside) may-be course in
+                rw (
+                  next-step w l flags costs needs rows v d at course state seen inside,
+                  strike-goes-on (tests (goal w) (steps w l) flags) (steps w l) _ _ v (at .unflagged inside) may-be,
+                )
+                (goes-on w l flags costs needs rows v d at course state seen (struck v) next k best after refl inside on-course
+                (λ j following.
+                rw (writes, row′)
+                (struck-written w l flags costs needs rows v d at course state seen inside (v .so-far) (tells .flagged) refl j following
+                (alike-behind (v .so-far) flags (v .index) (v .index) (course .visited .to-come) (omega arith) ∙ at .unflagged inside)))
+                tells told both);
           }
 
-    -- a keeping turn
-    module _ (with : Kept) (low : Bool) (keeps : Keeps-step w l flags i k with) (compared : low ≡ is-less (comparison (with .tally) (best .tally))) where
-      abbrev bound-at : Reduction → Reduction → Bool
-      bound-at m b = bound (steps w l) (visit i s m b)
+    -- a keeping turn, with the step kept too
+    module _ (with : Chosen) (low : Bool) (adds : with .tally ≡ one-more (k .tally) (getD costs d 0)) (raises : with .bits ≡ bitOr (k .bits) (bit-of d))
+        (compared : low ≡ is-less (comparison (with .tally) (best .tally))) where
+      module _ (w l : List ℕ) (flags : Reduction) (rows : Lent-rows w l flags costs needs) (v : Visit) (at : At-choice l flags v d)
+          (course : On-course (goal w) (initial w) (steps w l) flags v) (seen : Tells-state w l (v .so-far) (v .index) state)
+          (tells : Chooses w l flags (v .so-far) k) (told : Chooses w l flags (v .best) best) where
+        here-inside : v .index < length l
+        here-inside = step-left w l flags costs needs rows v d at course state seen some
 
-      module _ (ready : Ready w l flags) (m b : Reduction) (tells : Tells w l m k) (same : drop i m ≡ drop i flags) (told : Tells w l b best) where
-        with-told : Tells w l (set m i true) with
-        with-told = keeps .tells (ready .readable) h m tells (alike-behind m flags i i same (omega arith))
+        with-told : Chooses w l flags (set (v .so-far) (v .index) true) with
+        with-told =
+            chooses-more w l flags (v .so-far) (v .index) (getD costs d 0) k with (rows .lent .readable) (rows .lent .few) here-inside (at .unflagged here-inside)
+            (course .visited .to-come) (price-told w l flags costs needs rows v d at course state seen here-inside) adds (rw (at .numbered) at raises) tells
 
-        lower-with : bound-at m b ≡ low
+        bound-told : bound (steps w l) v ≡ low
         unfolding bound
-        lower-with = sym (tells-lower w l (set m i true) b with best (ready .readable) with-told told) ∙ sym compared
+        bound-told = sym (chooses-lower w l flags _ (v .best) with best (rows .lent .readable) with-told told) ∙ sym compared
 
-        later-alike : drop (i + 1) (set m i true) ≡ drop (i + 1) flags
-        later-alike = drop-set-lt (i + 1) m i true (omega arith) ∙ alike-later m flags i same
+        may-keep-told : {x y : Bool} → bound (steps w l) v ≡ x → useful (goal w) (steps w l) v ≡ y → tests (goal w) (steps w l) flags .may-keep v ≡ (x && y)
+        may-keep-told p q = rw (at .unflagged here-inside, p, q)
 
-      pub not-lower-kept : low ≡ false → Turn-told w l flags bits keep i s k best best
+        abbrev ahead : drop (v .index) (steps w l) ≡ step (steps w l) (v .index) ∷ drop (v .index + 1) (steps w l)
+        ahead = next-step w l flags costs needs rows v d at course state seen here-inside
+
+      pub not-lower-kept : low ≡ false → Turn-told costs needs keep d state k best best
       not-lower-kept e =
           record {
-            tells = λ ready m b tells same told.
-                rw (steps-next w l i h, keep-barred T (steps w l) _ _ (visit i s m b) (lower-with ready m b tells same told ∙ e)) told;
+            tells = λ w l flags rows v at course seen tells told.
+                rw (
+                  ahead w l flags rows v at course seen tells told,
+                  keep-barred (tests (goal w) (steps w l) flags) (steps w l) _ _ v
+                      (may-keep-told w l flags rows v at course seen tells told (bound-told w l flags rows v at course seen tells told ∙ e) refl),
+                ) told;
           }
 
-      module _ (is-lower : low ≡ true) (a : ℕ) (done : Bool) (lent left : State) (fronts : lent ≡ s) (read : a ≡ getD l i 0) (advances : Advances w lent a done left) where
-        applied : done ≡ applicable s (action w (getD l i 0))
-        applied = advances .applied ∙ rw (read, fronts)
+      module _ (able : Bool) (r : ℕ) (row : r ≡ keep-row (d + 1)) (tested : able ≡ has-all needs r state) where
+        able-tested : able ≡ has-all needs (keep-row (d + 1)) state
+        able-tested = rw row at tested
 
-        pub not-done : done ≡ false → Turn-told w l flags bits keep i s k best best
-        not-done e =
+        pub not-able : able ≡ false → Turn-told costs needs keep d state k best best
+        not-able e =
             record {
-              tells = λ ready m b tells same told.
-                  rw (steps-next w l i h, keep-stuck T (steps w l) _ _ (visit i s m b) (sym applied ∙ e)) told;
-            }
-
-        -- the step was done at the front of a copy of the values
-        pub kept-on : (n : ℕ) (copy : List ℕ) (after : Kept) → done ≡ true → n ≡ state-size w → lent ≡ take n copy
-            → Both-told w l flags bits (i + 1) (front w (left ++ drop n copy)) with best after → Turn-told w l flags bits keep i s k best after
-        kept-on n copy after e fits part both =
-            let applied-there : left ≡ apply lent (action w a) = rw e at (advances .state) in
-            let laid : front w (left ++ drop n copy) ≡ left = rw (← fits) (part-laid n copy left (rw (applied-there, apply-length) (ap length part))) in
-            let applies : front w (left ++ drop n copy) ≡ apply s (action w (getD l i 0)) = laid ∙ applied-there ∙ rw (read, fronts) in
-            record {
-              tells = λ ready m b tells same told.
+              tells = λ w l flags rows v at course seen tells told.
                   rw (
-                    steps-next w l i h,
-                    keep-goes-on T (steps w l) _ _ (visit i s m b) (sym applied ∙ e) (lower-with ready m b tells same told ∙ is-lower),
-                    ← applies,
-                  )
-                  (both .tells ready (set m i true) b (with-told ready m b tells same told) (later-alike ready m b tells same told) told);
+                    ahead w l flags rows v at course seen tells told,
+                    keep-stuck (tests (goal w) (steps w l) flags) (steps w l) _ _ v
+                        (sym (keep-tested w l flags costs needs rows v d at course state seen (here-inside w l flags rows v at course seen tells told)) ∙ sym able-tested ∙ e),
+                  ) told;
             }
+
+        module _ (idle-there : Bool) (u : ℕ) (use-at : u ≡ use-row (d + 1)) (asked : idle-there ≡ has-all needs u state) where
+          use-told : idle-there ≡ has-all needs (use-row (d + 1)) state
+          use-told = rw use-at at asked
+
+          pub not-useful : idle-there ≡ true → Turn-told costs needs keep d state k best best
+          not-useful e =
+              record {
+                tells = λ w l flags rows v at course seen tells told.
+                    rw (
+                      ahead w l flags rows v at course seen tells told,
+                      keep-barred (tests (goal w) (steps w l) flags) (steps w l) _ _ v
+                          (may-keep-told w l flags rows v at course seen tells told refl
+                          (not-true _ (sym (use-tested w l flags costs needs rows v d at course state seen (here-inside w l flags rows v at course seen tells told)) ∙ sym use-told ∙ e))
+                          ∙ and-false (bound (steps w l) v)),
+                    ) told;
+              }
+
+          pub kept-on : (r′ : ℕ) (next : List ℕ) (after : Chosen) → low ≡ true → able ≡ true → idle-there ≡ false → r′ ≡ kept-row (d + 1)
+              → next ≡ written-over needs r′ state → Both-told costs needs (d + 1) next with best after → Turn-told costs needs keep d state k best after
+          kept-on r′ next after is-lower can of-use row′ writes both =
+              record {
+                tells = λ w l flags rows v at course seen tells told.
+                    let inside : v .index < length l = here-inside w l flags rows v at course seen tells told in
+                    let can-be : applicable (v .state) (step (steps w l) (v .index)) ≡ true =
+                    sym (keep-tested w l flags costs needs rows v d at course state seen inside) ∙ sym able-tested ∙ can in
+                    let is-useful : useful (goal w) (steps w l) v ≡ true =
+                    not-false _ (sym (use-tested w l flags costs needs rows v d at course state seen inside) ∙ sym use-told ∙ of-use) in
+                    let lent : Lent w l flags = rows .lent in
+                    let on-course = course-done (goal w) (initial w) (steps w l) flags (domains w) (all-formed w l flags lent) (starts-sized w l flags lent) (lent .valid)
+                    (lent .flagged) (flags-fit w l flags lent) (inside-steps w l flags costs needs rows v d at course state seen inside) can-be course in
+                    rw (
+                      ahead w l flags rows v at course seen tells told,
+                      keep-goes-on (tests (goal w) (steps w l) flags) (steps w l) _ _ v can-be
+                          (may-keep-told w l flags rows v at course seen tells told (bound-told w l flags rows v at course seen tells told ∙ is-lower) is-useful),
+                    )
+                    (goes-on w l flags costs needs rows v d at course state seen (done (step (steps w l) (v .index)) v) next with best after refl inside on-course
+                    (λ j following.
+                    rw (writes, row′)
+                    (kept-written w l flags costs needs rows v d at course state seen inside (set (v .so-far) (v .index) true)
+                    (with-told w l flags rows v at course seen tells told .flagged)
+                    (take-set-le (v .index) (v .so-far) (v .index) true (omega arith)) j following
+                    (getD-set-same (v .so-far) (v .index) true false (omega (arith, tells .fits)))))
+                    (with-told w l flags rows v at course seen tells told) told both);
+              }

@@ -1,19 +1,27 @@
 // The search from the starting values.
+use crate::chosen::Chosen;
 use crate::turns::keep;
 use crate::turns::strike;
-use access::flag;
-use cuts::bits::wanted_bits;
+use crate::unpack::unpack;
+use choice::packed::ROW;
+use choice::packed::ROWS;
+use choice::packed::start;
+use choice::packed::write_row;
+use choice::rows::MOST;
+use choice::rows::STRUCK;
+use choice::rows::fill_rows;
+use cuts::bits::bits_behind;
 use mask::mask_of;
 use plan::limits::Plan;
 use service::finish::Kept;
-use service::held::all_kept;
 use service::tallied::tally_of;
-use step::state::initial;
+use tally::Tally;
 ghost use mathlib.Core.Path.{_≡_};
+ghost use Prim.Native.Nat.{_+_, _-_, _≤_, _^_};
 ghost use lib.ListN.{length};
-ghost use Rattle.reduction.specs.Reduction.{whole};
 ghost use Rattle.plan.specs.Readable.{Readable};
-ghost use Rattle.search.specs.between.Told.{Tells, Finds};
+ghost use Rattle.choice.specs.between.Chosen.{most-choices};
+ghost use Rattle.search.specs.between.Told.{Tells, Begins, Finds};
 
 // The tally and the mask of the reduction that flags are.
 fn kept_of(words: &[u32], plan: &[u32], flags: &[bool]) -> Kept
@@ -27,29 +35,49 @@ fn kept_of(words: &[u32], plan: &[u32], flags: &[bool]) -> Kept
     }
 }
 
-// The tally and the mask of the lodged plan.
-fn lodged(words: &[u32], plan: &[u32]) -> Kept
-    ensures { λ r. ⌜ (Readable (now (words .entry)) (now (plan .entry))
-        → Tells (now (words .entry)) (now (plan .entry)) (whole (now (plan .entry))) r) ⌝ }
+// The choices that keep all of `count` unflagged steps.
+fn all_chosen(count: usize) -> u64
+    requires { ⌜ count ≤ most-choices ⌝ }
+    ensures { λ r. ⌜ r ≡ 2 ^ (count + 1) - 1 ⌝ }
+{
+    (1 << (count + 1)) - 1
+}
+
+// The choices of the minimal reduction of a plan: the search begins with the flagged steps kept and the lodged plan as
+// the best. Of too many unflagged steps it keeps all.
+fn choose(words: &[u32], plan: &[u32], flags: &[bool], lodged: Tally) -> u64
+    ensures { λ r. ⌜ Begins (now (words .entry)) (now (plan .entry)) (now (flags .entry)) lodged r ⌝ }
+{
+    let behind = bits_behind(words, plan, flags);
+    let wanted = behind.wanted;
+    let needed = behind.needed;
+    let mut costs = [0u32; MOST];
+    let mut rows = [0u8; ROWS * ROW];
+    let count = fill_rows(words, plan, flags, &wanted, &needed, &mut costs, &mut rows);
+    if MOST < count {
+        return 0;
+    }
+    let kept = Chosen {
+        tally: tally_of(words, plan, flags),
+        bits: 1,
+    };
+    let whole = Chosen {
+        tally: lodged,
+        bits: all_chosen(count),
+    };
+    let state = write_row(&rows, STRUCK, &start(words));
+    let struck = strike(&costs[..count], &rows, 0, &state, kept, whole);
+    let best = keep(&costs[..count], &rows, 0, &state, kept, struck);
+    best.bits
+}
+
+// The minimal reduction of a valid plan with this tally, of which `flags` has steps that every valid reduction keeps.
+pub fn minimal(words: &[u32], plan: &[u32], flags: &[bool], lodged: Tally) -> Kept
+    ensures { λ r. ⌜ Finds (now (words .entry)) (now (plan .entry)) (now (flags .entry)) lodged r ⌝ }
 {
     if Plan::STEPS < plan.len() {
         return kept_of(words, plan, &[]);
     }
-    let all = all_kept(plan.len());
-    kept_of(words, plan, &all[..plan.len()])
-}
-
-// The minimal reduction of a plan, of which `flags` has steps that every valid reduction keeps.
-pub fn minimal(words: &[u32], plan: &[u32], flags: &[bool]) -> Kept
-    ensures { λ r. ⌜ Finds (now (words .entry)) (now (plan .entry)) (now (flags .entry)) r ⌝ }
-{
-    let bits = wanted_bits(words, plan, flags);
-    let kept = kept_of(words, plan, flags);
-    let whole = lodged(words, plan);
-    let values = initial(words);
-    if flag(flags, 0) {
-        return keep(words, plan, flags, &bits, 0, &values, kept, whole);
-    }
-    let struck = strike(words, plan, flags, &bits, 0, &values, kept, whole);
-    keep(words, plan, flags, &bits, 0, &values, kept, struck)
+    let kept = unpack(flags, choose(words, plan, flags, lodged));
+    kept_of(words, plan, &kept[..plan.len()])
 }

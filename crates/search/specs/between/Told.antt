@@ -1,22 +1,29 @@
--- A reduction on its way through the search, told by its tally and its mask, and what the two turns make of it. Not to
--- be believed: proofs/BestLaws ties it to `minimal` of `reduction`. Assumes nothing.
-use Prim.Native.Nat.{ℕ, _<_}
+-- A reduction on its way through the search, told by its tally and its choices, and what the two turns make of it. Not
+-- to be believed: proofs/BestLaws ties it to `minimal` of `reduction`. Assumes nothing.
+use Prim.Native.Nat.{ℕ, _*_, _≤_, _<_}
 use mathlib.Core.Path.{_≡_}
 use mathlib.Core.Bool.{true, false}
 use mathlib.Core.List.{List}
-use lib.ListN.{length, getD, set, drop}
-use Rattle.sas.specs.Task.{State}
-use Rattle.reduction.specs.Reduction.{Reduction, meets}
+use lib.ListN.{length, getD, take, drop, replicate}
+use Rattle.reduction.specs.Reduction.{Reduction, whole, valid-for, meets}
+use Rattle.reduction.specs.between.Order.{Contains}
 use Rattle.reduction.specs.between.Found.{minimal}
-use Rattle.reduction.specs.between.Search.{Visit, Tests, Turn, turn, bound}
+use Rattle.reduction.specs.between.Search.{Visit, Turn, turn}
 use Rattle.reduction.specs.between.Sound.{Flags-kept}
+use Rattle.reduction.specs.between.Cuts.{tests}
+use Rattle.reduction.specs.between.Course.{On-course}
+use Rattle.tally.specs.declared.Tally.{Tally}
 use Rattle.mask.specs.Mask.{mask-words}
 use Rattle.sheet.specs.Decode.{initial, goal}
 use Rattle.plan.specs.Readable.{Readable}
 use Rattle.plan.specs.Valid.{steps}
-use Rattle.cuts.specs.between.Bits.{wanted-test}
+use Rattle.cuts.specs.between.Bits.{Told-behind}
 use Rattle.service.specs.declared.finish.Kept.{Kept}
 use Rattle.service.specs.Reduced.{tally-left}
+use Rattle.choice.specs.between.Chosen.{most-choices, open-before, chosen}
+use Rattle.choice.specs.between.Packed.{row-bytes, most-rows, Tells-state}
+use Rattle.choice.specs.between.Rows.{rows-before, costs-before}
+use Rattle.search.specs.declared.chosen.Chosen.{Chosen}
 
 -- k tells the reduction m of the list l
 pub record Tells (w l : List ℕ) (m : Reduction) (k : Kept) : Type 0 where
@@ -24,38 +31,53 @@ pub record Tells (w l : List ℕ) (m : Reduction) (k : Kept) : Type 0 where
   pub counted : k .tally ≡ tally-left w l m
   pub told-by : k .mask .words ≡ mask-words m
 
--- one step more is kept: that at index i, which is kept already where it is flagged, and only there
-pub record Keeps-step (w l : List ℕ) (flags : Reduction) (i : ℕ) (so-far after : Kept) : Type 0 where
-  pub tells : Readable w l → i < length l → (m : Reduction) → Tells w l m so-far → getD m i false ≡ getD flags i false
-      → Tells w l (set m i true) after
+-- c tells the reduction m of the list l, which keeps the flagged steps
+pub record Chooses (w l : List ℕ) (flags m : Reduction) (c : Chosen) : Type 0 where
+  pub fits : length m ≡ length l
+  pub flagged : Contains m flags
+  pub counted : c .tally ≡ tally-left w l m
+  pub told-by : c .bits ≡ chosen flags m (length l)
 
--- what the code tests: the flags and the goal, the wanted facts where it strikes, and the bound where it keeps
-abbrev pub code-tests : List ℕ → List ℕ → Reduction → List ℕ → Tests
-code-tests w l flags bits =
-    record {
-      flags = flags;
-      ends = meets (goal w);
-      may-strike = wanted-test w l bits;
-      may-keep = bound (steps w l);
-    }
-
--- the visit of index i in the state s, with m kept so far and b the best
-abbrev pub visit : ℕ → State → Reduction → Reduction → Visit
-visit i s m b = record { index = i; state = s; so-far = m; best = b }
-
--- what the turns are lent: a list that can be read, and a flag for each of its steps
-pub record Ready (w l : List ℕ) (flags : Reduction) : Type 0 where
+-- what the search is lent: a list that can be read and is valid, and flags of steps that every valid reduction keeps
+pub record Lent (w l : List ℕ) (flags : Reduction) : Type 0 where
   pub readable : Readable w l
   pub fits : length flags ≡ length l
+  pub valid : valid-for (meets (goal w)) (initial w) (steps w l) ≡ true
+  pub flagged : Flags-kept (meets (goal w)) (initial w) (steps w l) flags
+  pub few : open-before flags (length l) ≤ most-choices
 
--- a turn at index i in the state s: of what is kept so far, from i on the flagged steps, and of the best it makes what
--- the turn of the search makes of them
-pub record Turn-told (w l : List ℕ) (flags : Reduction) (bits : List ℕ) (t : Turn) (i : ℕ) (s : State)
-    (so-far best after : Kept) : Type 0 where
-  pub tells : Ready w l flags → (m b : Reduction) → Tells w l m so-far → drop i m ≡ drop i flags → Tells w l b best
-      → Tells w l (turn (code-tests w l flags bits) (steps w l) t (steps w (drop i l)) (visit i s m b)) after
+-- the rows of its unflagged steps, and their costs
+pub record Lent-rows (w l : List ℕ) (flags : Reduction) (costs rows : List ℕ) : Type 0 where
+  pub lent : Lent w l flags
+  pub wanted : List ℕ
+  pub needed : List ℕ
+  pub behind : Told-behind w l flags wanted needed
+  pub filled : rows ≡ rows-before w l flags wanted needed (replicate (most-rows * row-bytes) 0) (length l)
+  pub priced : costs
+      ≡ take (open-before flags (length l)) (costs-before w l flags (replicate most-choices 0) (length l))
 
--- what is found is the minimal reduction, for any flags of steps that every valid reduction keeps
-pub record Finds (w l : List ℕ) (flags : Reduction) (after : Kept) : Type 0 where
-  pub tells : Readable w l → length flags ≡ length l → Flags-kept (meets (goal w)) (initial w) (steps w l) flags
+-- a visit of unflagged step d, or behind the last
+pub record At-choice (l : List ℕ) (flags : Reduction) (v : Visit) (d : ℕ) : Type 0 where
+  pub within : v .index ≤ length l
+  pub unflagged : v .index < length l → getD flags (v .index) false ≡ false
+  pub numbered : d ≡ open-before flags (v .index)
+
+-- a turn at unflagged step d in a state: of what is kept so far and of the best it makes what the turn of the search
+-- makes of them, whatever list has these rows
+pub record Turn-told (costs rows : List ℕ) (t : Turn) (d : ℕ) (state : List ℕ) (so-far best after : Chosen) : Type 0
+  where
+    pub tells : (w l : List ℕ) (flags : Reduction) → Lent-rows w l flags costs rows → (v : Visit)
+        → At-choice l flags v d → On-course (goal w) (initial w) (steps w l) flags v
+        → Tells-state w l (v .so-far) (v .index) state
+        → Chooses w l flags (v .so-far) so-far → Chooses w l flags (v .best) best
+        → Chooses w l flags (turn (tests (goal w) (steps w l) flags) (steps w l) t (drop (v .index) (steps w l)) v) after
+
+-- the choices are those of the minimal reduction, where the lodged plan's tally is told
+pub record Begins (w l : List ℕ) (flags : Reduction) (lodged : Tally) (bits : ℕ) : Type 0 where
+  pub found : Lent w l flags → lodged ≡ tally-left w l (whole l)
+      → bits ≡ chosen flags (minimal (meets (goal w)) (initial w) (steps w l)) (length l)
+
+-- what is found is the minimal reduction
+pub record Finds (w l : List ℕ) (flags : Reduction) (lodged : Tally) (after : Kept) : Type 0 where
+  pub tells : Lent w l flags → lodged ≡ tally-left w l (whole l)
       → Tells w l (minimal (meets (goal w)) (initial w) (steps w l)) after

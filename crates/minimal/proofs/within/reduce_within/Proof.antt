@@ -63,7 +63,7 @@ same-length : tie.Need-same-length
 same-length c = search needs
 
 returns-3 : tie.Need-returns-3
-returns-3 c = minimises _ _ _ _ _ _ _ (c .before .before .before .before .before .before .before .before .before .before .before .before .before .before .before .before .before .check-room .ensures) (c .before .before .before .before .before .before .before .before .before .before .before .before .before .before .before .before .mark-lodged .ensures) _ (c .before .before .before .before .before .before .before .before .before .before .before .before .before .answer2 .given .1) _ _ (c .before .before .before .before .before .before .before .before .before .before .mask-of .ensures) (c .before .before .before .before .before .before .before .before .before .count .ensures) _ _ _ (c .before .before .before .before .before .before .before .before .if1 .left) (c .before .before .before .before .before .before .minimal .ensures) (c .before .before .before .before .write-out .ensures)
+returns-3 c = minimises _ _ _ _ _ _ _ (c .before .before .before .before .before .before .before .before .before .before .before .before .before .before .before .before .before .check-room .ensures) (c .before .before .before .before .before .before .before .before .before .before .before .before .before .before .before .before .mark-lodged .ensures) _ (c .before .before .before .before .before .before .before .before .before .before .before .before .before .answer2 .given .1) _ _ (c .before .before .before .before .before .before .before .before .before .before .mask-of .ensures) (c .before .before .before .before .before .before .before .before .before .count .ensures) _ _ _ (c .before .before .before .before .before .before .before .before .before .before .before .before .before .before .before .before .before .before .before .before .before .pre) (c .before .before .before .before .before .before .before .before .if1 .left) (c .before .before .before .before .before .before .minimal .ensures) (c .before .before .before .before .write-out .ensures)
 
 pub reduce-within-spec : {M : Type 1} → statement M
 reduce-within-spec =
