@@ -6,11 +6,13 @@
 //! - `makers`: tasks, sheets, faults of sheets and plans, from a seeded generator;
 //! - `cases`: what is called with what, in kinds of random cases and in the worked lists;
 //! - `comparison`: the library, the programs and the rules against each other, and its own test;
-//! - `bench`: times, instructions and stack.
+//! - `bench`: times, instructions and stack;
+//! - `hunt`: a search for lists that the exact reduction is slow on.
 
 mod bench;
 mod cases;
 mod comparison;
+mod hunt;
 mod makers;
 mod options;
 mod rules;
@@ -40,6 +42,7 @@ fn run(Options { mode, seed, built }: &Options) -> bool {
         Mode::Bench => bench::run(built),
         Mode::Instructions => bench::count_instructions(),
         Mode::Stack => bench::measure_stack(built),
+        Mode::Hunt(seconds) => hunt::run(built, *seed, seconds),
         Mode::Once(side, plan) => bench::once(side, plan),
     }
 }

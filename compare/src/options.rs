@@ -19,6 +19,8 @@ const USAGE: &str = "usage: compare [--cases N] [--seed S] [--program PATH]...
                                       time the library against Rust versions, and built programs
        compare --instructions         count instructions of the exact reduction, by valgrind
        compare --stack                find the least stack that the exact reduction runs in
+       compare --hunt SECONDS [--seed S] [--program PATH]...
+                                      look for lists that the exact reduction is slow on
        compare --once SIDE FAMILY PLACEMENT STEPS
                                       run the exact reduction once on a plan that --bench has";
 
@@ -43,6 +45,8 @@ pub enum Mode {
     Bench,
     Instructions,
     Stack,
+    /// For so many seconds.
+    Hunt(u64),
     Once(Side, HardPlan),
 }
 
@@ -79,6 +83,7 @@ impl Arguments {
             "--bench" => Mode::Bench,
             "--instructions" => Mode::Instructions,
             "--stack" => Mode::Stack,
+            "--hunt" => Mode::Hunt(self.number()?),
             "--once" => Mode::Once(self.one_of(&SIDES)?, self.plan()?),
             _ => return Err(USAGE.to_string()),
         })

@@ -9,6 +9,8 @@ mod times;
 
 pub use outside::{count_instructions, measure_stack};
 pub use plans::{name, HardPlan, LENGTHS};
+pub use table::MOST_TIME;
+pub use timed::time_of;
 pub use times::run;
 
 use crate::cases::{Call, Memory, Service};

@@ -3,6 +3,7 @@
 
 use super::plans::{name, HardPlan};
 use super::{table, Side, SIDES};
+use crate::cases::Service;
 use crate::comparison::inputs::input_bytes;
 use crate::comparison::programs::Built;
 use crate::makers::families::{Made, FAMILIES};
@@ -43,7 +44,7 @@ pub fn count_instructions() -> bool {
     print_table("Instructions", &["Ratio"], |plan| {
         let [library, rust] = SIDES.map(|side| instructions(side, plan));
         let (library, rust) = (library?, rust?);
-        let ratio = table::ratio(library as f64 / rust as f64);
+        let ratio = table::ratio(Service::Exact, library as f64 / rust as f64);
         Ok(vec![library.to_string(), rust.to_string(), ratio])
     })
 }

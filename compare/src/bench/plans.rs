@@ -1,9 +1,9 @@
 //! The plans that are measured.
 
-use crate::cases::{Case, Service};
+use crate::cases::{Answer, Case, Service};
 use crate::makers::families::{Family, Made, Placement, Shape};
 use crate::makers::{action, fact, Action, Random, Task, Walk};
-use crate::rules::{MAX_STEPS, MAX_UNMARKED, MAX_VARIABLES};
+use crate::rules::{Kept, MAX_STEPS, MAX_UNMARKED, MAX_VARIABLES};
 use std::fmt::Debug;
 
 pub const LENGTHS: [usize; 3] = [60, 128, MAX_STEPS];
@@ -49,9 +49,15 @@ impl HardPlan {
         shape.make(&mut Random::of_case(SEED, hardest(self.family)))
     }
 
+    /// With the answer that is due where the way that the plan is made says it.
     pub fn case(self) -> Case {
-        let Made { task, plan, .. } = self.make();
-        case_of(Service::Exact, &task, &plan)
+        let Made { task, plan, kept } = self.make();
+        let case = case_of(Service::Exact, &task, &plan);
+        let Some(steps) = kept else {
+            return case;
+        };
+        let kept = Kept::of(&plan, &steps, |step| task.cost(plan[step]));
+        case.due(Answer::keeping(kept))
     }
 
     /// What tells it to the program.
@@ -61,13 +67,19 @@ impl HardPlan {
 }
 
 /// The case of the family that has the most turns of 2,000, with its steps in front of 235 marked
-/// ones. Lamps have the same in each.
+/// ones. The first four were chosen by the turns of an earlier search, and stay as they are so that
+/// their rows can be compared with earlier ones. Lamps, the vault and decoys have the same in each.
 fn hardest(family: Family) -> u64 {
     match family {
         Family::Lamps => 1,
         Family::Writers => 1651,
         Family::Covers => 1391,
         Family::Gates => 1947,
+        Family::Dear => 0,
+        Family::Keys => 445,
+        Family::Vault => 1,
+        Family::Decoys => 1,
+        Family::Laden => 461,
     }
 }
 

@@ -3,6 +3,7 @@
 use super::{table, Side, SIDES};
 use crate::cases::{Case, Memory};
 use crate::comparison::by_rules;
+use crate::rules::search;
 use std::hint::black_box;
 use std::time::{Duration, Instant};
 
@@ -39,8 +40,14 @@ impl Timed {
     fn run(&mut self) {
         let call = self.case.call;
         for ((side, memory), best) in self.sides.iter_mut().zip(&mut self.best) {
-            *best = best.min(time_of_call(|| side.answer(call, black_box(memory))));
+            *best = best.min(time_of(|| side.answer(call, black_box(memory))));
         }
+    }
+
+    /// The cell under "Turns": how many the search for the exact reduction takes.
+    pub fn turns(&self) -> String {
+        let Memory { words, plan, .. } = &self.case.lent;
+        search::turns(words, plan).unwrap_or(0).to_string()
     }
 
     pub fn library(&self) -> f64 {
@@ -50,16 +57,20 @@ impl Timed {
     /// The cells of a table under "Library", "Rust" and "Ratio".
     pub fn cells(&self) -> [String; 3] {
         let [library, rust] = self.best;
-        let ratio = table::ratio(library / rust);
+        let ratio = table::ratio(self.case.call.service, library / rust);
         [table::time(library), table::time(rust), ratio]
     }
 
-    /// What the rules answer, unless a side answers otherwise or the case is refused.
+    /// What is due by the way that the case was made or by the rules, unless a side answers otherwise
+    /// or the case is refused. The rules take minutes over some plans whose answer is known.
     pub fn answer(&self) -> Option<Memory> {
-        let lent = &self.case.lent;
-        let by_rules = lent.after(&by_rules::answer(self.case.call, lent));
-        let alike = self.sides.iter().all(|(_, memory)| *memory == by_rules);
-        (alike && is_accepted(&by_rules)).then_some(by_rules)
+        let Case { call, lent, due } = &self.case;
+        let right = match due {
+            Some(due) => lent.after(due),
+            None => lent.after(&by_rules::answer(*call, lent)),
+        };
+        let alike = self.sides.iter().all(|(_, memory)| *memory == right);
+        (alike && is_accepted(&right)).then_some(right)
     }
 }
 
@@ -69,7 +80,7 @@ pub fn is_accepted(memory: &Memory) -> bool {
 }
 
 /// The microseconds that one of as many calls takes as make up a run.
-fn time_of_call(mut call: impl FnMut()) -> f64 {
+pub fn time_of(mut call: impl FnMut()) -> f64 {
     let begin = Instant::now();
     let mut calls = 0;
     while calls == 0 || begin.elapsed() < LEAST_RUN {

@@ -18,8 +18,8 @@ use std::time::Instant;
 pub fn run(built: &[Built]) -> bool {
     print_machine();
     let services_are_right = services();
-    let (families_are_right, slowest) = families();
-    let programs_are_right = programs(built, slowest);
+    let families_are_right = families();
+    let programs_are_right = programs(built);
     services_are_right && families_are_right && programs_are_right
 }
 
@@ -105,17 +105,18 @@ fn told_steps(timed: &Timed, answer: &Memory) -> String {
 }
 
 /// The exact reduction on the hard families, each at three lengths, against the search that has the
-/// same cuts. Answers whether all answers were right, with the plan that took the library longest.
-fn families() -> (bool, HardPlan) {
+/// same cuts. Answers whether all answers were right.
+fn families() -> bool {
     let plans = hard_plans();
     let times = times_of(plans.iter().map(|plan| plan.case()));
     println!("\nExact reduction, {MAX_UNMARKED} steps unmarked, best of {RUNS} runs:\n");
-    let columns = ["Family", "Unmarked", "Steps"];
+    let columns = ["Family", "Unmarked", "Steps", "Turns"];
     table::print_head(&[&columns[..], &["Library", "Rust", "Ratio", "Growth"]].concat());
     for (index, (plan, timed)) in plans.iter().zip(&times).enumerate() {
         let shortest = &times[index - index % LENGTHS.len()];
         let growth = format!("{:.2}", timed.library() / shortest.library());
-        table::print_row(&[&plan.arguments()[..], &timed.cells(), &[growth]].concat());
+        let (plan, turns) = (plan.arguments(), timed.turns());
+        table::print_row(&[&plan[..], &[turns], &timed.cells(), &[growth]].concat());
     }
     let wrong = |(_, timed): &(_, &Timed)| timed.answer().is_none();
     let mut all_right = true;
@@ -123,9 +124,7 @@ fn families() -> (bool, HardPlan) {
         println!("the answers differ: {}", plan.arguments().join(" "));
         all_right = false;
     }
-    let by_time = |a: &usize, b: &usize| times[*a].library().total_cmp(&times[*b].library());
-    let slowest = (0..plans.len()).max_by(by_time).expect("there are plans");
-    (all_right, plans[slowest])
+    all_right
 }
 
 fn hard_plans() -> Vec<HardPlan> {
@@ -142,15 +141,18 @@ fn hard_plans() -> Vec<HardPlan> {
     plans
 }
 
-/// The built programs, from the start of the process to the end of what it prints: on each family's
-/// plan with its unmarked steps in front, and on the plan that took the library longest. Answers
-/// whether each printed what was due.
-fn programs(built: &[Built], slowest: HardPlan) -> bool {
+/// The built programs, from the start of the process to the end of what it prints, on each family's
+/// longest plans. Answers whether each printed what was due.
+fn programs(built: &[Built]) -> bool {
     println!("\nWhole programs, {RUNS} runs:\n");
     table::print_head(&["Program", "Plan", "Best", "Median"]);
-    let plans = FAMILIES.map(HardPlan::longest_in_front).into_iter();
-    let inputs: Vec<Input> = plans.chain([slowest]).map(input_of).collect();
-    let right = |built: &&Built| inputs.iter().all(|input| print_times(built, input));
+    let plans = hard_plans().into_iter();
+    let longest = plans.filter(|plan| plan.steps == MAX_STEPS);
+    let inputs: Vec<(Family, Input)> = longest.map(|plan| (plan.family, input_of(plan))).collect();
+    let right = |built: &&Built| {
+        let mut inputs = inputs.iter();
+        inputs.all(|(family, input)| print_times(built, *family, input))
+    };
     built.iter().filter(right).count() == built.len()
 }
 
@@ -160,8 +162,8 @@ fn input_of(plan: HardPlan) -> Input {
     closed(&name, input_bytes(&task.words(), &plan))
 }
 
-fn print_times(built: &Built, input: &Input) -> bool {
-    let due = (built.program.due)(&input.bytes);
+fn print_times(built: &Built, family: Family, input: &Input) -> bool {
+    let due = (built.program.due_of_hard)(&input.bytes);
     let mut times = Vec::new();
     for _ in 0..RUNS {
         let begin = Instant::now();
@@ -173,7 +175,7 @@ fn print_times(built: &Built, input: &Input) -> bool {
         }
     }
     times.sort_by(f64::total_cmp);
-    let [best, median] = [0, RUNS / 2].map(|index| table::program_time(times[index]));
+    let [best, median] = [0, RUNS / 2].map(|index| table::program_time(family, times[index]));
     table::print_row(&[built.program.name, &input.name, &best, &median]);
     true
 }

@@ -9,7 +9,7 @@ mod record;
 mod report;
 pub mod self_test;
 mod services;
-mod text;
+pub mod text;
 
 use crate::cases::SERVICES;
 use programs::Built;

@@ -4,7 +4,8 @@
 use super::text;
 use crate::cases::{Call, Case, Memory};
 
-pub fn print_difference(case: &Case, by_rules: &Memory, by_library: Option<&Memory>) {
+/// The others are each told by a name.
+pub fn print_difference(case: &Case, by_rules: &Memory, others: &[(&str, Option<Memory>)]) {
     let Case { call, lent, due } = case;
     println!("# call: {}", described(*call));
     if call.service.takes_sheet() {
@@ -12,14 +13,16 @@ pub fn print_difference(case: &Case, by_rules: &Memory, by_library: Option<&Memo
         print!("{}", text::of_input(&lent.words, &length_and_plan));
     }
     println!("# out has: {}", call.service.out().join(", "));
-    let print_answer = |title, memory: &Memory| {
+    let print_answer = |title: &str, memory: &Memory| {
         println!("# {title}, returned {}:", memory.returned);
         print_memory(memory, lent);
     };
     println!("# lent:");
     print_memory(lent, lent);
-    if let Some(memory) = by_library {
-        print_answer("the library answers", memory);
+    for (name, memory) in others {
+        if let Some(memory) = memory {
+            print_answer(&format!("the {name} answers"), memory);
+        }
     }
     print_answer("the rules answer", by_rules);
     if let Some(due) = due {

@@ -1,9 +1,10 @@
-//! Compares the services: the library against the rules, and the rules against the answers that are
-//! due.
+//! Compares the services: the library and the search against the rules, and the rules against the
+//! answers that are due.
 
 use super::record::Record;
 use super::{by_rules, library, report};
-use crate::cases::{kinds, worked, Case};
+use crate::cases::{kinds, worked, Case, Service};
+use crate::rules::search;
 use std::ops::RangeInclusive;
 
 const WORKED: &str = "document 01: worked lists and limits";
@@ -46,12 +47,15 @@ fn try_case(
         library::answer(*call, &mut memory);
         memory
     });
+    let is_exact = call.service == Service::Exact;
+    let by_search = is_exact.then(|| lent.after(&by_rules::exact_by(lent, search::exact)));
     let number = by_rules::number(*call, lent, &answer);
     record.count(kind, call.service.name(), number);
     let as_due = due.as_ref().is_none_or(|due| lent.after(due) == by_rules);
-    let alike = by_library.as_ref().is_none_or(|memory| *memory == by_rules);
-    if !(as_due && alike) {
+    let others = [("library", by_library), ("search", by_search)];
+    let alike = |(_, other): &(_, Option<_>)| other.as_ref().is_none_or(|it| *it == by_rules);
+    if !(as_due && others.iter().all(alike)) {
         record.differ(&title());
-        report::print_difference(case, &by_rules, by_library.as_ref());
+        report::print_difference(case, &by_rules, &others);
     }
 }

@@ -1,9 +1,11 @@
 //! The services of document 01, written from its text alone. Checks stand in the order of the table
 //! of refusals, and each runs over the whole input before the next.
 
+mod blocks;
 mod elimination;
 mod exact;
 mod marks;
+mod meter;
 mod plan;
 mod program;
 pub mod search;

@@ -1,7 +1,7 @@
 //! What the programs print for the bytes of their input (document 01, "Worked lists", on the
 //! program).
 
-use super::{exact, Cause, Lodged, Refusal, COUNT_WORD, HEADER, MAX_STEPS, MAX_WORDS};
+use super::{Cause, Kept, Lodged, Refusal, COUNT_WORD, HEADER, MAX_STEPS, MAX_WORDS};
 
 const WORD_BYTES: usize = 4;
 
@@ -40,10 +40,13 @@ pub fn printed_by_validate(bytes: &[u8]) -> String {
     })
 }
 
-/// The program of the exact reduction.
-pub fn printed_by_shorten(bytes: &[u8]) -> String {
+/// A way of finding the exact reduction: it takes the sheet, the plan and the length of the output.
+type Way = fn(&[u32], &[u32], usize) -> Result<Kept, Refusal>;
+
+/// The program of the exact reduction, found this way.
+pub fn printed_by_shorten(bytes: &[u8], way: Way) -> String {
     printed(bytes, |words, plan| {
-        let kept = exact(words, plan, plan.len())?;
+        let kept = way(words, plan, plan.len())?;
         let lodged = Lodged::check(words, plan, &[])?;
         let marked = plan.len() - lodged.unmarked();
         let mut lines = vec![

@@ -1,142 +1,146 @@
-//! The exact reduction by a search with the cuts that the library's has, so that the two can be
-//! timed against each other: depth first, and a step is struck before it is kept. Its answers are
-//! held to those of the rules, which know nothing of these cuts.
+//! The exact reduction by a search like the library's, so that the two can be timed against each
+//! other: depth first, from unmarked step to unmarked step, and a step is struck before it is kept.
+//! Its answers are held to those of the rules, which know nothing of its cuts.
+//!
+//! All marked steps are kept, so a reduction is a word that says which unmarked steps are kept. What
+//! the marked steps between two unmarked ones write is written at once, and neither they nor the goal
+//! are tested: of a valid plan, what passes the tests of the turns is valid.
 
-use crate::rules::{
-    all_hold, do_step, has, mask_of, Action, Kept, Lodged, Mask, Refusal, State, Tally, FACT_BASE,
-    MAX_VARIABLES, WORD_BITS,
-};
+use super::blocks::{Block, Blocks, Bytes};
+use super::meter::{Meter, Turns, Unmetered};
+use super::{has, mask_of, Kept, Lodged, Mask, Refusal, Tally};
+use std::ops::Range;
 
 /// Refusals 1 to 12.
 #[inline(never)]
 pub fn exact(words: &[u32], plan: &[u32], output: usize) -> Result<Kept, Refusal> {
     let lodged = Lodged::check_unmarked(words, plan, output)?;
-    Ok(lodged.kept(|lodged| Search::of(lodged).run()))
+    Ok(lodged.kept(|lodged| Search::of(lodged, Unmetered).run()))
 }
 
-/// A reduction with its tally.
+/// How many turns the search takes, unless the plan is refused.
+pub fn turns(words: &[u32], plan: &[u32]) -> Result<u64, Refusal> {
+    let lodged = Lodged::check_unmarked(words, plan, plan.len())?;
+    let search = Search::of(&lodged, Turns::default());
+    search.run();
+    Ok(search.meter.count())
+}
+
+/// A choice of unmarked steps, with the tally of the reduction that keeps them and the marked ones.
 #[derive(Clone, Copy)]
-struct Reduction {
+struct Choice {
     tally: Tally,
-    mask: Mask,
+    /// The bit of each unmarked step that is kept.
+    kept: u32,
 }
 
-impl Reduction {
-    fn of(actions: &[Action], mask: Mask) -> Self {
-        let kept = (0..actions.len()).filter(|&step| has(mask, step));
+impl Choice {
+    /// No unmarked step is kept yet.
+    fn of_marks(lodged: &Lodged, marked: Mask) -> Self {
+        let steps = lodged.actions.iter().enumerate();
+        let marked = steps.filter(|&(step, _)| has(marked, step));
         let nothing = Tally { cost: 0, steps: 0 };
-        Reduction {
-            tally: kept.fold(nothing, |tally, i| tally.add(actions[i].cost as u32)),
-            mask,
+        Choice {
+            tally: marked.fold(nothing, |tally, (_, action)| tally.add(action.cost as u32)),
+            kept: 0,
         }
+    }
+
+    fn keeping(self, number: usize, cost: u32) -> Self {
+        Choice {
+            tally: self.tally.add(cost),
+            kept: self.kept | 1 << number,
+        }
+    }
+
+    fn keeps(&self, number: usize) -> bool {
+        self.kept >> number & 1 == 1
     }
 
     fn is_lower_than(&self, other: &Self) -> bool {
         self.tally < other.tally
     }
-
-    fn keeping(mut self, step: usize, cost: usize) -> Self {
-        self.tally = self.tally.add(cost as u32);
-        self.mask[step / WORD_BITS] |= 1 << (step % WORD_BITS);
-        self
-    }
 }
 
-struct Search<'a> {
-    actions: &'a [Action<'a>],
-    goal: &'a [u32],
-    start: State,
-    marked: Mask,
-    /// For each step, bit k is set where the k-th fact of its effect is wanted behind it.
-    wanted: Vec<u64>,
+struct Search<M> {
+    /// The steps of the plan, and those that are not marked, by their number.
+    steps: Range<usize>,
+    unmarked: Vec<usize>,
+    /// The choice that keeps nothing unmarked.
+    marks: Choice,
+    blocks: Blocks,
+    meter: M,
 }
 
-impl<'a> Search<'a> {
-    fn of(lodged: &'a Lodged) -> Self {
+impl<M: Meter> Search<M> {
+    fn of(lodged: &Lodged, meter: M) -> Self {
         let marked = lodged.marked();
+        let steps = 0..lodged.actions.len();
         Search {
-            actions: &lodged.actions,
-            goal: lodged.task.goal(),
-            start: lodged.task.start(),
-            marked,
-            wanted: wanted(lodged, marked),
+            marks: Choice::of_marks(lodged, marked),
+            blocks: Blocks::of(lodged, marked),
+            unmarked: steps.clone().filter(|&step| !has(marked, step)).collect(),
+            steps,
+            meter,
         }
     }
 
-    /// Every valid reduction keeps the marked steps, so their tally is in that of each from the
-    /// first turn on. The best so far is at first the lodged plan.
+    /// The best so far is at first the lodged plan. Answers with the steps that are kept.
     fn run(&self) -> Vec<usize> {
-        let steps = 0..self.actions.len();
-        let marks = Reduction::of(self.actions, self.marked);
-        let lodged = Reduction::of(self.actions, mask_of(steps.clone()));
-        let best = self.strike(0, self.start, marks, lodged);
-        let best = self.keep(0, self.start, marks, best);
-        steps.filter(|&step| has(best.mask, step)).collect()
+        let blocks = self.blocks.of_steps.iter().enumerate();
+        let lodged = blocks.fold(self.marks, |choice, (number, block)| {
+            choice.keeping(number, block.cost)
+        });
+        let best = self.turns(0, &self.blocks.first_state, self.marks, lodged);
+        let unmarked = self.unmarked.iter().enumerate();
+        let struck = unmarked.filter(|&(number, _)| !best.keeps(number));
+        let struck = mask_of(struck.map(|(_, &step)| step));
+        let steps = self.steps.clone();
+        steps.filter(|&step| !has(struck, step)).collect()
     }
 
-    /// The striking turn: answers with the best reduction, which stays until a lower one is found.
-    fn strike(&self, step: usize, state: State, kept: Reduction, best: Reduction) -> Reduction {
-        if step == self.actions.len() {
-            let is_new = kept.is_lower_than(&best) && all_hold(self.goal, &state);
-            return if is_new { kept } else { best };
-        }
-        if has(self.marked, step) || !self.may_be_struck(step, &state) {
+    /// None behind the last unmarked step.
+    fn block(&self, number: usize) -> Option<&Block> {
+        self.blocks.of_steps.get(number)
+    }
+
+    /// The two turns at an unmarked step, in the state before it. Answers with the best choice, which
+    /// stays until a lower one is found.
+    fn turns(&self, number: usize, state: &Bytes, choice: Choice, best: Choice) -> Choice {
+        let best = self.strike(number, state, choice, best);
+        self.keep(number, state, choice, best)
+    }
+
+    /// The striking turn: each fact that is wanted behind the step holds already. At the end the
+    /// choice is taken where it is lower.
+    fn strike(&self, number: usize, state: &Bytes, choice: Choice, best: Choice) -> Choice {
+        self.meter.turn();
+        let Some(block) = self.block(number) else {
+            let is_new = choice.is_lower_than(&best);
+            return if is_new { choice } else { best };
+        };
+        if !block.strike.all_holds_in(state) {
             return best;
         }
-        let best = self.strike(step + 1, state, kept, best);
-        self.keep(step + 1, state, kept, best)
+        let next = block.struck.over(state);
+        self.turns(number + 1, &next, choice, best)
     }
 
-    /// The keeping turn. At the end there is nothing to keep.
-    fn keep(&self, step: usize, mut state: State, kept: Reduction, best: Reduction) -> Reduction {
-        let Some(&action) = self.actions.get(step) else {
+    /// The keeping turn: the step can be done, and it gives a fact that is needed behind it and does
+    /// not hold. At the end there is nothing to keep.
+    fn keep(&self, number: usize, state: &Bytes, choice: Choice, best: Choice) -> Choice {
+        self.meter.turn();
+        let Some(block) = self.block(number) else {
             return best;
         };
-        let kept = match has(self.marked, step) {
-            true => kept,
-            false => kept.keeping(step, action.cost),
-        };
-        if !kept.is_lower_than(&best) || !do_step(action, &mut state) {
+        let longer = choice.keeping(number, block.cost);
+        let may_keep = longer.is_lower_than(&best)
+            && block.keep.all_holds_in(state)
+            && !block.using.all_holds_in(state);
+        if !may_keep {
             return best;
         }
-        let best = self.strike(step + 1, state, kept, best);
-        self.keep(step + 1, state, kept, best)
+        let next = block.kept.over(state);
+        self.turns(number + 1, &next, longer, best)
     }
-
-    /// Each fact of the step's effect that is wanted behind it holds already.
-    fn may_be_struck(&self, step: usize, state: &State) -> bool {
-        let effects = self.actions[step].effects;
-        let mut left = self.wanted[step];
-        while left != 0 {
-            let next = left.trailing_zeros() as usize;
-            if !all_hold(&effects[next..=next], state) {
-                return false;
-            }
-            left &= left - 1;
-        }
-        true
-    }
-}
-
-/// A fact is wanted behind a step when a later marked step or the goal needs it before another step
-/// between them writes it.
-fn wanted(lodged: &Lodged, marked: Mask) -> Vec<u64> {
-    let mut is_wanted = vec![false; MAX_VARIABLES * FACT_BASE];
-    let mut set = |facts: &[u32], wanted| {
-        let mut before = 0;
-        for (k, &fact) in facts.iter().enumerate() {
-            let old = std::mem::replace(&mut is_wanted[fact as usize], wanted);
-            before |= u64::from(old) << k;
-        }
-        before
-    };
-    set(lodged.task.goal(), true);
-    let mut table = vec![0; lodged.actions.len()];
-    for (step, action) in lodged.actions.iter().enumerate().rev() {
-        table[step] = set(action.effects, false);
-        if has(marked, step) {
-            set(action.preconditions, true);
-        }
-    }
-    table
 }

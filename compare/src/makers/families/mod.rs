@@ -1,13 +1,18 @@
 //! Plans that are hard for the exact reduction: a chain of marked steps, each of which makes the
 //! next one possible and the last one the goal, and in front of them, behind them or between them
-//! steps that are not marked.
+//! steps that are not marked. Some families have a late step or two that stand behind the chain in
+//! any case.
+
+mod late;
+mod part;
 
 use super::parts::{chain, drain_in_lane, gate_actions, gate_goal, gate_lane};
 use super::parts::{laid_into_each_other, GATE_ACTIONS};
 use super::{action, fact, Action, Fact, Random, Task};
+use part::Part;
 use std::cmp::Reverse;
 use std::ops::RangeInclusive;
-use Family::{Covers, Gates, Lamps, Writers};
+use Family::{Covers, Dear, Decoys, Gates, Keys, Laden, Lamps, Vault, Writers};
 
 #[derive(Clone, Copy, Debug)]
 pub enum Family {
@@ -19,9 +24,32 @@ pub enum Family {
     Covers,
     /// Gates that are lifted and dropped, and lifted again, drained and dropped.
     Gates,
+    /// Cheap steps that set variables which nothing needs; late, two dear ones for a goal fact.
+    Dear,
+    /// Cheap steps that set keys; late, two dear doors that each need many of the keys.
+    Keys,
+    /// Cheap steps that set keys; late, the one door that needs all the keys, and that shuts again
+    /// what the chain has opened.
+    Vault,
+    /// Cheap steps that set what the chain sets again before it needs it; late, a dear step that
+    /// shuts again what the chain has opened.
+    Decoys,
+    /// Decoys that need and set many variables, which the first of them spoils: they show what facts
+    /// cost, since they take about as many turns as decoys.
+    Laden,
 }
 
-pub const FAMILIES: [Family; 4] = [Lamps, Writers, Covers, Gates];
+pub const FAMILIES: [Family; 9] = [
+    Lamps, Writers, Covers, Gates, Dear, Keys, Vault, Decoys, Laden,
+];
+
+impl Family {
+    /// Whether the exact reduction takes a turn or two for each choice of the unmarked steps, at some
+    /// placement at least: nothing tells early that a choice comes to nothing.
+    pub fn defeats_cuts(self) -> bool {
+        matches!(self, Keys | Vault | Decoys | Laden)
+    }
+}
 
 /// Where the steps of the family stand to the chain.
 #[derive(Clone, Copy, Debug)]
@@ -46,6 +74,7 @@ const GATE_STEPS: usize = 4;
 const GATE_TURNS: [usize; 2] = [1, 0];
 
 /// The steps of the plan and how many of them are not marked; what the costs are taken from.
+#[derive(Clone)]
 pub struct Shape {
     pub family: Family,
     pub placement: Placement,
@@ -62,40 +91,46 @@ pub struct Made {
     pub kept: Option<Vec<usize>>,
 }
 
-/// What a family brings to a plan; its variables start at 0.
-struct Part {
-    sizes: Vec<u32>,
-    goal: Vec<Fact>,
-    actions: Vec<Action>,
-    /// The action of each step.
-    steps: Vec<u32>,
-    /// Whether each step is kept.
-    kept: Option<Vec<bool>>,
-}
-
 impl Shape {
     pub fn make(&self, random: &mut Random) -> Made {
-        let mut part = match self.family {
+        let mut part = self.part(random);
+        let turns = self.turns(random, &part);
+        let (counter, length) = (part.sizes.len(), self.steps - part.steps.len());
+        let first_of_chain = part.actions.len() as u32;
+        let mut chain = chain(counter, length, || self.cost(random));
+        part.put_into(&mut chain);
+        part.sizes.push(length as u32 + 1);
+        part.goal.push(fact(counter, length));
+        part.actions.extend(chain);
+        part.laid_into(first_of_chain, &turns)
+    }
+
+    /// A family that has no room is lamps.
+    fn part(&self, random: &mut Random) -> Part {
+        match self.family {
             Writers if self.unmarked >= 2 => self.writers(random),
             Covers if self.unmarked >= 2 => self.covers(random),
             Gates => self.gates(random),
+            Dear if self.unmarked >= 2 => self.dear(random),
+            Keys if self.unmarked >= 2 => self.keys(random),
+            Vault if self.has_room_for_late() => self.vault(random),
+            Decoys if self.has_room_for_late() => self.decoys(random),
+            Laden if self.has_room_for_late() => self.laden(random),
             _ => self.lamps(random),
+        }
+    }
+
+    /// Whether each step of the plan is the family's.
+    fn turns(&self, random: &mut Random, part: &Part) -> Vec<bool> {
+        let own = part.steps.len() - part.late;
+        let all = self.steps - part.late;
+        let mut turns = match self.placement {
+            Placement::Front => (0..all).map(|step| step < own).collect(),
+            Placement::End => (0..all).map(|step| step >= all - own).collect(),
+            Placement::Spread => random.choose(own, all),
         };
-        let own = part.steps.len();
-        let turns = match self.placement {
-            Placement::Front => (0..self.steps).map(|step| step < own).collect(),
-            Placement::End => (0..self.steps)
-                .map(|step| step >= self.steps - own)
-                .collect(),
-            Placement::Spread => random.choose(own, self.steps),
-        };
-        let (counter, length) = (part.sizes.len(), self.steps - own);
-        let first_of_chain = part.actions.len() as u32;
-        part.sizes.push(length as u32 + 1);
-        part.goal.push(fact(counter, length));
-        part.actions
-            .extend(chain(counter, length, || self.cost(random)));
-        part.laid_into(first_of_chain, &turns)
+        turns.resize(self.steps, true);
+        turns
     }
 
     fn cost(&self, random: &mut Random) -> u32 {
@@ -125,6 +160,7 @@ impl Shape {
             actions: self.lamp_actions(random, 0, self.unmarked),
             steps: (0..self.unmarked as u32).collect(),
             kept: Some(vec![false; self.unmarked]),
+            ..Part::default()
         }
     }
 
@@ -192,42 +228,7 @@ impl Shape {
             actions,
             steps,
             kept: Some(kept),
-        }
-    }
-}
-
-impl Part {
-    /// One step of each action, and a goal that asks for all variables.
-    fn asking_for(goals: usize, actions: Vec<Action>, kept: Option<Vec<bool>>) -> Self {
-        Part {
-            sizes: vec![2; goals],
-            goal: (0..goals).map(|goal| fact(goal, 1)).collect(),
-            steps: (0..actions.len() as u32).collect(),
-            actions,
-            kept,
-        }
-    }
-
-    /// The steps of the family at their turns and, between them, those of the chain, whose actions
-    /// are the last ones.
-    fn laid_into(self, first_of_chain: u32, turns: &[bool]) -> Made {
-        let is_known = self.kept.is_some();
-        let flags = self.kept.unwrap_or(vec![false; self.steps.len()]);
-        let mut own = self.steps.into_iter().zip(flags);
-        let mut chain = (first_of_chain..).map(|action| (action, true));
-        let (mut plan, mut kept) = (Vec::new(), Vec::new());
-        for (step, &is_own) in turns.iter().enumerate() {
-            let next = if is_own { own.next() } else { chain.next() };
-            let (action, is_kept) = next.expect("the family has as many steps as turns");
-            plan.push(action);
-            if is_kept {
-                kept.push(step);
-            }
-        }
-        Made {
-            task: Task::from_zero(self.sizes, self.goal, self.actions),
-            plan,
-            kept: is_known.then_some(kept),
+            ..Part::default()
         }
     }
 }

@@ -1,0 +1,194 @@
+//! A hunt for the lists that the exact reduction is slowest on: a climb by chance changes from the
+//! hard families and from small dense tasks. How high a list is told by the turns that the search
+//! takes, which are the same in each run; the highest lists are then timed in the library and in the
+//! program, since many are as high as any and a turn doesn't take as long in each.
+
+mod changes;
+mod list;
+
+use crate::bench::{time_of, MOST_TIME};
+use crate::cases::{Case, Service};
+use crate::comparison::inputs::{closed, input_bytes};
+use crate::comparison::programs::{printed, Built};
+use crate::comparison::{by_rules, library, text};
+use crate::makers::families::{Shape, FAMILIES, PLACEMENTS};
+use crate::makers::{cycles, Random};
+use crate::rules::{search, MAX_UNMARKED};
+use list::List;
+use std::hint::black_box;
+use std::time::{Duration, Instant};
+
+/// A climb is stuck where so many changes in a row have not led higher by a hundredth.
+const STUCK: usize = 400;
+const HUNDREDTH: u64 = 100;
+/// A climb ends after so many turns, about ten seconds, so that a short hunt has more than one.
+const MOST_OF_CLIMB: u64 = 1_000_000_000;
+/// The highest lists, of which each is timed.
+const TIMED: usize = 8;
+/// The best of so many times counts, so that what else the machine does makes no list the slowest.
+const RUNS: usize = 3;
+/// The steps of a list at the start of a climb.
+const MOST_STEPS: usize = 60;
+
+/// A list that a climb has led to.
+struct Found {
+    list: List,
+    turns: u64,
+}
+
+/// Hunts for so many seconds, and answers whether no program took too long and no answers differed.
+/// All that is printed beside the list is a comment, so that what is printed can be fed back.
+pub fn run(built: &[Built], seed: u64, seconds: u64) -> bool {
+    let end = Instant::now() + Duration::from_secs(seconds);
+    let (mut tried, mut climbs, mut highest) = (0, 0, Vec::new());
+    while Instant::now() < end {
+        let random = &mut Random::of_case(seed, climbs);
+        let (lists, found) = climb(random, climbs, end);
+        tried += lists;
+        climbs += 1;
+        highest.extend(found);
+        highest.sort_by_key(|found: &Found| std::cmp::Reverse(found.turns));
+        highest.truncate(TIMED);
+    }
+    println!("# seed {seed}: {tried} lists tried in {climbs} climbs");
+    let random = &mut Random::of_case(seed, climbs);
+    let lists = highest.iter().flat_map(|it| it.list.with_lengths(random));
+    let timed: Vec<Timed> = lists.map(|list| Timed::of(list, built)).collect();
+    for timed in &timed {
+        println!("# {}", timed.described(built));
+    }
+    let by_time = |a: &&Timed, b: &&Timed| a.slowest().total_cmp(&b.slowest());
+    let differing = timed.iter().find(|timed| !timed.alike);
+    if let Some(shown) = differing.or(timed.iter().max_by(by_time)) {
+        println!("# the slowest: {}", shown.described(built));
+        shown.print_text();
+    }
+    timed.iter().all(Timed::is_in_order)
+}
+
+/// Climbs from the start with this number until it is stuck. Answers with how many lists it has
+/// tried, and the highest.
+fn climb(random: &mut Random, number: u64, end: Instant) -> (u64, Option<Found>) {
+    let list = start(random, number);
+    let mut tried = 1;
+    let Some(turns) = list.turns() else {
+        return (tried, None);
+    };
+    let (mut left, mut last_height) = (STUCK, turns);
+    let mut spent = 0;
+    let mut found = Found { list, turns };
+    while left > 0 && spent < MOST_OF_CLIMB && Instant::now() < end {
+        let mut list = found.list.clone();
+        changes::change(random, &mut list);
+        tried += 1;
+        left -= 1;
+        let turns = list.turns();
+        spent += turns.unwrap_or(0);
+        // One that is as high may lead on.
+        if let Some(turns) = turns.filter(|&turns| turns >= found.turns) {
+            found = Found { list, turns };
+        }
+        if found.turns > last_height + last_height / HUNDREDTH {
+            (left, last_height) = (STUCK, found.turns);
+        }
+    }
+    (tried, Some(found))
+}
+
+/// The families take turns, from the last one on, and dense tasks behind them.
+fn start(random: &mut Random, number: u64) -> List {
+    let dense = [cycles::USUAL, cycles::MANY_WRITERS, cycles::TIED_COSTS];
+    let index = number as usize % (FAMILIES.len() + dense.len());
+    let Some(&family) = FAMILIES.iter().rev().nth(index) else {
+        let walk = cycles::walk(random, dense[index - FAMILIES.len()], MAX_UNMARKED);
+        let (task, plan) = (walk.task, walk.plan);
+        return List { task, plan };
+    };
+    let shape = Shape {
+        family,
+        placement: random.pick(&PLACEMENTS),
+        steps: random.size(2 * MAX_UNMARKED..=MOST_STEPS),
+        unmarked: MAX_UNMARKED - random.index(2),
+        costs: 1..=100,
+    };
+    let made = shape.make(random);
+    let (task, plan) = (made.task, made.plan);
+    List { task, plan }
+}
+
+fn best_time_of(mut call: impl FnMut()) -> f64 {
+    let times = (0..RUNS).map(|_| time_of(&mut call));
+    times.fold(f64::INFINITY, f64::min)
+}
+
+/// A list with its times in microseconds.
+struct Timed {
+    list: List,
+    library: f64,
+    /// The search that the climb goes by.
+    rust: f64,
+    programs: Vec<f64>,
+    /// Whether the library answers as the search does.
+    alike: bool,
+}
+
+impl Timed {
+    fn of(list: List, built: &[Built]) -> Self {
+        let words = list.task.words();
+        let Case { call, mut lent, .. } =
+            Case::fitting(Service::Exact, &words, &list.plan, [list.plan.len(), 0]);
+        let by_search = lent.after(&by_rules::exact_by(&lent, search::exact));
+        let library = best_time_of(|| library::answer(call, &mut lent));
+        let rust = best_time_of(|| {
+            let _ = black_box(search::exact(&words, &list.plan, list.plan.len()));
+        });
+        let input = closed("the hunt's", input_bytes(&words, &list.plan));
+        let programs = built.iter().map(|built| {
+            best_time_of(|| {
+                if let Err(error) = printed(&built.path, &input) {
+                    println!("# {}: {error}", built.program.name);
+                }
+            })
+        });
+        Timed {
+            library,
+            rust,
+            programs: programs.collect(),
+            alike: lent == by_search,
+            list,
+        }
+    }
+
+    fn is_in_order(&self) -> bool {
+        self.alike && self.programs.iter().all(|&time| time <= MOST_TIME)
+    }
+
+    fn slowest(&self) -> f64 {
+        self.programs.iter().copied().fold(self.library, f64::max)
+    }
+
+    /// One line for its figures.
+    fn described(&self, built: &[Built]) -> String {
+        let turns = self.list.turns().unwrap_or_default();
+        let programs = built.iter().map(|built| built.program.name);
+        let times = programs.zip(self.programs.iter().copied());
+        let times = [("library", self.library), ("Rust", self.rust)]
+            .into_iter()
+            .chain(times)
+            .map(|(name, time)| format!(", {name} {time:.0} µs"));
+        let steps = self.list.plan.len();
+        let figures = format!("{steps} steps, {turns} turns");
+        let others = if self.alike {
+            ""
+        } else {
+            ", the answers differ"
+        };
+        format!("{figures}{}{others}", times.collect::<String>())
+    }
+
+    fn print_text(&self) {
+        let List { task, plan } = &self.list;
+        let length_and_plan = text::length_and_plan(plan);
+        print!("{}", text::of_input(&task.words(), &length_and_plan));
+    }
+}
