@@ -1,7 +1,7 @@
-// The rows of each unflagged step of a plan, in blocks: the facts that must hold where it is struck, what it needs where
-// it is kept, what of use it may write, and what is written behind it, where it is struck and where it is kept, by the
-// step and the flagged steps up to the next unflagged one. Unflagged step d has block d + 1; block 0 has what the flagged
-// steps in front of the first write.
+// The rows of each unflagged step of a plan, in blocks: the facts that must hold where it is struck, what it needs
+// where it is kept, what of use it may write, and what is written behind it, where it is struck and where it is kept,
+// by the step and the flagged steps up to the next unflagged one. Unflagged step d has block d + 1; block 0 has what
+// the flagged steps in front of the first write.
 use crate::packed::ROW;
 use crate::packed::STATE;
 use access::flag;

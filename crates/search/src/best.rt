@@ -44,7 +44,7 @@ fn all_chosen(count: usize) -> u64
 }
 
 // The choices of the minimal reduction of a plan: the search begins with the flagged steps kept and the lodged plan as
-// the best. Of too many unflagged steps it keeps all.
+// the best. Of a plan with more unflagged steps than there is room for nothing is promised: the service refuses it.
 fn choose(words: &[u32], plan: &[u32], flags: &[bool], lodged: Tally) -> u64
     ensures { λ r. ⌜ Begins (now (words .entry)) (now (plan .entry)) (now (flags .entry)) lodged r ⌝ }
 {

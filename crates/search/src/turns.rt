@@ -22,8 +22,8 @@ ghost use Rattle.reduction.specs.between.Search.Turn.{strike as striking, keep 
 ghost use Rattle.choice.specs.between.Chosen.{most-choices};
 ghost use Rattle.search.specs.between.Told.{Turn-told};
 
-// Strikes unflagged step d, where that may be, and goes on with both turns at the next. Behind the last it takes what is
-// kept, where that is lower than the best.
+// Strikes unflagged step d, where that may be, and goes on with both turns at the next. Behind the last it takes what
+// is kept, where that is lower than the best.
 pub(crate) fn strike(
     costs: &[u32],
     rows: &[u8; ROWS * ROW],
@@ -50,8 +50,8 @@ pub(crate) fn strike(
     best
 }
 
-// Keeps unflagged step d, where it can be done, is of use and what is then kept is lower than the best, and goes on with
-// both turns at the next.
+// Keeps unflagged step d, where it can be done, is of use and what is then kept is lower than the best, and goes on
+// with both turns at the next.
 pub(crate) fn keep(
     costs: &[u32],
     rows: &[u8; ROWS * ROW],

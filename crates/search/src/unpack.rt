@@ -28,7 +28,7 @@ fn is_kept(flagged: bool, bits: u64, d: usize) -> bool
     is_chosen(bits, d)
 }
 
-// A flag for each step that a plan may have: up where one of the flagged or unflagged steps is kept.
+// A flag for each step that a plan may have: up where the step is kept.
 pub(crate) fn unpack(flags: &[bool], bits: u64) -> [bool; Plan::STEPS]
     ensures { λ r. ⌜ Unpacks (now (flags .entry)) bits r ⌝ }
 {

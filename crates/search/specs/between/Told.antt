@@ -70,7 +70,8 @@ pub record Turn-told (costs rows : List ℕ) (t : Turn) (d : ℕ) (state : List 
         → At-choice l flags v d → On-course (goal w) (initial w) (steps w l) flags v
         → Tells-state w l (v .so-far) (v .index) state
         → Chooses w l flags (v .so-far) so-far → Chooses w l flags (v .best) best
-        → Chooses w l flags (turn (tests (goal w) (steps w l) flags) (steps w l) t (drop (v .index) (steps w l)) v) after
+        → Chooses w l flags
+        (turn (tests (goal w) (steps w l) flags) (steps w l) t (drop (v .index) (steps w l)) v) after
 
 -- the choices are those of the minimal reduction, where the lodged plan's tally is told
 pub record Begins (w l : List ℕ) (flags : Reduction) (lodged : Tally) (bits : ℕ) : Type 0 where
