@@ -6,7 +6,7 @@ use mathlib.Core.Bool.{Bool, true, false}
 use mathlib.Core.List.{List}
 use lib.ListN.{length, take}
 use borrow.Author.Tests.{lt-ltb, le-ltb, eq-eqb, ne-eqb}
-use Rattle.lines.specs.Lines.{ascii}
+use Rattle.ascii.specs.Bytes.{ascii}
 use Rattle.lines.specs.Prints.{Prints}
 use Rattle.sheet.specs.Limits.{limits}
 use Rattle.sheet.specs.Layout.{actions}

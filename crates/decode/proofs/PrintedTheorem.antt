@@ -6,14 +6,16 @@ use mathlib.Core.Bool.{Bool, true, false, cond, _&&_, not, and-eq-true-iff}
 use mathlib.Core.List.{List, [], _∷_, _++_, append-assoc, append-nil}
 use lib.ListN.{length, take, drop, length-drop, take-append-drop}
 use lib.Dec.{ltb}
-use Rattle.lines.specs.Lines.{ascii, line-end, spaced}
+use Rattle.ascii.specs.Bytes.{ascii, line-end}
+use Rattle.lines.specs.Lines.{spaced}
 use Rattle.sheet.specs.Limits.{limits}
 use Rattle.sheet.specs.Layout.{actions}
 use Rattle.sheet.specs.Decode.{table}
 use Rattle.program.specs.declared.frame.Frame.{Frame}
 use Rattle.program.specs.declared.frame.Frame.the-variants.{Broken, Long, Whole}
 use Rattle.program.specs.Bytes.{Word-sized}
-use Rattle.text.specs.Text.{ends-line, Words, reading}
+use Rattle.ascii.specs.Bytes.{ends-line}
+use Rattle.text.specs.Text.{Words, reading}
 use Rattle.text.specs.between.Lays.{Unbroken, Lays}
 use Rattle.text.specs.between.Lays as lays
 use Rattle.text.proofs.LaysTheorem.{round-trip, numeral-unbroken}

@@ -8,7 +8,8 @@ use mathlib.Core.List.{List, [], _∷_, _++_}
 use lib.ListN.{length, take, drop, length-append, take-append-drop}
 use lib.Dec.{ltb, lit≤}
 use borrow.Author.Tests.{ltb-false}
-use Rattle.lines.specs.Lines.{ascii, line-end, spaced, numeral}
+use Rattle.ascii.specs.Bytes.{ascii, line-end}
+use Rattle.lines.specs.Lines.{spaced, numeral}
 use Rattle.lines.proofs.NumeralLaws.{numeral-length}
 use Rattle.sheet.specs.Limits.{limits}
 use Rattle.sheet.specs.Layout.{actions}

@@ -7,7 +7,7 @@ use mathlib.Core.List.{List, [], _∷_, _++_, append-assoc}
 use lib.ListN.{length, take, drop, length-drop}
 use lib.Seq.{drop-drop, take-all}
 use Rattle.refusal.proofs.PlaceLaws.{one-fewer, none-left}
-use Rattle.lines.specs.Lines.{ascii}
+use Rattle.ascii.specs.Bytes.{ascii}
 use Rattle.lines.specs.Prints.{Prints}
 use Rattle.lines.proofs.PrintLaws.{prints-nothing, prints-both, prints-length, prints-within}
 use Rattle.sheet.specs.Layout.{variables, offset, goal-start, goal-end}

@@ -4,7 +4,7 @@ use mathlib.Core.Bool.{Bool, cond}
 use mathlib.Core.List.{List}
 use lib.ListN.{length, take}
 use lib.Dec.{ltb, eqb}
-use Rattle.lines.specs.Lines.{ascii}
+use Rattle.ascii.specs.Bytes.{ascii}
 use Rattle.sheet.specs.Limits.{limits}
 use Rattle.sheet.specs.Layout.{actions}
 use Rattle.program.specs.declared.frame.Frame.{Frame}

@@ -4,7 +4,8 @@ use Prim.Native.Nat.{ℕ, zero, suc, _-_, max}
 use Prim.Native.String.{String}
 use mathlib.Core.List.{List, [], _∷_, _++_}
 use lib.ListN.{length, take, drop}
-use Rattle.lines.specs.Lines.{ascii, line-end, numeral, line}
+use Rattle.ascii.specs.Bytes.{ascii, line-end}
+use Rattle.lines.specs.Lines.{numeral, line}
 use Rattle.sheet.specs.Layout.{variables, actions, offset, goal-start, goal-end, effect-end}
 use Rattle.sheet.specs.Decode.{table}
 

@@ -3,7 +3,8 @@ use Prim.Native.Nat.{ℕ}
 use mathlib.Core.Path.{_≡_, sym, _∙_, ap, subst}
 use mathlib.Core.Bool.{Bool, true, false}
 use mathlib.Core.List.{List, [], _∷_, _++_, append-assoc}
-use Rattle.lines.specs.Lines.{ascii, line-end, numeral}
+use Rattle.ascii.specs.Bytes.{ascii, line-end}
+use Rattle.lines.specs.Lines.{numeral}
 use Rattle.lines.specs.Prints.{Prints}
 use Rattle.program.specs.Bytes.{all-bytes}
 use Rattle.text.specs.declared.answer.Answered.{Answered}

@@ -2,14 +2,14 @@
 -- reading them gives the words of the text back. Assumes nothing.
 use Prim.Native.Nat.{ℕ, zero, suc, _*_, _≤_}
 use native.Mathlib.Omega.{arith}
-use mathlib.Core.Path.{_≡_, refl, sym, _∙_, ap}
+use mathlib.Core.Path.{_≡_, sym, _∙_, ap}
 use mathlib.Core.Bool.{Bool, true, false, cond}
 use mathlib.Core.Option.{Option, none, some}
 use mathlib.Core.List.{List, [], _∷_}
-use lib.ListN.{length, length-append}
+use lib.ListN.{length}
 use lib.Dec.{ltb}
 use Rattle.program.specs.Form.{word-bytes, unpacked}
-use Rattle.program.specs.Bytes.{bytes-of, all-bytes}
+use Rattle.program.proofs.BytesTheorem.{all-bytes-length}
 use Rattle.text.specs.Text.{Field, word-of, Reading, Words, NoWord, NoRoom, Long, in-front, read, reading, found-in}
 use Rattle.text.specs.Limits.{most, most-text}
 use Rattle.text.proofs.ReaderLaws.{found-whole}
@@ -48,13 +48,8 @@ few-found room text = by-case (ltb most-text (length text)) (reading room text) 
     by-case true r few = tt
     by-case false r few = few
 
-four-bytes : (ws : List ℕ) → length (all-bytes ws) ≡ word-bytes * length ws
-unfolding all-bytes bytes-of
-four-bytes [] = refl
-four-bytes (x ∷ ws) = omega (arith, length-append (bytes-of word-bytes x) (all-bytes ws), four-bytes ws)
-
 answer-fits : (r : Reading) → Few most r → length (answer-found r .written) ≤ word-bytes * most
-answer-fits (Words ws) few = omega (arith, four-bytes ws)
+answer-fits (Words ws) few = omega (arith, all-bytes-length ws)
 answer-fits (NoWord n) few = omega arith
 answer-fits (NoRoom n) few = omega arith
 answer-fits Long few = omega arith

@@ -3,7 +3,8 @@
 use Prim.Native.Nat.{ℕ}
 use mathlib.Core.Bool.{Bool, cond}
 use mathlib.Core.List.{List, _++_}
-use Rattle.lines.specs.Lines.{ascii, numeral}
+use Rattle.ascii.specs.Bytes.{ascii}
+use Rattle.lines.specs.Lines.{numeral}
 use Rattle.program.specs.Bytes.{all-bytes}
 use Rattle.text.specs.Text.{Reading, Words, NoWord, NoRoom, Long, found-in}
 use Rattle.text.specs.Limits.{most}

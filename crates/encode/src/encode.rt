@@ -1,8 +1,8 @@
 // What is answered to a text: the bytes of its words, or what is wrong with it.
-use crate::pack::pack;
 use access::front;
 use lines::put_number;
 use lines::put_text;
+use program::pack::pack;
 use text::answer::Answered;
 use text::answer::refuse;
 use text::answer::say;

@@ -1,8 +1,7 @@
 // The program that turns a text of words (`text`) into the form in which the programs read a task and a plan. Where
 // the text is no text of words it says so, with the line, and writes no word.
-// pack: words as bytes. encode: what is answered to a text.
+// encode: what is answered to a text.
 mod encode;
-mod pack;
 
 use crate::encode::encode_input;
 use program::word::WORD;

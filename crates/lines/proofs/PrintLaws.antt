@@ -10,7 +10,8 @@ use lib.ListN.{length, getD, set, take, length-append, length-set}
 use lib.Seq.{sets, set-out, take-suc, length-sets}
 use lib.Dec.{leb}
 use borrow.Author.Tests.{leb-true, leb-false}
-use Rattle.lines.specs.Lines.{space, numeral, spaced, line}
+use Rattle.ascii.specs.Bytes.{space}
+use Rattle.lines.specs.Lines.{numeral, spaced, line}
 use Rattle.lines.specs.Prints.{Prints}
 
 -- past the end nothing is stored

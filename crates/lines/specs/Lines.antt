@@ -1,18 +1,12 @@
 -- Lines of words and numbers, as a program prints them, in ASCII. Assumes nothing.
 use Prim.Native.Nat.{ℕ, zero, suc, _+_, _/_, _%_}
-use Prim.Native.Char.{code}
-use Prim.Native.String.{String, [] as no-text, _∷_ as _then_}
 use mathlib.Core.Bool.{true, false}
 use mathlib.Core.List.{List, [], _∷_, _++_}
 use lib.Dec.{ltb}
-
--- the bytes of a text
-abbrev pub ascii : String → List ℕ
-ascii no-text = []
-ascii (c then s) = code c ∷ ascii s
+use Rattle.ascii.specs.Bytes.{space, line-end, ascii-zero}
 
 abbrev pub digit-sign : ℕ → ℕ
-digit-sign d = 48 + d
+digit-sign d = ascii-zero + d
 
 -- a number in decimal, of no more than n digits
 unfoldable pub numeral-within : ℕ → ℕ → List ℕ
@@ -26,12 +20,6 @@ numeral-within (suc n) x =
 -- a number in decimal, with no needless zero: it has no more than x + 1 digits
 unfoldable pub numeral : ℕ → List ℕ
 numeral x = numeral-within (suc x) x
-
-abbrev pub space : ℕ
-space = 32
-
-abbrev pub line-end : ℕ
-line-end = 10
 
 -- numbers, each behind a space
 unfoldable pub spaced : List ℕ → List ℕ

@@ -14,6 +14,8 @@ pub mod ReplyLaws
 pub mod ReplyTheorem
 -- BytesTheorem: reading the bytes of words gives the words back.
 pub mod BytesTheorem
+-- PackLaws: words as bytes, one after the other.
+pub mod PackLaws
 -- PrintedLaws: the line of a refusal, and what has been read.
 pub mod PrintedLaws
 -- RecordTheorem: a sheet and its list, as the bytes of an input, are opened as that sheet and that list.

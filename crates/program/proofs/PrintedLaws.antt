@@ -9,7 +9,8 @@ use lib.ListN.{length, take, drop}
 use lib.Seq.{length-take-le, sets-eq, take-append-add, take-append-seam, drop-append-seam}
 use lib.Dec.{lit<}
 use Rattle.io.specs.Counts.{Counts}
-use Rattle.lines.specs.Lines.{ascii, line}
+use Rattle.ascii.specs.Bytes.{ascii}
+use Rattle.lines.specs.Lines.{line}
 use Rattle.lines.specs.Prints.{Prints}
 use Rattle.refusal.specs.Refusal.{Told}
 use Rattle.program.specs.between.Room.{line-room}

@@ -5,7 +5,8 @@ use mathlib.Core.Bool.{true, false}
 use mathlib.Core.List.{List, [], _∷_}
 use lib.ListN.{length, take, drop}
 use Rattle.io.specs.Counts.{Counts}
-use Rattle.lines.specs.Lines.{ascii, line}
+use Rattle.ascii.specs.Bytes.{ascii}
+use Rattle.lines.specs.Lines.{line}
 use Rattle.refusal.specs.Refusal.{Told}
 use Rattle.tally.specs.declared.Tally.{Tally}
 use Rattle.program.specs.declared.input.Input.{Input}

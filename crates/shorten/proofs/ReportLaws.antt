@@ -7,7 +7,8 @@ use mathlib.Core.Bool.{Bool, true, false}
 use mathlib.Core.List.{List, [], _∷_, _++_, append-assoc, append-nil}
 use lib.ListN.{length, getD, take, length-append}
 use lib.Seq.{take-length}
-use Rattle.lines.specs.Lines.{ascii, numeral, line, row}
+use Rattle.ascii.specs.Bytes.{ascii}
+use Rattle.lines.specs.Lines.{numeral, line, row}
 use Rattle.lines.specs.Prints.{Prints}
 use Rattle.lines.proofs.PrintLaws.{prints-nothing, prints-both, prints-within}
 use Rattle.reduction.specs.Reduction.{Reduction}

@@ -4,7 +4,8 @@ use Prim.Native.Nat.{ℕ, _+_}
 use mathlib.Core.Bool.{true, false}
 use mathlib.Core.Option.{none, some}
 use mathlib.Core.List.{List, [], _∷_, _++_}
-use Rattle.lines.specs.Lines.{ascii, line, row}
+use Rattle.ascii.specs.Bytes.{ascii}
+use Rattle.lines.specs.Lines.{line, row}
 use Rattle.refusal.specs.Check.{answer}
 use Rattle.sheet.specs.Layout.{cost-word}
 use Rattle.plan.specs.Limits.{most-steps}

@@ -10,8 +10,10 @@ use mathlib.Core.List.{List, [], _∷_, _++_, append-assoc}
 use lib.ListN.{length, length-append}
 use lib.Dec.{ltb, leb, lit<}
 use borrow.Author.Tests.{lt-ltb, ltb-true, ltb-false, le-leb, leb-true, ne-eqb}
-use Rattle.lines.specs.Lines.{space, line-end, digit-sign, numeral-within, numeral, spaced}
-use Rattle.text.specs.Text.{comment-sign, ascii-zero, ascii-nine, ascii-digit, all-digits, decimal-from, word-from, word-of, split, fields, not-empty, fields-from, Words, in-front, read, reading}
+use Rattle.ascii.specs.Bytes.{space, line-end}
+use Rattle.lines.specs.Lines.{digit-sign, numeral-within, numeral, spaced}
+use Rattle.ascii.specs.Bytes.{ascii-zero, ascii-nine, ascii-digit, all-digits, decimal-from, split}
+use Rattle.text.specs.Text.{comment-sign, word-from, word-of, fields, not-empty, fields-from, Words, in-front, read, reading}
 use Rattle.text.specs.between.Reading.{ends-field, after-blank, after-comment, field-left, after-field, read-field, all-in-front}
 use Rattle.program.specs.Bytes.{Word-sized, nothing, word}
 use Rattle.text.specs.between.Lays.{Unbroken, Lays}

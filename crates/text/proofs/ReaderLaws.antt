@@ -16,7 +16,8 @@ use Rattle.refusal.proofs.PlaceLaws.{one-fewer, none-left}
 use Rattle.text.specs.declared.reader.Mode.{Mode}
 use Rattle.text.specs.declared.reader.Mode.the-variants as mode
 use Rattle.text.specs.declared.reader.Reader.{Reader}
-use Rattle.text.specs.Text.{ascii-zero, ascii-nine, ends-line, begins-comment, blank, split, not-empty, fields, Field, fields-from, all-digits, decimal-from, word-from, Reading, Words, NoWord, NoRoom, Long, in-front, read, reading, found-in}
+use Rattle.ascii.specs.Bytes.{ascii-zero, ascii-nine, ends-line, split, all-digits, decimal-from}
+use Rattle.text.specs.Text.{begins-comment, blank, not-empty, fields, Field, fields-from, word-from, Reading, Words, NoWord, NoRoom, Long, in-front, read, reading, found-in}
 use Rattle.text.specs.Limits.{most-text}
 use Rattle.text.specs.between.Reading.{ends-field, after-blank, field-left, after-field, read-field, all-in-front, still, at-blank, at-comment, at-word, Reads, Starts, Stores}
 use Rattle.text.proofs.TextLaws.{none-left-of-field, blank-at-line-end, comment-at-line-end, comment-on, blank-at-comment, blank-at-blank, field-at-other, after-field-at-other, blank-at-other, field-ends, goes-on}

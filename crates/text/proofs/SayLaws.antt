@@ -6,7 +6,7 @@ use mathlib.Core.List.{List, [], _∷_, _++_}
 use lib.ListN.{length}
 use lib.Seq.{length-take-le}
 use Rattle.io.specs.Counts.{Counts}
-use Rattle.lines.specs.Lines.{line-end}
+use Rattle.ascii.specs.Bytes.{line-end}
 use Rattle.lines.specs.Prints.{Prints}
 use Rattle.lines.proofs.PrintLaws.{prints-nothing, prints-within}
 use Rattle.text.specs.declared.answer.Answered.{Answered}

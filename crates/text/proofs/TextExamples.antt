@@ -1,7 +1,8 @@
 -- What some short texts mean, computed from the definition. Assumes nothing.
 use mathlib.Core.Path.{_≡_, refl}
 use mathlib.Core.List.{[], _∷_}
-use Rattle.text.specs.Text.{split, not-empty, fields, fields-from, all-digits, decimal-from, word-from, Words, NoWord, NoRoom, read, reading}
+use Rattle.ascii.specs.Bytes.{split, all-digits, decimal-from}
+use Rattle.text.specs.Text.{not-empty, fields, fields-from, word-from, Words, NoWord, NoRoom, read, reading}
 
 -- in turn:
 -- "12 7 # 3\n4": a comment ends with its line, and its digits are no word

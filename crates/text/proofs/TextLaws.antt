@@ -4,16 +4,10 @@ use mathlib.Core.Path.{_≡_, refl, sym, _∙_, ap}
 use mathlib.Core.Bool.{Bool, true, false, _||_}
 use mathlib.Core.List.{List, [], _∷_, _++_}
 use Rattle.sheet.proofs.CauseLaws.{neither}
-use Rattle.text.specs.Text.{ends-line, begins-comment, blank, Split, runs, split, not-empty, uncommented, fields, on-line, fields-from}
+use Rattle.ascii.specs.Bytes.{ends-line, Split, runs, split}
+use Rattle.text.specs.Text.{begins-comment, blank, not-empty, uncommented, fields, on-line, fields-from}
+use Rattle.ascii.proofs.SplitLaws.{split-at, split-in}
 use Rattle.text.specs.between.Reading.{ends-field, line-left, lines-left, after-blank, after-comment, field-left, after-field}
-
-pub split-at : (test : ℕ → Bool) (b : ℕ) (bs : List ℕ) → test b ≡ true → split test (b ∷ bs) ≡ record { first = []; others = runs (split test bs) }
-unfolding split
-split-at test b bs e = rw (e, split)
-
-pub split-in : (test : ℕ → Bool) (b : ℕ) (bs : List ℕ) → test b ≡ false → split test (b ∷ bs) ≡ record { first = b ∷ split test bs .first; others = split test bs .others }
-unfolding split
-split-in test b bs e = rw (e, split)
 
 -- the fields of a line, by its first byte
 module _ (b : ℕ) (line : List ℕ) where

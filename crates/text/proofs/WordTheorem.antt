@@ -8,7 +8,8 @@ use lib.ListN.{length}
 use lib.Dec.{ltb}
 use borrow.Author.Tests.{ltb-true}
 use Rattle.program.specs.Form.{unpacked}
-use Rattle.text.specs.Text.{Field, all-digits, decimal-from, word-from, word-of, Reading, Words, NoWord, NoRoom, Long, in-front, read, reading}
+use Rattle.ascii.specs.Bytes.{all-digits, decimal-from}
+use Rattle.text.specs.Text.{Field, word-from, word-of, Reading, Words, NoWord, NoRoom, Long, in-front, read, reading}
 use Rattle.program.specs.Bytes.{all-bytes, Word-sized, nothing, word}
 use Rattle.program.proofs.BytesTheorem.{bytes-read-back}
 

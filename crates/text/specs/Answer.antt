@@ -1,7 +1,7 @@
 -- What a program answers: what it writes to standard output, and what it says on standard error. Assumes nothing.
 use Prim.Native.Nat.{ℕ}
 use mathlib.Core.List.{List, [], _∷_, _++_}
-use Rattle.lines.specs.Lines.{line-end}
+use Rattle.ascii.specs.Bytes.{line-end}
 use Rattle.lines.specs.Prints.{Prints}
 use Rattle.text.specs.declared.answer.Answered.{Answered}
 

@@ -1,29 +1,19 @@
 -- What a text means: the words that stand in its lines between white space, comments left out, or the line at which
 -- it is no text of words. Assumes nothing.
-use Prim.Native.Nat.{ℕ, zero, suc, _+_, _-_, _*_, _^_}
-use mathlib.Core.Bool.{Bool, true, false, cond, _&&_, _||_}
+use Prim.Native.Nat.{ℕ, zero, suc, _+_, _^_}
+use mathlib.Core.Bool.{Bool, cond, _&&_, _||_}
 use mathlib.Core.Option.{Option, none, some}
 use mathlib.Core.List.{List, [], _∷_, _++_, map}
 use lib.ListN.{length, take}
-use lib.Dec.{leb, ltb, eqb}
-use Rattle.lines.specs.Lines.{space, line-end}
+use lib.Dec.{ltb, eqb}
+use Rattle.ascii.specs.Bytes.{space, ends-line, runs, split, all-digits, decimal-from}
 use Rattle.text.specs.Limits.{most-text}
 use Rattle.text.specs.declared.reader.Ending.{Ending}
 use Rattle.text.specs.declared.reader.Ending.the-variants as ending
 
--- the bytes that count in a text, as ASCII has them, beside a space and a line end: the sign that begins a comment,
--- the first digit and the last
+-- the sign that begins a comment, as ASCII has it
 abbrev pub comment-sign : ℕ
 comment-sign = 35
-
-abbrev pub ascii-zero : ℕ
-ascii-zero = 48
-
-abbrev pub ascii-nine : ℕ
-ascii-nine = 57
-
-abbrev pub ends-line : ℕ → Bool
-ends-line b = eqb b line-end
 
 abbrev pub begins-comment : ℕ → Bool
 begins-comment b = eqb b comment-sign
@@ -31,26 +21,6 @@ begins-comment b = eqb b comment-sign
 -- white space within a line: a space, a tab or a carriage return
 abbrev pub blank : ℕ → Bool
 blank b = eqb b space || eqb b 9 || eqb b 13
-
-abbrev pub ascii-digit : ℕ → Bool
-ascii-digit b = leb ascii-zero b && leb b ascii-nine
-
--- bytes cut at each byte for which a test holds, which is left out: the bytes to the first such byte, and the other
--- runs of bytes
-pub record Split : Type 0 where
-  pub first : List ℕ
-  pub others : List (List ℕ)
-
-abbrev pub runs : Split → List (List ℕ)
-runs c = c .first ∷ c .others
-
-unfoldable pub split : (ℕ → Bool) → List ℕ → Split
-split test [] = record { first = []; others = [] }
-split test (b ∷ bs) =
-    elim (test b) [
-      | true ↦ record { first = []; others = runs (split test bs) }
-      | false ↦ record { first = b ∷ split test bs .first; others = split test bs .others }
-    ]
 
 -- those runs that are not empty
 unfoldable pub not-empty : List (List ℕ) → List (List ℕ)
@@ -78,16 +48,6 @@ on-line n fs = map (λ f. record { line = n; bytes = f }) fs
 unfoldable pub fields-from : ℕ → List (List ℕ) → List Field
 fields-from n [] = []
 fields-from n (l ∷ ls) = on-line n (fields l) ++ fields-from (n + 1) ls
-
--- whether all bytes are digits
-unfoldable pub all-digits : List ℕ → Bool
-all-digits [] = true
-all-digits (b ∷ bs) = ascii-digit b && all-digits bs
-
--- the number that digits stand for in decimal, where those in front of them stand for v
-unfoldable pub decimal-from : ℕ → List ℕ → ℕ
-decimal-from v [] = v
-decimal-from v (b ∷ bs) = decimal-from (10 * v + (b - ascii-zero)) bs
 
 -- the word that bytes stand for behind digits that stand for v: there is one where all are digits and the number fits
 -- a word

@@ -4,7 +4,7 @@ use libc::STDOUT_FILENO;
 use lines::put_text;
 ghost use mathlib.Core.List.{List, [], _∷_, _++_};
 ghost use Prim.Native.Nat.{ℕ};
-ghost use Rattle.lines.specs.Lines.{line-end};
+ghost use Rattle.ascii.specs.Bytes.{line-end};
 ghost use Rattle.lines.specs.Prints.{Prints};
 ghost use Rattle.text.specs.Answer.{only-says, Gives};
 

@@ -2,7 +2,7 @@
 use Prim.Native.Nat.{ℕ}
 use mathlib.Core.Option.{none, some}
 use mathlib.Core.List.{List}
-use Rattle.lines.specs.Lines.{ascii}
+use Rattle.ascii.specs.Bytes.{ascii}
 use Rattle.refusal.specs.Check.{answer}
 use Rattle.plan.specs.Checked.{plan-checks, lodged-tally}
 use Rattle.program.specs.Printed.{tally-line, refusal-line}

@@ -4,8 +4,10 @@ use Prim.Native.Nat.{ℕ}
 use mathlib.Core.Path.{_≡_}
 use mathlib.Core.Bool.{false}
 use mathlib.Core.List.{List, [], _∷_, _++_}
-use Rattle.lines.specs.Lines.{line-end, spaced}
-use Rattle.text.specs.Text.{comment-sign, ends-line}
+use Rattle.ascii.specs.Bytes.{line-end}
+use Rattle.lines.specs.Lines.{spaced}
+use Rattle.ascii.specs.Bytes.{ends-line}
+use Rattle.text.specs.Text.{comment-sign}
 
 -- bytes among which no line ends
 pub data Unbroken : List ℕ → Type 0 where

@@ -9,7 +9,8 @@ use lib.ListN.{length, take, set}
 use lib.Dec.{ltb}
 use Rattle.text.specs.declared.reader.Mode.the-variants as mode
 use Rattle.text.specs.declared.reader.Reader.{Reader}
-use Rattle.text.specs.Text.{ends-line, begins-comment, blank, runs, split, not-empty, uncommented}
+use Rattle.ascii.specs.Bytes.{ends-line, runs, split}
+use Rattle.text.specs.Text.{begins-comment, blank, not-empty, uncommented}
 use Rattle.text.specs.Text.{Field, on-line, fields-from, word-from}
 use Rattle.text.specs.Text.{Reading, NoWord, NoRoom, in-front, read, reading}
 

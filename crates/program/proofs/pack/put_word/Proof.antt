@@ -1,8 +1,8 @@
 -- `put_word` meets its contract: its four bytes are put. Assumes nothing.
 use Rattle.program.specs.Bytes.{bytes-of}
 use borrow.Author.Needs.{needs}
-use Rattle.encode.proofs.pack.put_word.Statement.{statement}
-use Rattle.encode.proofs.pack.put_word.Tie as tie
+use Rattle.program.proofs.pack.put_word.Statement.{statement}
+use Rattle.program.proofs.pack.put_word.Tie as tie
 
 cast-t9 : tie.Need-cast-t9
 cast-t9 c = search needs

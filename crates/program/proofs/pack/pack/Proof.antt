@@ -7,10 +7,10 @@ use lib.ListN.{length, take}
 use lib.Seq.{take-length}
 use Rattle.lines.specs.Prints.{Prints}
 use Rattle.lines.proofs.PrintLaws.{prints-length}
 use Rattle.program.specs.Bytes.{all-bytes}
-use Rattle.encode.proofs.PackLaws.{no-word-put, word-put}
-use Rattle.encode.proofs.pack.pack.Statement.{statement}
-use Rattle.encode.proofs.pack.pack.Tie as tie
+use Rattle.program.proofs.PackLaws.{no-word-put, word-put}
+use Rattle.program.proofs.pack.pack.Statement.{statement}
+use Rattle.program.proofs.pack.pack.Tie as tie
 
 abbrev Inv-loop : tie.InvT-loop
 Inv-loop words out₀ end₀ i₀ out end i = Prints (all-bytes (take i words)) 0 out₀ out end × (i ≤ length words)

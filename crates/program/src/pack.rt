@@ -1,8 +1,8 @@
 // Words as bytes.
+use crate::word::BYTE;
 use lines::put_text;
-use program::word::BYTE;
 ghost use Rattle.program.specs.Form.{word-bytes};
 ghost use Rattle.program.specs.Bytes.{bytes-of, all-bytes};
 ghost use Rattle.lines.specs.Prints.{Prints};
 
 // Puts a word, its lowest byte first.
@@ -22,7 +22,7 @@ fn put_word(out: &mut [u8], at: usize, x: u32) -> usize
 }
 
 // Puts words at the front.
-pub(crate) fn pack(words: &[u32], out: &mut [u8]) -> usize
+pub fn pack(words: &[u32], out: &mut [u8]) -> usize
     ensures { λ r. ⌜ Prints (all-bytes (now (words .entry))) 0 (now (out .entry)) (now (out .exit)) r ⌝ }
 {
     let mut end = 0;

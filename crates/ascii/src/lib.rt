@@ -1,0 +1,1 @@
+// Texts as bytes: definitions and laws alone, in specs/ and proofs/. No code.
