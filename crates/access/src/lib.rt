@@ -3,6 +3,7 @@ ghost use mathlib.Core.Path.{_≡_};
 ghost use mathlib.Core.Bool.{false};
 ghost use Prim.Native.Nat.{_<_, _^_};
 ghost use lib.ListN.{getD, set, take};
+ghost use lib.Seq.{sets};
 
 // The word at index i.
 pub fn word(words: &[u32], i: usize) -> u32
@@ -24,6 +25,17 @@ pub fn put(words: &mut [u32], i: usize, x: u32)
 {
     if i < words.len() {
         words[i] = x;
+    }
+}
+
+// Writes words over the first ones. What there is no room for is dropped.
+pub fn put_all(words: &mut [u32], values: &[u32])
+    ensures { λ _. ⌜ now (words .exit) ≡ sets (now (words .entry)) 0 (now (values .entry)) ⌝ }
+{
+    let mut v = 0;
+    while v < values.len() {
+        put(words, v, word(values, v));
+        v += 1;
     }
 }
 

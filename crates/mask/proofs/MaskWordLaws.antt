@@ -62,11 +62,12 @@ binary-ones [] = refl
 binary-ones (true ∷ m) = rw (ones-step (2 * binary m + 1), lowest-digit _ true, other-digits _ true) (omega (arith, binary-ones m))
 binary-ones (false ∷ m) = rw (ones-step (2 * binary m + 0), lowest-digit _ false, other-digits _ false) (omega (arith, binary-ones m))
 
-ones-at-odd : (i n w : ℕ) → w % 2 ≡ 1 → ones-at i (suc n) w ≡ i ∷ ones-at (i + 1) n (w / 2)
+-- a word by its lowest digit
+pub ones-at-odd : (i n w : ℕ) → w % 2 ≡ 1 → ones-at i (suc n) w ≡ i ∷ ones-at (i + 1) n (w / 2)
 unfolding ones-at
 ones-at-odd i n w odd = rw (odd, ones-at)
 
-ones-at-even : (i n w : ℕ) → w % 2 ≡ 0 → ones-at i (suc n) w ≡ ones-at (i + 1) n (w / 2)
+pub ones-at-even : (i n w : ℕ) → w % 2 ≡ 0 → ones-at i (suc n) w ≡ ones-at (i + 1) n (w / 2)
 unfolding ones-at
 ones-at-even i n w even = rw (even, ones-at)
 

@@ -16,7 +16,7 @@ use Rattle.mask.specs.between.Places.{ones-at, places, at-places, kept-b
 use Rattle.mask.proofs.MaskWordLaws.{ones-at-none, Lowest, lowest-one}
 
 -- the words stored one after the other are those stored in one go
-stores-joined : (out vs us : List ℕ) (at : ℕ) → sets (sets out at vs) (at + length vs) us ≡ sets out at (vs ++ us)
+pub stores-joined : (out vs us : List ℕ) (at : ℕ) → sets (sets out at vs) (at + length vs) us ≡ sets out at (vs ++ us)
 stores-joined out [] us at = rw add-zero
 stores-joined out (v ∷ vs) us at = rw (add-suc, ← suc-add) (stores-joined (set out at v) vs us (suc at))
 

@@ -100,17 +100,16 @@ pub fn mask_of(flags: &[bool]) -> Mask
 
 // Writes the plan's words at the ones of a mask's word, whose lowest bit has place `from`, to `out` from index `at` on.
 // Returns the index after them.
-fn write_word(bits: u64, from: usize, plan: &[u32], out: &mut [u32], at: usize) -> usize
-    requires { ⌜ (from ≤ mask-bits) × (at ≤ mask-bits) ⌝ }
+pub fn write_word(bits: u64, from: u32, plan: &[u32], out: &mut [u32], at: u32) -> usize
     ensures { λ r. ⌜ (now (out .exit)
         ≡ sets (now (out .entry)) at (at-places (now (plan .entry)) (ones-at from word-bits bits)))
         × (r ≡ at + length (ones-at from word-bits bits)) ⌝ }
 {
     let mut rest = bits;
-    let mut to = at;
+    let mut to = at as usize;
     while rest != 0 {
         let lowest = u64::trailing_zeros(rest);
-        put(out, to, word(plan, from + lowest as usize));
+        put(out, to, word(plan, from as usize + lowest as usize));
         rest -= 1 << lowest;
         to += 1;
     }
@@ -127,7 +126,7 @@ pub fn write_kept(mask: Mask, plan: &[u32], out: &mut [u32]) -> usize
     let mut to = 0;
     let mut k = 0;
     while k < Mask::WORDS {
-        to = write_word(words[k], k * Mask::BITS, plan, out, to);
+        to = write_word(words[k], (k * Mask::BITS) as u32, plan, out, to as u32);
         k += 1;
     }
     to

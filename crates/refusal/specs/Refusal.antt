@@ -1,10 +1,11 @@
--- Document 01's table "Causes of refusal": the number and the place of each answer. Assumes nothing.
+-- Document 01's table "Causes of refusal", with those of document 02 that have joined it: the number and the place of
+-- each answer. Assumes nothing.
 use Prim.Native.Nat.{ℕ}
 use mathlib.Core.Option.{Option, none, some}
 use Rattle.refusal.specs.declared.Refusal.{Refusal}
 use Rattle.refusal.specs.declared.Refusal.the-variants.{Length, Edition, Counts, Pair, Variable, Fact, Cost}
 use Rattle.refusal.specs.declared.Refusal.the-variants.{PlanLength, UnknownAction, ShortOutput, NotAPlan}
-use Rattle.refusal.specs.declared.Refusal.the-variants.{Unmarked}
+use Rattle.refusal.specs.declared.Refusal.the-variants.{Unmarked, Form, Unsupported, Unwritable}
 use Rattle.refusal.specs.declared.Verdict.{Verdict}
 use Rattle.refusal.specs.declared.Verdict.the-variants.{Passed, Refused}
 
@@ -26,6 +27,9 @@ told-refusal (UnknownAction i) = record { number = 9; place = i }
 told-refusal (ShortOutput n) = record { number = 10; place = n }
 told-refusal (NotAPlan i) = record { number = 11; place = i }
 told-refusal (Unmarked n) = record { number = 12; place = n }
+told-refusal (Form n) = record { number = 13; place = n }
+told-refusal (Unsupported n) = record { number = 14; place = n }
+told-refusal Unwritable = record { number = 15; place = 0 }
 
 -- a verdict's refusal, if it is one
 abbrev pub told : Verdict → Option Told

@@ -1,4 +1,4 @@
-// Document 01's causes of refusal, each with the place that is not always the same. place: where a check fires, if it
+// The causes of refusal of documents 01 and 02, each with the place that is not always the same. place: where a check fires, if it
 // does. specs/Refusal.antt gives each its number and place, and `number` and `place` hold the code to it.
 pub mod place;
 
@@ -18,10 +18,13 @@ pub enum Refusal {
     ShortOutput(usize),
     NotAPlan(usize),
     Unmarked(usize),
+    Form(usize),
+    Unsupported(usize),
+    Unwritable,
 }
 
 impl Refusal {
-    // The number in document 01's table.
+    // The number in document 01's table, which document 02's join.
     pub fn number(self) -> u32
         ensures { λ r. ⌜ r ≡ told-refusal self .number ⌝ }
     {
@@ -38,6 +41,9 @@ impl Refusal {
             Refusal::ShortOutput(_) => 10,
             Refusal::NotAPlan(_) => 11,
             Refusal::Unmarked(_) => 12,
+            Refusal::Form(_) => 13,
+            Refusal::Unsupported(_) => 14,
+            Refusal::Unwritable => 15,
         }
     }
 
@@ -58,6 +64,9 @@ impl Refusal {
             Refusal::ShortOutput(n) => n,
             Refusal::NotAPlan(i) => i,
             Refusal::Unmarked(n) => n,
+            Refusal::Form(n) => n,
+            Refusal::Unsupported(n) => n,
+            Refusal::Unwritable => 0,
         }
     }
 }

@@ -63,7 +63,7 @@ spelled w k from (p ∷ ps) pairs parts end =
     (stands-second p (flatten ps) parts _ refl)
     (omega (arith, length-append p (flatten ps))))
 
-pairs-of-length : (from : ℕ) (ps : List (List ℕ)) → length (pairs-of from ps) ≡ 2 * length ps
+pub pairs-of-length : (from : ℕ) (ps : List (List ℕ)) → length (pairs-of from ps) ≡ 2 * length ps
 unfolding pairs-of
 pairs-of-length from [] = refl
 pairs-of-length from (p ∷ ps) = omega (arith, pairs-of-length (from + length p) ps)

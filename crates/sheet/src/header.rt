@@ -1,4 +1,5 @@
 // Causes 1 to 3: the length, the edition, the numbers of variables and actions.
+use crate::layout::EDITION;
 use crate::layout::EDITION_AT;
 use crate::layout::LENGTH_AT;
 use crate::layout::PAIRS_AT;
@@ -8,9 +9,6 @@ use crate::layout::variables;
 use crate::limits::Sheet;
 ghost use mathlib.Core.Path.{_≡_};
 ghost use Rattle.sheet.specs.Causes.{bad-length, bad-edition, bad-counts};
-
-// The one edition that is read.
-const EDITION: usize = 1;
 
 pub(crate) fn bad_length(w: &[u32]) -> bool
     ensures { λ r. ⌜ r ≡ bad-length (now (w .entry)) ⌝ }

@@ -6,27 +6,31 @@ ghost use Rattle.sheet.specs.Layout.{word as word-at, variables as varia
 ghost use Rattle.sheet.specs.Layout.{offset as offset-of, size as size-of, cost-word};
 
 // The words of the header, and the pair where the actions begin.
-pub(crate) const EDITION_AT: usize = 0;
+pub const EDITION_AT: usize = 0;
 
-pub(crate) const VARIABLES_AT: usize = 1;
+pub const VARIABLES_AT: usize = 1;
 
-pub(crate) const ACTIONS_AT: usize = 2;
+pub const ACTIONS_AT: usize = 2;
 
 pub const LENGTH_AT: usize = 3;
 
 pub const PAIRS_AT: usize = 4;
 
-pub(crate) const PAIR: usize = 2;
+pub const PAIR: usize = 2;
 
-pub(crate) const DOMAINS: usize = 0;
+pub const DOMAINS: usize = 0;
 
-pub(crate) const INITIAL: usize = 1;
+pub const INITIAL: usize = 1;
 
-pub(crate) const GOAL: usize = 2;
+pub const GOAL: usize = 2;
 
-pub(crate) const FIRST_ACTION: usize = 3;
+pub const FIRST_ACTION: usize = 3;
+
 // An action's part begins with its cost and its number of precondition facts.
-pub(crate) const ACTION_HEADER: usize = 2;
+pub const ACTION_HEADER: usize = 2;
+
+// The one edition that is read and written.
+pub const EDITION: usize = 1;
 
 // A word as a number.
 pub(crate) fn number(w: &[u32], i: usize) -> usize

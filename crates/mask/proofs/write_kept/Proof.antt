@@ -49,8 +49,14 @@ array-read-write-word c = search needs
 mul-write-word-2 : tie.Need-mul-write-word-2 Inv-loop μ-loop
 mul-write-word-2 c = search needs
 
+cast-write-word : tie.Need-cast-write-word Inv-loop μ-loop
+cast-write-word c = search needs
+
+cast-write-word-2 : tie.Need-cast-write-word-2 Inv-loop μ-loop
+cast-write-word-2 c = search needs
+
 write-word-requires : tie.Need-write-word-requires Inv-loop μ-loop
-write-word-requires c κs = omega arith
+write-word-requires c κs = search needs
 
 add-k : tie.Need-add-k Inv-loop μ-loop
 add-k c = search needs
@@ -95,6 +101,8 @@ write-kept-spec =
     mul-write-word
     array-read-write-word
     mul-write-word-2
+    cast-write-word
+    cast-write-word-2
     write-word-requires
     add-k
     loop-less

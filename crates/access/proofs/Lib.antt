@@ -1,0 +1,2 @@
+-- StoreLaws: a run of stores into lent words.
+pub mod StoreLaws
