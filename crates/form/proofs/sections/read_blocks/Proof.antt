@@ -1,0 +1,67 @@
+-- `read_blocks` meets its contract. The loop's invariant: going on with the blocks that are left finds what going on with all of them found. The measure is
+-- how many are left. Assumes nothing.
+use Prim.Native.Nat.{_-_}
+use lib.ListN.{length}
+use native.Mathlib.Omega.{arith}
+use mathlib.Core.Path.{_≡_, refl, _∙_}
+use borrow.Author.Needs.{needs}
+use Rattle.form.proofs.ReadsLaws.{Left, repeats-begin, repeats-more, repeats-stopped, repeats-over}
+use Rattle.form.specs.between.Reading.{block-lines}
+use Rattle.form.proofs.sections.read_blocks.Statement.{statement}
+use Rattle.form.proofs.sections.read_blocks.Tie as tie
+
+abbrev Inv-loop : tie.InvT-loop
+Inv-loop text tape₀ block n current₀ i₀ tape current i = Left i n (block-lines block) text current₀ tape₀ current tape × (length tape ≡ length tape₀)
+
+abbrev μ-loop : tie.MeasureT-loop
+μ-loop text tape₀ block n current₀ i₀ tape current i = n - i
+
+loop-holds : tie.Need-loop-holds Inv-loop μ-loop
+loop-holds c = (repeats-begin _ _ (c .before .before .pre .0), refl)
+
+same-length : tie.Need-same-length Inv-loop μ-loop
+same-length c = search needs
+
+returns : tie.Need-returns Inv-loop μ-loop
+returns c = repeats-stopped _ _ _ (c .before .before .loop .inv .0) (c .if1 .taken)
+
+read-block-requires : tie.Need-read-block-requires Inv-loop μ-loop
+read-block-requires c κs =
+    let turn = c .before .before .before in
+    let start = turn .before .before .before in
+    (turn .loop .inv .0 .within, omega (arith, start .pre .1, turn .loop .inv .1))
+
+add-i : tie.Need-add-i Inv-loop μ-loop
+add-i c = search needs
+
+loop-less : tie.Need-loop-less Inv-loop μ-loop
+loop-less c = omega (arith, c .before .before .before .before .before .loop-test .taken)
+
+loop-again : tie.Need-loop-again Inv-loop μ-loop
+loop-again c =
+    let after-before = c .before .before in
+    let after-before-5 = after-before .before .before .before in
+    let turn = after-before-5 .before in
+    (repeats-more _ _ _ (turn .loop .inv .0) (after-before-5 .loop-test .taken) (after-before .read-block .ensures), after-before .read-block .kept .1 .1 .0 ∙ turn .loop .inv .1)
+
+same-length-2 : tie.Need-same-length-2 Inv-loop μ-loop
+same-length-2 c = search needs
+
+returns-2 : tie.Need-returns-2 Inv-loop μ-loop
+returns-2 c = repeats-over _ _ _ (c .before .loop .inv .0) (c .loop-test .left)
+
+pub read-blocks-spec : {M : Type 1} → statement M
+read-blocks-spec =
+    tie.close
+    (tie.spec
+    Inv-loop
+    μ-loop
+    loop-holds
+    same-length
+    returns
+    read-block-requires
+    add-i
+    loop-less
+    loop-again
+    same-length-2
+    returns-2)

@@ -1,0 +1,3 @@
+-- What stands between the code and the definitions to be believed: laws tie the two together.
+-- Reading: what the rest of a text means to a reader that stands within it.
+pub mod Reading
