@@ -1,11 +1,13 @@
--- A run of stores of a list into lent words, by the cases of a loop over it: none is left, or one more is; and runs one behind the other. Assumes nothing.
-use Prim.Native.Nat.{ℕ, zero, suc, _+_, _≤_, _<_}
+-- Runs of stores into lent words, one behind the other, and what a service has stored. Assumes nothing.
+use Prim.Native.Nat.{ℕ, zero, suc, _+_, _≤_}
+use native.Mathlib.Nat.{zero-add}
 use native.Mathlib.Numerals.{add-one}
-use mathlib.Core.Path.{_≡_, refl, _∙_, ap}
+use native.Mathlib.Omega.{arith}
+use mathlib.Core.Path.{_≡_, refl, sym, _∙_, ap, subst}
 use mathlib.Core.Option.{Option, none, some}
 use mathlib.Core.List.{List, _++_}
-use lib.ListN.{length, getD, set, drop, drop-of-length-le}
-use lib.Seq.{sets, drop-cons, set-getD}
+use lib.ListN.{length, take, drop, take-append-drop}
+use lib.Seq.{sets, sets-eq, set-getD}
 use Rattle.refusal.specs.Refusal.{Told}
 use Rattle.tally.specs.declared.Tally.{Tally}
 use Rattle.refusal.specs.Check.{Check, answer}
@@ -21,16 +23,12 @@ use Rattle.step.specs.Step.{Steps}
 use Rattle.step.proofs.StepTheorem.{step-theorem}
 use Rattle.minimal.specs.Minimised.{most-unmarked}
 use Rattle.minimal.specs.Statement.{Answered, Refused-unmarked, Demand-three-of, Demand-three}
+use Rattle.translation.specs.declared.translate.Translated.{Translated}
+use Rattle.translation.specs.declared.translate.Translated.the-variants.{Refused, Written}
+use Rattle.translation.specs.Translation.{text-sheet, Translates}
 use Rattle.exports.specs.Words.{answer-words, tally-words, lent-state, Steps-lent, Writes-reduced, Answers-lent}
+use Rattle.exports.specs.Words.{translated-words, Translate-lent, Translates-lent}
 use Rattle.exports.specs.Statement.{Demand-three-lent}
-
--- from the end of a list on nothing is stored
-pub rest-over : (l vs : List ℕ) (i : ℕ) → length vs ≤ i → sets l i (drop i vs) ≡ l
-rest-over l vs i h = rw (drop-of-length-le vs h)
-
--- before its end, the value here is stored first
-pub rest-next : (l vs : List ℕ) (i : ℕ) → i < length vs → sets l i (drop i vs) ≡ sets (set l i (getD vs i 0)) (i + 1) (drop (i + 1) vs)
-rest-next l vs i h = rw (add-one i, drop-cons vs i 0)
 
 -- storing what stands there changes nothing
 same-stored : (l : List ℕ) (i n : ℕ) → sets l i (table (word l) i n) ≡ l
@@ -96,3 +94,21 @@ lent-demand w l output output′ mask mask′ out out′ words given demand writ
             answered = writes .answered ∙ rw (refused .refuses, refused .tally);
           };
     }
+
+-- a sheet at the front of lent words is stored over them
+stored-front : (s before after : List ℕ) → length s ≤ length before → take (length s) after ≡ s → drop (length s) after ≡ drop (length s) before
+    → after ≡ sets before 0 s
+stored-front s before after room front rest =
+    sym (take-append-drop (length s) after) ∙ ap (λ l. l ++ drop (length s) after) front ∙ ap (λ l. s ++ l) rest
+    ∙ sym (sets-eq s before 0 (omega arith) ∙ ap (λ k. s ++ drop k before) (zero-add (length s)))
+
+-- what reading a planner's text has stored
+pub translates-lent : (text output output′ out out′ : List ℕ) (r : Translated) → Translates text output r output′
+    → out′ ≡ sets out 0 (translated-words r) → Translates-lent text output output′ out out′
+translates-lent text output output′ out out′ (Refused x) done written =
+    subst (λ t. Translate-lent t (text-sheet text) output output′ out out′) (done .answers) (record { sheet-left = done .leaves; answered = written })
+translates-lent text output output′ out out′ (Written n) done written =
+    let counted : n ≡ length (text-sheet text) = done .leaves .counted in
+    let left : output′ ≡ sets output 0 (text-sheet text) =
+    stored-front (text-sheet text) output output′ (rw counted at (done .leaves .room)) (rw counted at (done .leaves .sheet)) (rw counted at (done .leaves .rest)) in
+    subst (λ t. Translate-lent t (text-sheet text) output output′ out out′) (done .answers) (record { sheet-left = left; answered = rw counted at written })

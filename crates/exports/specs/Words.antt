@@ -5,7 +5,7 @@ use mathlib.Core.Option.{Option, none, some}
 use mathlib.Core.List.{List, [], _∷_, _++_}
 use lib.ListN.{length, replicate}
 use lib.Seq.{sets}
-use Rattle.refusal.specs.Refusal.{Told}
+use Rattle.refusal.specs.Refusal.{Told, told-refusal}
 use Rattle.refusal.specs.Check.{answer, unless-refused}
 use Rattle.tally.specs.declared.Tally.{Tally}
 use Rattle.tally.specs.declared.Order.{Order}
@@ -22,6 +22,9 @@ use Rattle.landmark.specs.Marks.{marks}
 use Rattle.minimal.specs.Minimised.{most-unmarked, minimal-checks, minimal-of}
 use Rattle.sheet.specs.Limits.{limits}
 use Rattle.step.specs.Step.{step-checks, state-after}
+use Rattle.translation.specs.declared.translate.Translated.{Translated}
+use Rattle.translation.specs.declared.translate.Translated.the-variants.{Refused, Written}
+use Rattle.translation.specs.Translation.{text-sheet, translation-checks}
 use Rattle.sheet.specs.Layout.{word}
 use Rattle.sheet.specs.Decode.{table}
 
@@ -107,3 +110,19 @@ pub record Both-lent (t : Option Told) (w l first first′ second second′ out 
 abbrev pub Reduces-both-lent : List ℕ → List ℕ → List ℕ → List ℕ → List ℕ → List ℕ → List ℕ → List ℕ → Type 0
 Reduces-both-lent w l first first′ second =
     Both-lent (answer (reduction-checks w l (min (length first) (length second)))) w l first first′ second
+
+-- what reading a planner's text answers: the number and the place of a refusal and 0, or 0 and 0 and how many words the
+-- sheet has
+abbrev pub translated-words : Translated → List ℕ
+translated-words (Refused r) = told-refusal r .number ∷ told-refusal r .place ∷ 0 ∷ []
+translated-words (Written n) = 0 ∷ 0 ∷ n ∷ []
+
+-- a planner's text read into a sheet over lent words, of checks that answer t: the sheet over `output`, the answer and
+-- how many words it has over `out`
+pub record Translate-lent (t : Option Told) (sheet output output′ out out′ : List ℕ) : Type 0 where
+  pub sheet-left : output′ ≡ unless-refused t (sets output 0 sheet) output
+  pub answered : out′ ≡ sets out 0 (answer-words t ++ (unless-refused t (length sheet) 0 ∷ []))
+
+abbrev pub Translates-lent : List ℕ → List ℕ → List ℕ → List ℕ → List ℕ → Type 0
+Translates-lent text output =
+    Translate-lent (answer (translation-checks text (length output))) (text-sheet text) output

@@ -8,13 +8,17 @@ use refusal::Verdict;
 use sheet::limits::Sheet;
 use step::state::State;
 use tally::Tally;
+use translation::translate::Translated;
 ghost use mathlib.Core.Path.{_≡_};
 ghost use Prim.Native.Nat.{_<_, _^_};
 ghost use mathlib.Core.List.{[], _∷_, _++_};
 ghost use lib.Seq.{sets};
 ghost use Rattle.refusal.specs.Refusal.{told};
 ghost use Rattle.plan.specs.Checked.{told-answer, told-tally};
-ghost use Rattle.exports.specs.Words.{answer-words, tally-words, lent-state, Writes-reduced};
+ghost use Rattle.exports.specs.Words.{answer-words, tally-words, translated-words, lent-state, Writes-reduced};
+
+// Where the number of words of a sheet stands, after the refusal's number and place.
+const WORDS_AT: usize = 2;
 
 // Where the tally of a plan stands, after the refusal's number and place.
 const TALLY_AT: usize = 2;
@@ -63,6 +67,23 @@ pub(crate) fn write_answer(out: &mut [u64], given: Answer)
     }
 }
 
+// Writes what reading a planner's text answers: the number and the place of a refusal, or 0 and 0, then how many words
+// the sheet has.
+pub(crate) fn write_translated(out: &mut [u64], given: Translated)
+    ensures { λ _. ⌜ now (out .exit) ≡ sets (now (out .entry)) 0 (translated-words given) ⌝ }
+{
+    match given {
+        Translated::Refused(refusal) => {
+            write_pair(out, 0, refusal.number() as u64, refusal.place() as u64);
+            put64(out, WORDS_AT, 0);
+        }
+        Translated::Written(words) => {
+            write_pair(out, 0, 0, 0);
+            put64(out, WORDS_AT, words as u64);
+        }
+    }
+}
+
 // Writes what a service that strikes answers: the four words of its mask, and its answer.
 pub(crate) fn write_reduced(mask: &mut [u64], out: &mut [u64], kept: Mask, given: Answer)
     ensures { λ _. ⌜ Writes-reduced (kept .words) given
@@ -105,15 +126,4 @@ pub(crate) fn read_state(words: &[u32]) -> State
         v += 1;
     }
     State { values }
-}
-
-// Writes values from the first word on.
-pub(crate) fn write_values(words: &mut [u32], values: &[u32])
-    ensures { λ _. ⌜ now (words .exit) ≡ sets (now (words .entry)) 0 (now (values .entry)) ⌝ }
-{
-    let mut v = 0;
-    while v < values.len() {
-        put(words, v, word(values, v));
-        v += 1;
-    }
 }

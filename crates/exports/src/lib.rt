@@ -12,9 +12,10 @@ use crate::lent::write_answer;
 use crate::lent::write_both;
 use crate::lent::write_pair;
 use crate::lent::write_reduced;
-use crate::lent::write_values;
+use crate::lent::write_translated;
 use crate::lent::write_verdict;
 use crate::lent::write_wide;
+use access::put_all;
 use elimination::both::cheaper;
 use elimination::both::kept_part;
 use elimination::single::Elimination;
@@ -26,6 +27,7 @@ use sheet::check::check_sheet;
 use step::one::step;
 use tally::Order;
 use tally::Tally;
+use translation::translate::translate;
 ghost use mathlib.Core.Path.{_≡_};
 ghost use lib.ListN.{length};
 ghost use lib.Seq.{sets};
@@ -36,7 +38,7 @@ ghost use Rattle.elimination.specs.declared.single.Elimination.the-variants.{Pl
 ghost use Rattle.elimination.specs.Eliminations.{cheaper-part};
 ghost use Rattle.exports.specs.Words.{answer-words, lent-tally, tally-words, order-number};
 ghost use Rattle.exports.specs.Words.{Steps-lent, Checks-lent, Marks-lent, Eliminates-lent, Minimises-lent};
-ghost use Rattle.exports.specs.Words.{Reduces-both-lent};
+ghost use Rattle.exports.specs.Words.{Reduces-both-lent, Translates-lent};
 ghost use Rattle.exports.specs.Statement.{Demand-three-lent};
 
 // Checks a task: the number and the place of its refusal go to `out`, or 0 and 0.
@@ -94,7 +96,7 @@ pub extern "C" fn hollchiku_step(words: &[u32], state: &mut [u32], action: u32, 
     let after = stepped.state;
     let values = after.values;
     let verdict = stepped.verdict;
-    write_values(state, &values);
+    put_all(state, &values);
     write_verdict(out, verdict);
 }
 
@@ -114,7 +116,7 @@ pub extern "C" fn hollchiku_check_plan(
     let end = checked.state;
     let values = end.values;
     let given = checked.answer;
-    write_values(state, &values);
+    put_all(state, &values);
     write_answer(out, given);
 }
 
@@ -236,6 +238,17 @@ pub extern "C" fn hollchiku_kept_part<'a>(
             steps: others,
         },
     );
-    write_values(part, kept);
+    put_all(part, kept);
     kept.len() as u64
+}
+
+// Reads a planner's text into a sheet: its words go to `output`; the number and the place of its refusal, or 0 and 0, and
+// how many words it has go to `out`.
+#[no_mangle]
+pub extern "C" fn hollchiku_translate(text: &[u8], output: &mut [u32], out: &mut [u64])
+    ensures { λ _. ⌜ Translates-lent (now (text .entry)) (now (output .entry)) (now (output .exit))
+        (now (out .entry)) (now (out .exit)) ⌝ }
+{
+    let given = translate(text, output);
+    write_translated(out, given);
 }

@@ -20,7 +20,9 @@ same-length-3 : tie.Need-same-length-3
 same-length-3 c = search needs
 
 returns : tie.Need-returns
-returns c = let both = c .before .before .before .before .before .before .before .before .before .before .cheaper .ensures in record { first-left = both .first-output ∙ rw (both .refusal); second-left = both .second-output ∙ rw (both .refusal); answered = c .before .before .write-both .ensures ∙ rw (both .first-tally, both .second-tally, both .refusal) }
+returns c =
+    let both = c .before .before .before .before .before .before .before .before .before .before .cheaper .ensures in record
+    { first-left = both .first-output ∙ rw (both .refusal); second-left = both .second-output ∙ rw (both .refusal); answered = c .before .before .write-both .ensures ∙ rw (both .first-tally, both .second-tally, both .refusal) }
 
 pub hollchiku-cheaper-spec : {M : Type 1} → statement M
 hollchiku-cheaper-spec =

@@ -7,11 +7,11 @@ use Rattle.exports.proofs.hollchiku_check_plan.Tie as tie
 check-plan-requires : tie.Need-check-plan-requires
 check-plan-requires c κs = search needs
 
-slice-aggregate-write-values : tie.Need-slice-aggregate-write-values
-slice-aggregate-write-values c = search needs
+slice-aggregate-put-all : tie.Need-slice-aggregate-put-all
+slice-aggregate-put-all c = search needs
 
-write-values-requires : tie.Need-write-values-requires
-write-values-requires c κs = search needs
+put-all-requires : tie.Need-put-all-requires
+put-all-requires c κs = search needs
 
 write-answer-requires : tie.Need-write-answer-requires
 write-answer-requires c κs = search needs
@@ -23,7 +23,9 @@ same-length-2 : tie.Need-same-length-2
 same-length-2 c = search needs
 
 returns : tie.Need-returns
-returns c = let checks = c .before .before .before .before .before .before .before .before .before .before .before .check-plan .ensures in let written = c .before .before .before .before .before .before .write-values .ensures in
+returns c =
+    let checks = c .before .before .before .before .before .before .before .before .before .before .before .check-plan .ensures in let written = c .before
+    .before .before .before .before .before .put-all .ensures in
     record { end = written ∙ rw (checks .end); answered = c .before .before .write-answer .ensures ∙ rw (checks .refusal, checks .tally) }
 
 pub hollchiku-check-plan-spec : {M : Type 1} → statement M
@@ -31,8 +33,8 @@ hollchiku-check-plan-spec =
     tie.close
     (tie.spec
     check-plan-requires
-    slice-aggregate-write-values
-    write-values-requires
+    slice-aggregate-put-all
+    put-all-requires
     write-answer-requires
     same-length
     same-length-2

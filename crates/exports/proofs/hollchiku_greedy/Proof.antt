@@ -20,7 +20,9 @@ same-length-3 : tie.Need-same-length-3
 same-length-3 c = search needs
 
 returns : tie.Need-returns
-returns c = lent-answers _ _ _ _ _ _ _ _ _ _ _ _ (c .before .before .before .before .before .before .before .before .before .eliminate-plan .ensures) (c .before .before .before .before .write-reduced .ensures)
+returns c =
+    lent-answers _ _ _ _ _ _ _ _ _ _ _ _ (c .before .before .before .before .before .before .before .before .before .eliminate-plan .ensures)
+    (c .before .before .before .before .write-reduced .ensures)
 
 pub hollchiku-greedy-spec : {M : Type 1} → statement M
 hollchiku-greedy-spec =

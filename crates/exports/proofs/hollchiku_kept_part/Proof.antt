@@ -6,8 +6,8 @@ use Rattle.exports.proofs.hollchiku_kept_part.Tie as tie
 kept-part-requires : tie.Need-kept-part-requires
 kept-part-requires c κs = search needs
 
-write-values-requires : tie.Need-write-values-requires
-write-values-requires c κs = search needs
+put-all-requires : tie.Need-put-all-requires
+put-all-requires c κs = search needs
 
 same-length : tie.Need-same-length
 same-length c = search needs
@@ -17,4 +17,4 @@ returns c = (cc, cc)
 
 pub hollchiku-kept-part-spec : {M : Type 1} → statement M
 hollchiku-kept-part-spec =
-    tie.close (tie.spec kept-part-requires write-values-requires same-length returns)
+    tie.close (tie.spec kept-part-requires put-all-requires same-length returns)

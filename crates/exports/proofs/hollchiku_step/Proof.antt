@@ -10,11 +10,11 @@ read-state-requires c κs = search needs
 step-requires : tie.Need-step-requires
 step-requires c κs = search needs
 
-slice-aggregate-write-values : tie.Need-slice-aggregate-write-values
-slice-aggregate-write-values c = search needs
+slice-aggregate-put-all : tie.Need-slice-aggregate-put-all
+slice-aggregate-put-all c = search needs
 
-write-values-requires : tie.Need-write-values-requires
-write-values-requires c κs = search needs
+put-all-requires : tie.Need-put-all-requires
+put-all-requires c κs = search needs
 
 write-verdict-requires : tie.Need-write-verdict-requires
 write-verdict-requires c κs = search needs
@@ -27,7 +27,9 @@ same-length-2 c = search needs
 
 returns : tie.Need-returns
 returns c =
-    lent-steps _ _ _ _ _ _ _ _ _ (c .before .before .before .before .before .before .before .before .before .before .before .before .read-state .ensures) (c .before .before .before .before .before .before .before .before .before .before .before .step .ensures) (c .before .before .before .before .before .before .write-values .ensures) (c .before .before .write-verdict .ensures)
+    lent-steps _ _ _ _ _ _ _ _ _ (c .before .before .before .before .before .before .before .before .before .before .before .before .read-state .ensures)
+    (c .before .before .before .before .before .before .before .before .before .before .before .step .ensures)
+    (c .before .before .before .before .before .before .put-all .ensures) (c .before .before .write-verdict .ensures)
 
 pub hollchiku-step-spec : {M : Type 1} → statement M
 hollchiku-step-spec =
@@ -35,8 +37,8 @@ hollchiku-step-spec =
     (tie.spec
     read-state-requires
     step-requires
-    slice-aggregate-write-values
-    write-values-requires
+    slice-aggregate-put-all
+    put-all-requires
     write-verdict-requires
     same-length
     same-length-2

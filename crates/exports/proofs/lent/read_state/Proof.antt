@@ -39,7 +39,9 @@ loop-less : tie.Need-loop-less Inv-loop μ-loop
 loop-less c = search needs
 
 loop-again : tie.Need-loop-again Inv-loop μ-loop
-loop-again c = cc (stores-next (word (c .before .before .before .before .args .words .now)) (c .before .before .loop .values) (c .before .before .loop .v) (limits .variables) (c .before .loop-test .taken))
+loop-again c =
+    cc
+    (stores-next (word (c .before .before .before .before .args .words .now)) (c .before .before .loop .values) (c .before .before .loop .v) (limits .variables) (c .before .loop-test .taken))
 
 returns : tie.Need-returns Inv-loop μ-loop
 returns c = sym (stores-over _ _ _ _ (c .loop-test .left)) ∙ c .before .loop .inv

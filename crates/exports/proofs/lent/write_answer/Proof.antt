@@ -40,13 +40,18 @@ same-length : tie.Need-same-length
 same-length c = search needs
 
 returns : tie.Need-returns
-returns c = let first = c .before .before .before .before .before .before .before .before in rw (first .before .before .before .given .given .1, ← first .write-pair .ensures) (c .before .before .write-pair2 .ensures)
+returns c =
+    let first = c .before .before .before .before .before .before .before .before in rw
+    (first .before .before .before .given .given .1, ← first .write-pair .ensures) (c .before .before .write-pair2 .ensures)
 
 same-length-2 : tie.Need-same-length-2
 same-length-2 c = search needs
 
 returns-2 : tie.Need-returns-2
-returns-2 c = let first = c .before .before .before .before .before .before in rw (first .before .before .before .before .before .given2 .given .1, ← first .before .before .number .ensures, ← first .before .place .ensures, ← first .write-pair3 .ensures) (c .before .before .write-pair4 .ensures)
+returns-2 c =
+    let first = c .before .before .before .before .before .before in rw
+    (first .before .before .before .before .before .given2 .given .1, ← first .before .before .number .ensures, ← first .before .place .ensures, ← first .write-pair3 .ensures)
+    (c .before .before .write-pair4 .ensures)
 
 pub write-answer-spec : {M : Type 1} → statement M
 write-answer-spec =

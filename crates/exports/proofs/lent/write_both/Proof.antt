@@ -31,7 +31,11 @@ same-length : tie.Need-same-length
 same-length c = search needs
 
 returns : tie.Need-returns
-returns c = let entry = c .before .before .before .before .before .before .before .before .before .before .before .before .before .before .before .before .before .args in let first = c .before .before .before .before .before .before .before .before .before .before .before .before .before .before .write-verdict .ensures in let second = c .before .before .before .before .before .before .before .before .write-pair .ensures in c .before .before .write-pair2 .ensures ∙ rw (second, first) (both-written (entry .out .now) (told (entry .verdict)) (entry .first) (entry .second))
+returns c =
+    let entry = c .before .before .before .before .before .before .before .before .before .before .before .before .before .before .before .before .before
+    .args in let first = c .before .before .before .before .before .before .before .before .before .before .before .before .before .before .write-verdict
+    .ensures in let second = c .before .before .before .before .before .before .before .before .write-pair .ensures in c .before .before .write-pair2 .ensures
+    ∙ rw (second, first) (both-written (entry .out .now) (told (entry .verdict)) (entry .first) (entry .second))
 
 pub write-both-spec : {M : Type 1} → statement M
 write-both-spec =

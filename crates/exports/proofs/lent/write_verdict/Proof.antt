@@ -34,7 +34,10 @@ same-length-2 : tie.Need-same-length-2
 same-length-2 c = search needs
 
 returns-2 : tie.Need-returns-2
-returns-2 c = rw (c .before .before .before .before .before .before .before .verdict .given .1, ← c .before .before .before .before .number .ensures, ← c .before .before .before .place .ensures) (c .before .before .write-pair2 .ensures)
+returns-2 c =
+    rw
+    (c .before .before .before .before .before .before .before .verdict .given .1, ← c .before .before .before .before .number .ensures, ← c .before .before .before .place .ensures)
+    (c .before .before .write-pair2 .ensures)
 
 pub write-verdict-spec : {M : Type 1} → statement M
 write-verdict-spec =

@@ -4,7 +4,7 @@ use mathlib.Core.Path.{_≡_, refl, sym, _∙_}
 use borrow.Author.Needs.{needs}
 use lib.ListN.{length, drop}
 use lib.Seq.{sets}
-use Rattle.exports.proofs.LentLaws.{rest-over, rest-next}
+use Rattle.access.proofs.StoreLaws.{rest-over, rest-next}
 use Rattle.exports.proofs.lent.write_wide.Statement.{statement}
 use Rattle.exports.proofs.lent.write_wide.Tie as tie
 
@@ -33,7 +33,9 @@ loop-less : tie.Need-loop-less Inv-loop μ-loop
 loop-less c = search needs
 
 loop-again : tie.Need-loop-again Inv-loop μ-loop
-loop-again c = let turn = c .before .before .before .before .before in let entry = turn .before .before .before in (cc (rest-next (turn .before .loop .out) (entry .before .args .values .now) (turn .before .loop .i) (turn .loop-test .taken)), search needs)
+loop-again c =
+    let turn = c .before .before .before .before .before in let entry = turn .before .before .before in
+    (cc (rest-next (turn .before .loop .out) (entry .before .args .values .now) (turn .before .loop .i) (turn .loop-test .taken)), search needs)
 
 same-length : tie.Need-same-length Inv-loop μ-loop
 same-length c = search needs

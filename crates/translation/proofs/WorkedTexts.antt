@@ -1,0 +1,62 @@
+-- Texts computed by the definitions: a good one to the words of its sheet, and one for each cause of refusal. In the good one a name reads like a keyword,
+-- another is empty, and a mutex group has numbers of no variable. Assumes nothing.
+use Prim.Native.Nat.{ℕ, _<_}
+use mathlib.Core.Path.{_≡_, refl}
+use mathlib.Core.Option.{none, some}
+use mathlib.Core.List.{List, [], _∷_, _++_, map, flatten}
+use lib.ListN.{length}
+use borrow.Author.Tests.{lt-ltb}
+use Rattle.ascii.specs.Bytes.{ascii, split, all-digits, decimal-from}
+use Rattle.refusal.specs.Refusal.{Told}
+use Rattle.refusal.specs.Check.{answer}
+use Rattle.sheet.specs.Decode.{table}
+use Rattle.sheet.specs.between.Encode.{action-part, parts, pairs-of, body, sheet-of, encode}
+use Rattle.fields.specs.Fields.{same, is-number, number, word-reads, word-number, all-read, minuses}
+use Rattle.form.specs.Form.{numbers-fit, fits, times, after-count, further, walk, nothing-left, whole, walked, broken-line, bars, first-barred}
+use Rattle.form.specs.Form.{most-bytes, unsupported-line, kept, kept-of, numbers-of}
+use Rattle.meaning.specs.Sections.{fact-at, facts-at, ranges, state, goal, action-at, actions-from, meaning}
+use Rattle.meaning.specs.Order.{insert, put-in, ordered-action, ordered}
+use Rattle.meaning.specs.Writable.{known, has, fit-in, variables-fit, action-fits, actions-fit, writable}
+use Rattle.translation.specs.Translation.{text-sheet, task-checks, translation-checks}
+
+-- a lock with one gate, up to the line of its one effect, that line, and the rest
+abbrev before : List ℕ
+before = ascii "begin_version\n3\nend_version\nbegin_metric\n1\nend_metric\n1\nbegin_variable\nend_variable\n-1\n2\nshut\n\nend_variable\n1\nbegin_mutex_group\n1\n7 9\nend_mutex_group\nbegin_state\n0\nend_state\nbegin_goal\n1\n0 1\nend_goal\n1\nbegin_operator\nlift\n0\n1\n"
+
+abbrev after : List ℕ
+after = ascii "\n5\nend_operator\n0\n"
+
+abbrev with-effect : List ℕ → List ℕ
+with-effect line = before ++ (line ++ after)
+
+abbrev refused : ℕ → ℕ → Told
+refused n place = record { number = n; place = place }
+
+pub good-text : (text-sheet (with-effect (ascii "0 0 0 1")) ≡ 1 ∷ 1 ∷ 1 ∷ 19 ∷ 12 ∷ 1 ∷ 13 ∷ 1 ∷ 14 ∷ 1 ∷ 15 ∷ 4 ∷ 2 ∷ 0 ∷ 1 ∷ 5 ∷ 1 ∷ 0 ∷ 1 ∷ [])
+    × (answer (translation-checks (with-effect (ascii "0 0 0 1")) 19) ≡ none)
+unfolding answer translation-checks task-checks split all-digits decimal-from table action-part parts pairs-of body sheet-of encode same is-number number word-reads word-number all-read minuses numbers-fit fits times after-count further walk nothing-left whole walked broken-line bars first-barred unsupported-line kept kept-of numbers-of fact-at facts-at ranges state goal action-at actions-from meaning insert put-in ordered-action ordered known has fit-in variables-fit action-fits actions-fit writable map flatten
+good-text = (refl, refl)
+
+-- by the line of the effect, in a buffer of so many words: a needless zero, a sign where none stands, an old value that may be −1, a condition, a value and a
+-- variable that are not there, and a buffer that is too short
+pub texts-refused : (answer (translation-checks (with-effect (ascii "0 0 00 1")) 19) ≡ some (refused 13 32))
+    × (answer (translation-checks (with-effect (ascii "0 -0 0 1")) 19) ≡ some (refused 13 32))
+    × (answer (translation-checks (with-effect (ascii "0 0 -1 1")) 19) ≡ none)
+    × (answer (translation-checks (with-effect (ascii "1 0 0 0 0 1")) 19) ≡ some (refused 14 32))
+    × (answer (translation-checks (with-effect (ascii "0 0 0 2")) 19) ≡ some (refused 15 0))
+    × (answer (translation-checks (with-effect (ascii "0 1 -1 0")) 19) ≡ some (refused 15 0))
+    × (answer (translation-checks (with-effect (ascii "0 0 0 1")) 18) ≡ some (refused 10 19))
+unfolding answer translation-checks task-checks split all-digits decimal-from table action-part parts pairs-of body sheet-of encode same is-number number word-reads word-number all-read minuses numbers-fit fits times after-count further walk nothing-left whole walked broken-line bars first-barred unsupported-line kept kept-of numbers-of fact-at facts-at ranges state goal action-at actions-from meaning insert put-in ordered-action ordered known has fit-in variables-fit action-fits actions-fit writable map flatten
+texts-refused = (refl, refl, refl, refl, refl, refl, refl)
+
+-- a line that is missing, and one too many
+pub texts-cut : (answer (translation-checks before 19) ≡ some (refused 13 32))
+    × (answer (translation-checks (with-effect (ascii "0 0 0 1\n0 0 0 1")) 19) ≡ some (refused 13 33))
+    × (answer (translation-checks [] 19) ≡ some (refused 13 1))
+unfolding answer translation-checks task-checks split all-digits decimal-from table action-part parts pairs-of body sheet-of encode same is-number number word-reads word-number all-read minuses numbers-fit fits times after-count further walk nothing-left whole walked broken-line bars first-barred unsupported-line kept kept-of numbers-of fact-at facts-at ranges state goal action-at actions-from meaning insert put-in ordered-action ordered known has fit-in variables-fit action-fits actions-fit writable map flatten
+texts-cut = (refl, refl, refl)
+
+-- a text of more than 65,536 bytes
+pub text-long : (text : List ℕ) (room : ℕ) → most-bytes < length text → answer (translation-checks text room) ≡ some (refused 13 0)
+unfolding answer translation-checks
+text-long text room long = rw (lt-ltb most-bytes (length text) long)
