@@ -1,0 +1,2 @@
+-- Translate: what is answered to a planner's text.
+pub mod Translate
