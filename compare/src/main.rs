@@ -1,9 +1,10 @@
-//! Compares the library of services with an independent version of document 01's rules, on seeded
-//! random cases and on the document's own worked lists. A case compares the answer and every word
-//! of memory that is lent. What the built programs print is compared byte for byte.
+//! Compares the library of services with an independent version of document 01's rules, and of
+//! document 02's for the texts of a translator, on seeded random cases, on the documents' own worked
+//! lists and on texts that are damaged everywhere. A case compares the answer and every word of
+//! memory that is lent. What the built programs write is compared byte for byte.
 //!
-//! - `rules`: the services by document 01, and the search that the library is timed against;
-//! - `makers`: tasks, sheets, faults of sheets and plans, from a seeded generator;
+//! - `rules`: the services by the documents, and the search that the library is timed against;
+//! - `makers`: tasks, sheets, faults of sheets, plans and texts, from a seeded generator;
 //! - `cases`: what is called with what, in kinds of random cases and in the worked lists;
 //! - `comparison`: the library, the programs and the rules against each other, and its own test;
 //! - `bench`: times, instructions and stack;
@@ -17,6 +18,8 @@ mod makers;
 mod options;
 mod rules;
 
+use comparison::inputs::Form;
+use comparison::programs::reading;
 use comparison::self_test;
 use options::{Mode, Options};
 use std::process::ExitCode;
@@ -34,15 +37,16 @@ fn main() -> ExitCode {
 
 /// Answers whether nothing failed.
 fn run(Options { mode, seed, built }: &Options) -> bool {
+    let of_records = &reading(Form::Record, built);
     match *mode {
         Mode::All(cases) => self_test::run(*seed) && comparison::all(built, *seed, cases),
         Mode::Long(seconds) => comparison::long(built, *seed, seconds),
         Mode::One(case) => comparison::one(*seed, case),
-        Mode::SelfTest => self_test::run(*seed) && comparison::worked(),
+        Mode::SelfTest => self_test::run(*seed) && comparison::fixed(),
         Mode::Bench => bench::run(built),
         Mode::Instructions => bench::count_instructions(),
-        Mode::Stack => bench::measure_stack(built),
-        Mode::Hunt(seconds) => hunt::run(built, *seed, seconds),
-        Mode::Once(side, plan) => bench::once(side, plan),
+        Mode::Stack => bench::measure_stack(of_records),
+        Mode::Hunt(seconds) => hunt::run(of_records, *seed, seconds),
+        Mode::Once(side, measured) => bench::once(side, measured),
     }
 }

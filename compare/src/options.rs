@@ -1,6 +1,7 @@
 //! The arguments of the program.
 
-use crate::bench::{name, HardPlan, Side, LENGTHS, SIDES};
+use crate::bench::{name, HardPlan, LongText, Measured, Side};
+use crate::bench::{BULKS, LENGTHS, SIDES, SIZES, TEXT};
 use crate::comparison::programs::Built;
 use crate::comparison::{fresh_seed, LONG_SECONDS};
 use crate::makers::families::{FAMILIES, PLACEMENTS};
@@ -8,7 +9,8 @@ use std::collections::VecDeque;
 use std::fmt::Debug;
 
 const USAGE: &str = "usage: compare [--cases N] [--seed S] [--program PATH]...
-                                      try N random cases, the worked lists and built programs
+                                      try N random cases, the worked lists, damaged texts and
+                                      built programs
        compare --long [SECONDS] [--seed S] [--program PATH]...
                                       the same for ten minutes, or as long as said, with fresh
                                       seeds or from this one on
@@ -17,16 +19,19 @@ const USAGE: &str = "usage: compare [--cases N] [--seed S] [--program PATH]...
                                       other, and against services with a fault
        compare --bench [--program PATH]...
                                       time the library against Rust versions, and built programs
-       compare --instructions         count instructions of the exact reduction, by valgrind
+       compare --instructions         count instructions of the exact reduction and of reading
+                                      texts for the translator, by valgrind
        compare --stack                find the least stack that the exact reduction runs in
        compare --hunt SECONDS [--seed S] [--program PATH]...
                                       look for lists that the exact reduction is slow on
        compare --once SIDE FAMILY PLACEMENT STEPS
-                                      run the exact reduction once on a plan that --bench has";
+       compare --once SIDE text BULK BYTES
+                                      run the exact reduction once on a plan that --bench has, or
+                                      read one of its texts once";
 
 const DEFAULT_SEED: u64 = 1;
-/// Takes about half a minute.
-const DEFAULT_CASES: u64 = 500_000;
+/// Takes less than a minute.
+const DEFAULT_CASES: u64 = 700_000;
 
 pub struct Options {
     pub mode: Mode,
@@ -47,7 +52,7 @@ pub enum Mode {
     Stack,
     /// For so many seconds.
     Hunt(u64),
-    Once(Side, HardPlan),
+    Once(Side, Measured),
 }
 
 impl Options {
@@ -84,17 +89,24 @@ impl Arguments {
             "--instructions" => Mode::Instructions,
             "--stack" => Mode::Stack,
             "--hunt" => Mode::Hunt(self.number()?),
-            "--once" => Mode::Once(self.one_of(&SIDES)?, self.plan()?),
+            "--once" => Mode::Once(self.one_of(&SIDES)?, self.measured()?),
             _ => return Err(USAGE.to_string()),
         })
     }
 
-    fn plan(&mut self) -> Result<HardPlan, String> {
-        Ok(HardPlan {
+    fn measured(&mut self) -> Result<Measured, String> {
+        if self.0.front().is_some_and(|it| it == TEXT) {
+            self.0.pop_front();
+            return Ok(Measured::Text(LongText {
+                bulk: self.one_of(&BULKS)?,
+                size: self.one_of(&SIZES)?,
+            }));
+        }
+        Ok(Measured::Plan(HardPlan {
             family: self.one_of(&FAMILIES)?,
             placement: self.one_of(&PLACEMENTS)?,
             steps: self.one_of(&LENGTHS)?,
-        })
+        }))
     }
 
     fn text(&mut self) -> Result<String, String> {

@@ -4,16 +4,18 @@
 mod outside;
 mod plans;
 mod table;
+mod texts;
 mod timed;
 mod times;
 
 pub use outside::{count_instructions, measure_stack};
 pub use plans::{name, HardPlan, LENGTHS};
 pub use table::MOST_TIME;
+pub use texts::{LongText, BULKS, SIZES};
 pub use timed::time_of;
 pub use times::run;
 
-use crate::cases::{Call, Memory, Service};
+use crate::cases::{Call, Case, Memory, Service};
 use crate::comparison::{by_rules, library};
 use crate::rules::search;
 
@@ -39,9 +41,37 @@ impl Side {
     }
 }
 
-/// Runs one side one time, for a measure that is taken from outside. Answers whether it kept steps.
-pub fn once(side: Side, plan: HardPlan) -> bool {
-    let case = plan.case();
+/// What can be measured from outside.
+#[derive(Clone, Copy)]
+pub enum Measured {
+    Plan(HardPlan),
+    Text(LongText),
+}
+
+/// What stands in the program's arguments before those of a text.
+pub const TEXT: &str = "text";
+
+impl Measured {
+    fn case(self) -> Case {
+        match self {
+            Measured::Plan(plan) => plan.case(),
+            Measured::Text(text) => text.case(),
+        }
+    }
+
+    /// What tells it to the program.
+    fn arguments(self) -> Vec<String> {
+        match self {
+            Measured::Plan(plan) => plan.arguments().to_vec(),
+            Measured::Text(text) => [&[TEXT.to_string()], &text.arguments()[..]].concat(),
+        }
+    }
+}
+
+/// Runs one side one time, for a measure that is taken from outside. Answers whether it had an
+/// answer other than a refusal.
+pub fn once(side: Side, measured: Measured) -> bool {
+    let case = measured.case();
     // A copy, so that the allocator has put what the maker freed in order before the call.
     let mut memory = case.lent.clone();
     side.answer(case.call, &mut memory);

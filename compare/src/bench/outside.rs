@@ -1,8 +1,10 @@
 //! Measures that are taken of whole processes from outside, on each family's longest plan with its
-//! unmarked steps in front: instructions, and the least stack.
+//! unmarked steps in front: instructions, and the least stack. Of texts for the translator the
+//! instructions are counted too.
 
 use super::plans::{name, HardPlan};
-use super::{table, Side, SIDES};
+use super::texts::LongText;
+use super::{table, Measured, Side, SIDES};
 use crate::cases::Service;
 use crate::comparison::inputs::input_bytes;
 use crate::comparison::programs::Built;
@@ -31,34 +33,55 @@ fn print_table(measure: &str, columns: &[&str], cells: impl Fn(HardPlan) -> Cell
 }
 
 /// The command that runs one side one time.
-fn once(side: Side, plan: HardPlan) -> Result<Vec<OsString>, String> {
+fn once(side: Side, measured: Measured) -> Result<Vec<OsString>, String> {
     let program = env::current_exe().map_err(|error| error.to_string())?;
     let mut command = vec![program.into_os_string(), "--once".into(), name(side).into()];
-    command.extend(plan.arguments().map(OsString::from));
+    command.extend(measured.arguments().into_iter().map(OsString::from));
     Ok(command)
 }
 
-/// Prints the instructions of the exact reduction, counted by valgrind: a figure that others on the
-/// machine don't change.
+/// Prints the instructions of the exact reduction and of reading texts, counted by valgrind: a
+/// figure that others on the machine don't change.
 pub fn count_instructions() -> bool {
-    print_table("Instructions", &["Ratio"], |plan| {
-        let [library, rust] = SIDES.map(|side| instructions(side, plan));
-        let (library, rust) = (library?, rust?);
-        let ratio = table::ratio(Service::Exact, library as f64 / rust as f64);
-        Ok(vec![library.to_string(), rust.to_string(), ratio])
+    let of_plans = print_table("Instructions", &["Ratio"], |plan| {
+        instructions_of_both(Service::Exact, Measured::Plan(plan))
+    });
+    of_plans && count_instructions_of_texts()
+}
+
+fn count_instructions_of_texts() -> bool {
+    println!("\nInstructions of reading a text for the translator:\n");
+    table::print_head(&["Text of", "Bytes", "Library", "Rust", "Ratio"]);
+    LongText::all().all(|text| {
+        let told = text.arguments();
+        let cells = instructions_of_both(Service::Translate, Measured::Text(text));
+        match &cells {
+            Ok(cells) => table::print_row(&[&told, &cells[..]].concat()),
+            Err(error) => println!("{}: {error}", told.join(" ")),
+        }
+        cells.is_ok()
     })
 }
 
+fn instructions_of_both(service: Service, measured: Measured) -> Cells {
+    let [library, rust] = SIDES.map(|side| instructions(side, measured));
+    let (library, rust) = (library?, rust?);
+    let ratio = table::ratio(service, library as f64 / rust as f64);
+    Ok(vec![library.to_string(), rust.to_string(), ratio])
+}
+
 /// The instructions between the call of the service and its return.
-fn instructions(side: Side, plan: HardPlan) -> Result<u64, String> {
-    let function = match side {
-        Side::Library => "hollchiku_exact",
-        Side::Rust => "*search::exact*",
+fn instructions(side: Side, measured: Measured) -> Result<u64, String> {
+    let function = match (side, measured) {
+        (Side::Library, Measured::Plan(_)) => "hollchiku_exact",
+        (Side::Rust, Measured::Plan(_)) => "*search::exact*",
+        (Side::Library, Measured::Text(_)) => "hollchiku_translate",
+        (Side::Rust, Measured::Text(_)) => "*translator::translate*",
     };
     let output = Command::new("valgrind")
         .args(["--tool=callgrind", "--callgrind-out-file=/dev/null"])
         .arg(format!("--toggle-collect={function}"))
-        .args(once(side, plan)?)
+        .args(once(side, measured)?)
         .output()
         .map_err(|error| format!("valgrind: {error}"))?;
     let report = String::from_utf8_lossy(&output.stderr);
@@ -83,7 +106,7 @@ pub fn measure_stack(built: &[Built]) -> bool {
     print_table("Least stack in KiB", &names, |plan| {
         let mut cells = Vec::new();
         for side in SIDES {
-            cells.push(least_stack(&once(side, plan)?, &[])?);
+            cells.push(least_stack(&once(side, Measured::Plan(plan))?, &[])?);
         }
         let Made { task, plan, .. } = plan.make();
         let bytes = input_bytes(&task.words(), &plan);

@@ -1,12 +1,13 @@
-//! The tables of times: of the services, of the exact reduction on the hard families, and of the
-//! built programs.
+//! The tables of times: of the services, of the exact reduction on the hard families, of texts for
+//! the translator, and of the built programs.
 
 use super::plans::{case_of, gates_walk, with_large_actions, HardPlan, LENGTHS};
 use super::table;
+use super::texts::{self, LongText, SIZES};
 use super::timed::{times_of, Timed, RUNS};
 use crate::cases::{Memory, Service};
-use crate::comparison::inputs::{closed, input_bytes, Input};
-use crate::comparison::programs::{printed, Built};
+use crate::comparison::inputs::{closed, input_bytes, of_text, Form, Input};
+use crate::comparison::programs::{written, Built};
 use crate::makers::families::{Family, Made, Placement, FAMILIES, PLACEMENTS};
 use crate::makers::Task;
 use crate::rules::{MAX_STEPS, MAX_UNMARKED};
@@ -19,8 +20,9 @@ pub fn run(built: &[Built]) -> bool {
     print_machine();
     let services_are_right = services();
     let families_are_right = families();
+    let texts_are_right = texts::run();
     let programs_are_right = programs(built);
-    services_are_right && families_are_right && programs_are_right
+    services_are_right && families_are_right && texts_are_right && programs_are_right
 }
 
 /// How busy the machine was tells how far times can be trusted.
@@ -141,19 +143,27 @@ fn hard_plans() -> Vec<HardPlan> {
     plans
 }
 
-/// The built programs, from the start of the process to the end of what it prints, on each family's
-/// longest plans. Answers whether each printed what was due.
+/// The built programs, from the start of the process to the end of what it writes, on each family's
+/// longest plans or on the longest texts. Answers whether each wrote what was due.
 fn programs(built: &[Built]) -> bool {
     println!("\nWhole programs, {RUNS} runs:\n");
-    table::print_head(&["Program", "Plan", "Best", "Median"]);
+    table::print_head(&["Program", "Plan or text", "Best", "Median"]);
     let plans = hard_plans().into_iter();
     let longest = plans.filter(|plan| plan.steps == MAX_STEPS);
     let inputs: Vec<(Family, Input)> = longest.map(|plan| (plan.family, input_of(plan))).collect();
-    let right = |built: &&Built| {
-        let mut inputs = inputs.iter();
-        inputs.all(|(family, input)| print_times(built, *family, input))
+    let texts: Vec<Input> = longest_texts().collect();
+    let right = |built: &&Built| match built.program.reads {
+        Form::Record => inputs.iter().all(|(family, input)| {
+            print_times(built, input, |time| table::program_time(*family, time))
+        }),
+        Form::Text => texts.iter().all(|it| print_times(built, it, table::time)),
     };
     built.iter().filter(right).count() == built.len()
+}
+
+fn longest_texts() -> impl Iterator<Item = Input> {
+    let longest = LongText::all().filter(|text| Some(&text.size) == SIZES.last());
+    longest.map(|text| of_text(&text.arguments().join(", "), text.make()))
 }
 
 fn input_of(plan: HardPlan) -> Input {
@@ -162,20 +172,21 @@ fn input_of(plan: HardPlan) -> Input {
     closed(&name, input_bytes(&task.words(), &plan))
 }
 
-fn print_times(built: &Built, family: Family, input: &Input) -> bool {
+/// The times are shown in this way.
+fn print_times(built: &Built, input: &Input, shown: impl Fn(f64) -> String) -> bool {
     let due = (built.program.due_of_hard)(&input.bytes);
     let mut times = Vec::new();
     for _ in 0..RUNS {
         let begin = Instant::now();
-        let printed = printed(&built.path, input);
+        let written = written(&built.path, input);
         times.push(begin.elapsed().as_secs_f64() * 1e6);
-        if printed.as_deref() != Ok(due.as_str()) {
-            println!("{} printed otherwise than is due", built.program.name);
+        if written.as_ref() != Ok(&due) {
+            println!("{} wrote otherwise than is due", built.program.name);
             return false;
         }
     }
     times.sort_by(f64::total_cmp);
-    let [best, median] = [0, RUNS / 2].map(|index| table::program_time(family, times[index]));
+    let [best, median] = [0, RUNS / 2].map(|index| shown(times[index]));
     table::print_row(&[built.program.name, &input.name, &best, &median]);
     true
 }

@@ -82,6 +82,15 @@ impl Answer {
         }
     }
 
+    /// The words of a sheet, and how many they are.
+    pub fn translated(words: Vec<u32>) -> Self {
+        Answer {
+            out: Answer::accepted(&[words.len()]).out,
+            first: words,
+            ..Answer::default()
+        }
+    }
+
     pub fn keeping_both([first, second]: [Kept; 2]) -> Self {
         let [counts, more] = [&first, &second].map(|kept| [kept.cost, kept.actions.len()]);
         Answer {

@@ -6,15 +6,31 @@ use std::fmt::Display;
 use std::ops::{Deref, DerefMut};
 
 const GUARD: usize = 4;
-const GUARD_WORD: u32 = 0xa5a5_a5a5;
+
+/// What slices are lent of: words and bytes, each with the one that guards are full of.
+pub trait Word: Copy + PartialEq + Display {
+    const GUARD: Self;
+}
+
+impl Word for u8 {
+    const GUARD: Self = 0xa5;
+}
+
+impl Word for u32 {
+    const GUARD: Self = 0xa5a5_a5a5;
+}
+
+impl Word for u64 {
+    const GUARD: Self = 0xa5a5_a5a5;
+}
 
 /// A lent slice between its guards.
 #[derive(Clone, PartialEq, Eq)]
 pub struct Lent<T>(Vec<T>);
 
-impl<T: Copy + From<u32>> Lent<T> {
+impl<T: Word> Lent<T> {
     pub fn of(words: impl AsRef<[T]>) -> Self {
-        let guards = [T::from(GUARD_WORD); GUARD];
+        let guards = [T::GUARD; GUARD];
         Lent([&guards, words.as_ref(), &guards].concat())
     }
 
@@ -24,19 +40,17 @@ impl<T: Copy + From<u32>> Lent<T> {
             *old = word;
         }
     }
-}
 
-impl<T: Copy + From<u32> + PartialEq + Display> Lent<T> {
     /// The words as text, and whether the guards stand.
     fn shown(&self) -> (Vec<String>, bool) {
         let end = self.0.len() - GUARD;
         let mut guards = self.0[..GUARD].iter().chain(&self.0[end..]);
-        let stand = guards.all(|&word| word == T::from(GUARD_WORD));
+        let stand = guards.all(|&word| word == T::GUARD);
         (self.iter().map(T::to_string).collect(), stand)
     }
 }
 
-impl<T: Copy + From<u32>> Default for Lent<T> {
+impl<T: Word> Default for Lent<T> {
     fn default() -> Self {
         Lent::of([])
     }
@@ -61,6 +75,7 @@ impl<T> DerefMut for Lent<T> {
 pub struct Memory {
     pub words: Lent<u32>,
     pub plan: Lent<u32>,
+    pub text: Lent<u8>,
     pub state: Lent<u32>,
     /// The output, or the first of two.
     pub first: Lent<u32>,

@@ -2,6 +2,7 @@
 //! tells it, the answer that is due.
 
 mod answer;
+pub mod damaged;
 pub mod kinds;
 mod memory;
 mod service;
@@ -77,6 +78,11 @@ impl Case {
 
     pub fn with_state(mut self, state: &[u32]) -> Self {
         self.lent.state = Lent::of(state);
+        self
+    }
+
+    pub fn with_text(mut self, text: &[u8]) -> Self {
+        self.lent.text = Lent::of(text);
         self
     }
 

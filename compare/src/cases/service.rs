@@ -35,6 +35,7 @@ services! {
     Exact = "exact",
     Cheaper = "cheaper",
     KeptPart = "kept_part",
+    Translate = "translate",
 }
 
 /// Those that strike steps of a plan.
@@ -71,12 +72,13 @@ impl Service {
             CheckPlan | Eliminate | Greedy | Exact => &["refusal number", "place", "cost", "steps"],
             Cheaper => &["refusal number", "place", "cost", "steps", "cost", "steps"],
             TallyAdd => &["cost", "steps"],
+            Translate => &["refusal number", "place", "words"],
             TallyCompare | KeptPart => &[],
         }
     }
 
     pub fn takes_sheet(self) -> bool {
-        !matches!(self, TallyAdd | TallyCompare | KeptPart)
+        !matches!(self, TallyAdd | TallyCompare | KeptPart | Translate)
     }
 
     pub fn takes_plan(self) -> bool {
@@ -92,7 +94,7 @@ impl Service {
                 _ => 0,
             },
             outputs: match self {
-                Eliminate | Greedy | Exact => [first, 0],
+                Eliminate | Greedy | Exact | Translate => [first, 0],
                 Cheaper => [first, second],
                 _ => [0, 0],
             },
@@ -104,6 +106,14 @@ impl Service {
         }
     }
 
+    /// The refusals that a run must show at many places, and at how many at least.
+    pub fn places(self) -> &'static [(u64, usize)] {
+        match self {
+            Translate => &[(10, 100), (13, 200), (14, 100)],
+            _ => &[],
+        }
+    }
+
     /// 0 for acceptance and its refusal numbers, or what an answer without them is counted as.
     pub fn answers(self) -> &'static [u64] {
         match self {
@@ -112,6 +122,7 @@ impl Service {
             CheckPlan | Marks => &[0, 1, 2, 3, 4, 5, 6, 7, 8, 9, 11],
             Eliminate | Greedy | Cheaper => &[0, 1, 2, 3, 4, 5, 6, 7, 8, 9, 10, 11],
             Exact => &[0, 1, 2, 3, 4, 5, 6, 7, 8, 9, 10, 11, 12],
+            Translate => &[0, 10, 13, 14, 15],
             TallyAdd => &[TAKEN, LEFT],
             // Below, equal, above.
             TallyCompare => &[0, 1, 2],

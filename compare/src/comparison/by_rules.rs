@@ -19,6 +19,9 @@ pub fn answer(call: Call, lent: &Memory) -> Answer {
             let outputs = [lent.first.len(), lent.second.len()];
             rules::cheaper(words, plan, outputs).map(Answer::keeping_both)
         }
+        Service::Translate => {
+            rules::translate(&lent.text, lent.first.len()).map(Answer::translated)
+        }
         Service::TallyAdd | Service::TallyCompare | Service::KeptPart => Ok(of_tallies(call, lent)),
     };
     result.unwrap_or_else(|refusal| Answer::refused(call.service, refusal))

@@ -2,19 +2,29 @@
 
 use super::text;
 use crate::cases::worked::{self, LIST_1, SHEET_P};
-use crate::cases::{kinds, Case};
+use crate::cases::{damaged, kinds, Case, Memory, Service};
 use crate::makers::Random;
 use crate::rules::{COUNT_WORD, EDITION_WORD, HEADER, MAX_ACTION_COST, MAX_STEPS, MAX_WORDS};
+
+/// What programs read: a sheet with its list, or the text of a translator.
+#[derive(Clone, Copy, PartialEq, Eq)]
+pub enum Form {
+    Record,
+    Text,
+}
 
 /// The bytes of an input; the pipe of one that stays open is not closed before the answer.
 pub struct Input {
     pub name: String,
+    pub form: Form,
     pub bytes: Vec<u8>,
     pub stays_open: bool,
 }
 
-/// The random cases that are made; those without a plan are passed over.
-const RANDOM_CASES: u64 = 900;
+/// The random cases that are made; those without a plan or a text are passed over.
+const RANDOM_CASES: u64 = 1_300;
+/// Of the damaged texts every so many is taken.
+const DAMAGED_STEP: usize = 61;
 /// Bytes too many behind whole input.
 const MOST_EXCESS: usize = 8;
 
@@ -25,7 +35,9 @@ pub fn fixed() -> Vec<Input> {
     inputs.extend(of_other_counts());
     inputs.extend(too_long());
     let worked = worked::cases().into_iter();
-    inputs.extend(worked.filter_map(|(name, case)| Some(closed(name, bytes_of_case(&case)?))));
+    inputs.extend(worked.filter_map(|(name, case)| of_case(name, case)));
+    let damaged = damaged::cases().step_by(DAMAGED_STEP);
+    inputs.extend(damaged.filter_map(|(name, case)| of_case(&name, case)));
     inputs
 }
 
@@ -38,27 +50,40 @@ pub fn input_bytes(words: &[u32], plan: &[u32]) -> Vec<u8> {
     bytes_of(&[words, &text::length_and_plan(plan)].concat())
 }
 
-/// The input of a case that has a plan.
-fn bytes_of_case(case: &Case) -> Option<Vec<u8>> {
-    let takes_plan = case.call.service.takes_plan();
-    takes_plan.then(|| input_bytes(&case.lent.words, &case.lent.plan))
+/// The input of a case that has a plan or a text.
+fn of_case(name: &str, case: Case) -> Option<Input> {
+    let Memory {
+        words, plan, text, ..
+    } = &case.lent;
+    let service = case.call.service;
+    match service {
+        Service::Translate => Some(of_text(name, text.to_vec())),
+        _ => service
+            .takes_plan()
+            .then(|| closed(name, input_bytes(words, plan))),
+    }
 }
 
-fn input(name: &str, bytes: Vec<u8>, stays_open: bool) -> Input {
+fn input(name: &str, form: Form, bytes: Vec<u8>, stays_open: bool) -> Input {
     let name = name.to_string();
     Input {
         name,
+        form,
         bytes,
         stays_open,
     }
 }
 
 pub fn closed(name: &str, bytes: Vec<u8>) -> Input {
-    input(name, bytes, false)
+    input(name, Form::Record, bytes, false)
 }
 
 fn open(name: &str, bytes: Vec<u8>) -> Input {
-    input(name, bytes, true)
+    input(name, Form::Record, bytes, true)
+}
+
+pub fn of_text(name: &str, bytes: Vec<u8>) -> Input {
+    input(name, Form::Text, bytes, false)
 }
 
 /// Sheet P with list 1, whole and at every length below.
@@ -125,22 +150,21 @@ pub fn of_random_cases(seed: u64) -> Vec<Input> {
     let kinds = kinds::all();
     let input = |number| {
         let (kind, case) = kinds::numbered(&kinds, seed, number);
-        let bytes = bytes_of_case(&case)?;
-        let random = &mut Random::of_case(!seed, number);
         let name = format!("{kind}, --seed {seed} --case {number}");
-        Some(closed(&name, spoilt(random, bytes)))
+        let mut input = of_case(&name, case)?;
+        spoil(&mut Random::of_case(!seed, number), &mut input.bytes);
+        Some(input)
     };
     (1..=RANDOM_CASES).filter_map(input).collect()
 }
 
-/// Most of the time whole; otherwise cut off, run on, or with one byte changed.
-fn spoilt(random: &mut Random, mut bytes: Vec<u8>) -> Vec<u8> {
-    let index = random.index(bytes.len());
+/// Most of the time the bytes stay whole; otherwise they are cut off, run on, or have one changed.
+fn spoil(random: &mut Random, bytes: &mut Vec<u8>) {
+    let index = random.index(bytes.len().max(1));
     match random.index(12) {
         0 => bytes.truncate(index),
         1 => bytes.push(random.filler() as u8),
-        2 => bytes[index] ^= 1 << random.index(8),
+        2 if !bytes.is_empty() => bytes[index] ^= 1 << random.index(8),
         _ => (),
     }
-    bytes
 }

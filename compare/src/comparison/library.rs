@@ -54,4 +54,5 @@ services! {
     KeptPart = hollchiku_kept_part(
         first: u32, second: u32; cost_a, steps_a, cost_b, steps_b; part: u32
     ) -> returned: u64;
+    Translate = hollchiku_translate(text: u8, first: u32; ; out: u64);
 }

@@ -11,7 +11,7 @@ pub mod self_test;
 mod services;
 pub mod text;
 
-use crate::cases::SERVICES;
+use crate::cases::{kinds, SERVICES};
 use programs::Built;
 use record::Record;
 use std::fs::File;
@@ -22,10 +22,11 @@ use std::time::{Duration, Instant};
 pub const LONG_SECONDS: u64 = 600;
 const CASES_OF_ROUND: u64 = 100_000;
 
-/// Tries the worked lists on the rules alone. Answers whether nothing failed, as the others do.
-pub fn worked() -> bool {
+/// Tries what no seed changes on the rules alone. Answers whether nothing failed, as the others do.
+pub fn fixed() -> bool {
     let mut record = Record::default();
     services::try_worked(&mut record, false);
+    services::try_damaged(&mut record, false);
     record.finish()
 }
 
@@ -42,6 +43,7 @@ pub fn all(built: &[Built], seed: u64, cases: u64) -> bool {
     programs::compare(&mut record, built, &inputs::fixed());
     programs::compare(&mut record, built, &inputs::of_random_cases(seed));
     services::try_worked(&mut record, true);
+    services::try_damaged(&mut record, true);
     services::try_random(&mut record, seed, 1..=cases);
     record.finish()
 }
@@ -54,6 +56,7 @@ pub fn long(built: &[Built], first_seed: u64, seconds: u64) -> bool {
     let mut record = expecting_all(built);
     record.end = Some(Instant::now() + Duration::from_secs(seconds));
     services::try_worked(&mut record, true);
+    services::try_damaged(&mut record, true);
     programs::compare(&mut record, built, &inputs::fixed());
     let mut rounds = 0;
     while !record.is_over() {
@@ -66,14 +69,21 @@ pub fn long(built: &[Built], first_seed: u64, seconds: u64) -> bool {
     record.finish()
 }
 
-/// The record of a run that must show every answer of the services and of these programs.
+/// The record of a run that must try every kind, and show every answer of the services and of these
+/// programs.
 fn expecting_all(built: &[Built]) -> Record {
     let mut record = Record::default();
     for service in SERVICES {
         record.expect(service.name(), service.answers());
+        for &(number, least) in service.places() {
+            record.expect_places(service.name(), number, least);
+        }
+    }
+    for (kind, _) in kinds::all() {
+        record.expect_kind(kind);
     }
     for Built { program, .. } in built {
-        record.expect(program.name, program.answers);
+        record.expect(program.kind, program.answers);
     }
     record
 }

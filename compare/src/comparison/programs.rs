@@ -1,9 +1,10 @@
-//! Compares what the built programs print with what the rules have them print, byte for byte.
+//! Compares what the built programs write with what the rules have them write, byte for byte.
 
-use super::inputs::Input;
+use super::inputs::{Form, Input};
 use super::record::Record;
-use super::text;
+use super::{report, text};
 use crate::rules::{exact, printed_by_shorten, printed_by_validate, search};
+use crate::rules::{written_by_translate, Written};
 use std::fs;
 use std::io::{Read, Write};
 use std::path::{Path, PathBuf};
@@ -12,31 +13,43 @@ use std::sync::mpsc;
 use std::thread;
 use std::time::Duration;
 
-/// A program, what it prints for its input by the rules, and the answers that a run must show of
-/// it: 0 and its refusal numbers.
+/// A program, what it reads, what it writes for its input by the rules, and the answers that a run
+/// must show of it: 0 and its refusal numbers.
 pub struct Program {
     pub name: &'static str,
-    kind: &'static str,
-    pub due: fn(&[u8]) -> String,
+    /// What its cases and answers are counted under: a service may have the same name.
+    pub kind: &'static str,
+    pub reads: Form,
+    pub due: fn(&[u8]) -> Written,
     /// The same by the search, for plans that the rules take minutes over.
-    pub due_of_hard: fn(&[u8]) -> String,
+    pub due_of_hard: fn(&[u8]) -> Written,
     pub answers: &'static [u64],
 }
 
-static PROGRAMS: [Program; 2] = [
+static PROGRAMS: [Program; 3] = [
     Program {
         name: "validate",
         kind: "program: validate",
-        due: printed_by_validate,
-        due_of_hard: printed_by_validate,
+        reads: Form::Record,
+        due: |bytes| Written::lines(printed_by_validate(bytes)),
+        due_of_hard: |bytes| Written::lines(printed_by_validate(bytes)),
         answers: &[0, 1, 2, 3, 4, 5, 6, 7, 8, 9, 11],
     },
     Program {
         name: "shorten",
         kind: "program: shorten",
-        due: |bytes| printed_by_shorten(bytes, exact),
-        due_of_hard: |bytes| printed_by_shorten(bytes, search::exact),
+        reads: Form::Record,
+        due: |bytes| Written::lines(printed_by_shorten(bytes, exact)),
+        due_of_hard: |bytes| Written::lines(printed_by_shorten(bytes, search::exact)),
         answers: &[0, 1, 2, 3, 4, 5, 6, 7, 8, 9, 11, 12],
+    },
+    Program {
+        name: "translate",
+        kind: "program: translate",
+        reads: Form::Text,
+        due: written_by_translate,
+        due_of_hard: written_by_translate,
+        answers: &[0, 13, 14, 15],
     },
 ];
 
@@ -46,6 +59,7 @@ const LONGEST_WAIT: Duration = Duration::from_secs(10);
 const REPLAY: &str = "target/compare/difference-";
 
 /// A program where it was built.
+#[derive(Clone)]
 pub struct Built {
     pub program: &'static Program,
     pub path: PathBuf,
@@ -62,10 +76,19 @@ impl Built {
     }
 }
 
-/// Tries the inputs on each program.
+/// Those that read this form.
+pub fn reading(form: Form, built: &[Built]) -> Vec<Built> {
+    let reads = |built: &&Built| built.program.reads == form;
+    built.iter().filter(reads).cloned().collect()
+}
+
+/// Tries each input on the programs that read its form.
 pub fn compare(record: &mut Record, built: &[Built], inputs: &[Input]) {
     for built in built {
-        for input in inputs {
+        let read = inputs
+            .iter()
+            .filter(|input| input.form == built.program.reads);
+        for input in read {
             if record.is_over() {
                 return;
             }
@@ -77,21 +100,26 @@ pub fn compare(record: &mut Record, built: &[Built], inputs: &[Input]) {
 fn try_input(record: &mut Record, built: &Built, input: &Input) {
     let Program { name, kind, .. } = built.program;
     let due = (built.program.due)(&input.bytes);
-    let printed = printed(&built.path, input);
-    record.count(kind, name, answer_in(&due));
-    if printed.as_deref() != Ok(due.as_str()) {
+    let written = written(&built.path, input);
+    record.count(kind, kind, answer_in(&due));
+    if written.as_ref() != Ok(&due) {
         record.differ(&format!("program {name}: {}", input.name));
         let replay = format!("{REPLAY}{}", record.differences);
         print_replay(&built.path, input, &replay);
-        print_input(&input.bytes);
-        print_lines("the program prints", &printed.unwrap_or_else(|error| error));
-        print_lines("the rules have it print", &due);
+        print_input(input);
+        match written {
+            Ok(written) => print_written("the program writes", &written),
+            Err(error) => print_lines("the program fails", &error),
+        }
+        print_written("the rules have it write", &due);
     }
 }
 
 /// The number of a refusal, or 0.
-fn answer_in(due: &str) -> u64 {
-    let refusal = due.strip_prefix("refused ");
+fn answer_in(due: &Written) -> u64 {
+    let lines = [&due.output[..], &due.errors].concat();
+    let lines = String::from_utf8_lossy(&lines);
+    let refusal = lines.strip_prefix("refused ");
     let number = refusal.and_then(|rest| rest.split(' ').next());
     number.and_then(|word| word.parse().ok()).unwrap_or(0)
 }
@@ -107,13 +135,32 @@ fn print_replay(path: &Path, input: &Input, replay: &str) {
     }
 }
 
-fn print_input(bytes: &[u8]) {
-    let (words, rest) = bytes.as_chunks();
+fn print_input(input: &Input) {
+    if input.form == Form::Text {
+        return report::print_text(&input.bytes);
+    }
+    let (words, rest) = input.bytes.as_chunks();
     let words: Vec<u32> = words.iter().map(|&word| u32::from_le_bytes(word)).collect();
     print!("{}", text::of_program_input(&words));
     if !rest.is_empty() {
         println!("# and bytes that are no word: {}", text::listed(rest));
     }
+}
+
+/// Output that is words is no text, and shows its bytes by their numbers.
+fn print_written(title: &str, written: &Written) {
+    print_lines(
+        title,
+        &written
+            .output
+            .escape_ascii()
+            .to_string()
+            .replace("\\n", "\n"),
+    );
+    print_lines(
+        "and to standard error",
+        &String::from_utf8_lossy(&written.errors),
+    );
 }
 
 fn print_lines(title: &str, lines: &str) {
@@ -123,11 +170,12 @@ fn print_lines(title: &str, lines: &str) {
     }
 }
 
-/// What the program prints, or what went wrong.
-pub fn printed(path: &Path, input: &Input) -> Result<String, String> {
+/// What the program writes, or what went wrong.
+pub fn written(path: &Path, input: &Input) -> Result<Written, String> {
     let mut child = Command::new(path)
         .stdin(Stdio::piped())
         .stdout(Stdio::piped())
+        .stderr(Stdio::piped())
         .spawn()
         .map_err(|error| format!("{}: {error}", path.display()))?;
     let mut pipe = child.stdin.take();
@@ -136,24 +184,26 @@ pub fn printed(path: &Path, input: &Input) -> Result<String, String> {
     if !input.stays_open {
         pipe = None;
     }
-    let printed = read_all(&mut child);
+    let written = read_all(&mut child);
     drop(pipe);
     let status = child.wait().map_err(|error| error.to_string())?;
-    let printed = printed?;
+    let written = written?;
     match status.success() {
-        true => Ok(printed),
+        true => Ok(written),
         false => Err(format!("ended with {status}")),
     }
 }
 
 /// Reads in a thread of its own, so that a program that waits for ever is ended.
-fn read_all(child: &mut Child) -> Result<String, String> {
+fn read_all(child: &mut Child) -> Result<Written, String> {
     let (sender, receiver) = mpsc::channel();
     let mut stdout = child.stdout.take().ok_or("no standard output")?;
+    let mut stderr = child.stderr.take().ok_or("no standard error")?;
     thread::spawn(move || {
-        let mut text = String::new();
-        let result = stdout.read_to_string(&mut text);
-        sender.send(result.map(|_| text))
+        let mut written = Written::default();
+        let result = stdout.read_to_end(&mut written.output);
+        let result = result.and_then(|_| stderr.read_to_end(&mut written.errors));
+        sender.send(result.map(|_| written))
     });
     match receiver.recv_timeout(LONGEST_WAIT) {
         Ok(result) => result.map_err(|error| error.to_string()),

@@ -1,7 +1,7 @@
 //! The record of a run: what it has tried, what was answered, and how many answers differed.
 
 use super::text;
-use std::collections::BTreeMap;
+use std::collections::{BTreeMap, BTreeSet};
 use std::time::Instant;
 
 /// After so many differences the run ends.
@@ -16,8 +16,14 @@ pub struct Record {
     counts: BTreeMap<&'static str, usize>,
     /// The answers seen of each service and of each program, by its name.
     answers: BTreeMap<&'static str, BTreeMap<u64, usize>>,
+    /// The places that each service's refusals of each number were seen at.
+    places: BTreeMap<(&'static str, u64), BTreeSet<u64>>,
     /// The answers that the run must show.
     expected: Vec<(&'static str, &'static [u64])>,
+    /// The kinds of which the run must try a case.
+    expected_kinds: Vec<&'static str>,
+    /// The refusals that the run must show, and at how many places at least.
+    expected_places: Vec<((&'static str, u64), usize)>,
 }
 
 impl Record {
@@ -25,6 +31,17 @@ impl Record {
     /// shows too little.
     pub fn expect(&mut self, name: &'static str, answers: &'static [u64]) {
         self.expected.push((name, answers));
+    }
+
+    /// Has the run try this kind. Where a kind says what its cases are refused for, a case of it
+    /// shows that cause, which its number may share with others.
+    pub fn expect_kind(&mut self, kind: &'static str) {
+        self.expected_kinds.push(kind);
+    }
+
+    /// Has the run show a service's refusal of this number at so many places at least.
+    pub fn expect_places(&mut self, name: &'static str, number: u64, least: usize) {
+        self.expected_places.push(((name, number), least));
     }
 
     pub fn is_over(&self) -> bool {
@@ -37,6 +54,14 @@ impl Record {
         *self.counts.entry(kind).or_default() += 1;
         let seen = self.answers.entry(name).or_default();
         *seen.entry(answer).or_default() += 1;
+    }
+
+    /// Notes the place of a service's refusal of this number, if the run must show many of them.
+    pub fn note_place(&mut self, name: &'static str, number: u64, place: u64) {
+        let refusal = (name, number);
+        if self.expected_places.iter().any(|(it, _)| *it == refusal) {
+            self.places.entry(refusal).or_default().insert(place);
+        }
     }
 
     /// Counts a difference and prints its title; the case is to be printed behind it.
@@ -54,6 +79,10 @@ impl Record {
         for (name, answers) in &self.expected {
             all_seen &= self.print_answers(name, answers);
         }
+        for (refusal, least) in &self.expected_places {
+            all_seen &= self.print_places(*refusal, *least);
+        }
+        all_seen &= self.all_kinds_tried();
         let tried: usize = self.counts.values().sum();
         println!("compared {tried} cases, {} differences", self.differences);
         self.differences == 0 && all_seen
@@ -72,6 +101,24 @@ impl Record {
             println!("never answered by {name}: {}", text::listed(&unseen));
         }
         unseen.is_empty()
+    }
+
+    /// Answers whether there were as many as there must be.
+    fn print_places(&self, refusal: (&'static str, u64), least: usize) -> bool {
+        let places = self.places.get(&refusal).map_or(0, BTreeSet::len);
+        let (name, number) = refusal;
+        println!("places of {name}, refusal {number}: {places}, {least} are enough");
+        places >= least
+    }
+
+    fn all_kinds_tried(&self) -> bool {
+        let untried = |kind: &&&str| !self.counts.contains_key(**kind);
+        let mut untried = self.expected_kinds.iter().filter(untried).peekable();
+        let all_tried = untried.peek().is_none();
+        if self.differences == 0 {
+            untried.for_each(|kind| println!("never tried: {kind}"));
+        }
+        all_tried
     }
 }
 

@@ -4,6 +4,9 @@
 use super::text;
 use crate::cases::{Call, Case, Memory};
 
+/// The lines of a text that are printed.
+const MOST_LINES: usize = 200;
+
 /// The others are each told by a name.
 pub fn print_difference(case: &Case, by_rules: &Memory, others: &[(&str, Option<Memory>)]) {
     let Case { call, lent, due } = case;
@@ -11,6 +14,9 @@ pub fn print_difference(case: &Case, by_rules: &Memory, others: &[(&str, Option<
     if call.service.takes_sheet() {
         let length_and_plan = text::length_and_plan(&lent.plan);
         print!("{}", text::of_input(&lent.words, &length_and_plan));
+    }
+    if !lent.text.is_empty() {
+        print_text(&lent.text);
     }
     println!("# out has: {}", call.service.out().join(", "));
     let print_answer = |title: &str, memory: &Memory| {
@@ -30,6 +36,19 @@ pub fn print_difference(case: &Case, by_rules: &Memory, others: &[(&str, Option<
     }
 }
 
+/// A line that is no ASCII shows its bytes by their numbers. The case can be made again from what is
+/// told above it, so a long text is cut off.
+pub fn print_text(text: &[u8]) {
+    println!("# text ({} bytes):", text.len());
+    let lines: Vec<&[u8]> = text.split_inclusive(|&byte| byte == b'\n').collect();
+    for (index, line) in lines.iter().enumerate().take(MOST_LINES) {
+        println!("#   {:>5} {}", index + 1, line.escape_ascii());
+    }
+    if lines.len() > MOST_LINES {
+        println!("#   and {} lines more", lines.len() - MOST_LINES);
+    }
+}
+
 fn described(call: Call) -> String {
     let named = call.service.numbers().iter().zip(call.numbers);
     let numbers = named.map(|(name, number)| format!(", {name} {number}"));
@@ -46,6 +65,7 @@ fn print_memory(memory: &Memory, lent: &Memory) {
     }
     print_if_changed("words", memory.words == lent.words);
     print_if_changed("plan", memory.plan == lent.plan);
+    print_if_changed("text", memory.text == lent.text);
 }
 
 fn print_if_changed(name: &str, is_as_before: bool) {

@@ -13,9 +13,9 @@ use crate::rules::{exact, printed_by_shorten, search, Lodged};
 /// All reductions of plans of at most so many steps are gone through.
 const FEW_STEPS: usize = 12;
 /// The random cases that are made; those of other services are passed over.
-const CASES_FOR_WAYS: u64 = 40_000;
-const CASES_FOR_FAULTS: u64 = 4_000;
-const CASES_FOR_TEXTS: u64 = 2_000;
+const CASES_FOR_WAYS: u64 = 57_000;
+const CASES_FOR_FAULTS: u64 = 5_700;
+const CASES_FOR_TEXTS: u64 = 2_900;
 
 /// What document 01 has its program print for sheet P and list 1.
 const PRINTED: &str = "lodged 6 23\nmarked 1\nkept 3 12\n4 0 5\n5 1 2\n6 2 5\n";

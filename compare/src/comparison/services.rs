@@ -3,11 +3,12 @@
 
 use super::record::Record;
 use super::{by_rules, library, report};
-use crate::cases::{kinds, worked, Case, Service};
+use crate::cases::{damaged, kinds, worked, Case, Service};
 use crate::rules::search;
 use std::ops::RangeInclusive;
 
-const WORKED: &str = "document 01: worked lists and limits";
+const WORKED: &str = "documents: worked lists, texts and limits";
+const DAMAGED: &str = "translator: small texts damaged everywhere";
 
 /// Tries the worked lists, on the rules alone or on the library too.
 pub fn try_worked(record: &mut Record, with_library: bool) {
@@ -17,6 +18,17 @@ pub fn try_worked(record: &mut Record, with_library: bool) {
         }
         let title = || format!("{WORKED}: {name}");
         try_case(record, WORKED, &case, with_library, title);
+    }
+}
+
+/// Tries the small texts that are damaged in every way, on the rules alone or on the library too.
+pub fn try_damaged(record: &mut Record, with_library: bool) {
+    for (name, case) in damaged::cases() {
+        if record.is_over() {
+            break;
+        }
+        let title = || format!("{DAMAGED}: {name}");
+        try_case(record, DAMAGED, &case, with_library, title);
     }
 }
 
@@ -51,6 +63,9 @@ fn try_case(
     let by_search = is_exact.then(|| lent.after(&by_rules::exact_by(lent, search::exact)));
     let number = by_rules::number(*call, lent, &answer);
     record.count(kind, call.service.name(), number);
+    if let [number, place, ..] = answer.out[..] {
+        record.note_place(call.service.name(), number, place);
+    }
     let as_due = due.as_ref().is_none_or(|due| lent.after(due) == by_rules);
     let others = [("library", by_library), ("search", by_search)];
     let alike = |(_, other): &(_, Option<_>)| other.as_ref().is_none_or(|it| *it == by_rules);

@@ -9,7 +9,7 @@ mod list;
 use crate::bench::{time_of, MOST_TIME};
 use crate::cases::{Case, Service};
 use crate::comparison::inputs::{closed, input_bytes};
-use crate::comparison::programs::{printed, Built};
+use crate::comparison::programs::{written, Built};
 use crate::comparison::{by_rules, library, text};
 use crate::makers::families::{Shape, FAMILIES, PLACEMENTS};
 use crate::makers::{cycles, Random};
@@ -145,7 +145,7 @@ impl Timed {
         let input = closed("the hunt's", input_bytes(&words, &list.plan));
         let programs = built.iter().map(|built| {
             best_time_of(|| {
-                if let Err(error) = printed(&built.path, &input) {
+                if let Err(error) = written(&built.path, &input) {
                     println!("# {}: {error}", built.program.name);
                 }
             })

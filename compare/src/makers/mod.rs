@@ -9,6 +9,7 @@ mod parts;
 mod random;
 mod sheet;
 mod task;
+pub mod translator;
 mod walk;
 
 pub use random::Random;

@@ -16,6 +16,11 @@ pub fn fact(variable: usize, value: usize) -> Fact {
 }
 
 impl Fact {
+    fn of(word: u32) -> Self {
+        let (variable, value) = rules::split(word);
+        Fact { variable, value }
+    }
+
     pub fn word(self) -> u32 {
         (self.variable * rules::FACT_BASE) as u32 + self.value
     }
@@ -99,30 +104,49 @@ impl Task {
             2 if many_facts => random.size(0..=variables),
             _ => random.size(0..=variables.min(3)),
         };
-        Task::of_shape(random, variables, actions, rules::MAX_WORDS, group_size)
+        let sizes = random_domains(random, variables);
+        Task::of_shape(random, sizes, actions, rules::MAX_WORDS, group_size)
+    }
+
+    /// A task that is quickly made and read.
+    pub fn small(random: &mut Random) -> Self {
+        let variables = random.size(1..=5);
+        let sizes = small_domains(random, variables);
+        let actions = random.size(0..=6);
+        let group_size = |random: &mut Random| random.size(0..=variables);
+        Task::of_shape(random, sizes, actions, rules::MAX_WORDS, group_size)
     }
 
     /// A task whose sheet has as many words as a sheet may have, or one or two fewer.
     pub fn filling(random: &mut Random) -> Self {
+        Task::filling_with(random, random_domains)
+    }
+
+    /// The same with few values, so that most often it has room in a text.
+    pub fn filling_briefly(random: &mut Random) -> Self {
+        Task::filling_with(random, small_domains)
+    }
+
+    fn filling_with(random: &mut Random, domains: fn(&mut Random, usize) -> Vec<u32>) -> Self {
         let variables = rules::MAX_VARIABLES - random.index(2);
         let enough_actions = rules::MAX_WORDS / (2 * variables) + 1;
         let actions = random.size(enough_actions..=rules::MAX_ACTIONS);
         let limit = rules::MAX_WORDS - random.index(3);
-        Task::of_shape(random, variables, actions, limit, |_| variables)
+        let sizes = domains(random, variables);
+        Task::of_shape(random, sizes, actions, limit, |_| variables)
     }
 
     /// Takes facts for one group after another until the sheet has as many words as the limit says.
     fn of_shape(
         random: &mut Random,
-        variables: usize,
+        sizes: Vec<u32>,
         actions: usize,
         limit: usize,
         group_size: impl Fn(&mut Random) -> usize,
     ) -> Self {
-        let sizes: Vec<u32> = (0..variables).map(|_| random_domain(random)).collect();
         let start = sizes.iter().map(|&n| random_value(random, n)).collect();
         let pairs = rules::FIRST_ACTION_PAIR + actions;
-        let values = 2 * variables;
+        let values = 2 * sizes.len();
         let mut room = limit - pair_word(pairs) - values - rules::ACTION_HEAD * actions;
         let mut group = |random: &mut Random| {
             let size = group_size(random).min(room);
@@ -138,6 +162,27 @@ impl Task {
             goal,
             sizes,
         }
+    }
+
+    /// The task of an accepted sheet.
+    pub fn of_sheet(words: &[u32]) -> Option<Self> {
+        let sheet = rules::check_sheet(words).ok()?;
+        let facts = |words: &[u32]| words.iter().map(|&word| Fact::of(word)).collect();
+        let actions = (0..sheet.actions()).map(|index| {
+            let action_words = sheet.action(index);
+            action(
+                action_words.cost as u32,
+                facts(action_words.preconditions),
+                facts(action_words.effects),
+            )
+        });
+        let sizes = sheet.sizes().to_vec();
+        Some(Task {
+            start: sheet.start()[..sizes.len()].to_vec(),
+            goal: facts(sheet.goal()),
+            actions: actions.collect(),
+            sizes,
+        })
     }
 
     pub fn start(&self) -> State {
@@ -214,9 +259,15 @@ fn edged(
     }
 }
 
-fn random_domain(random: &mut Random) -> u32 {
+fn random_domains(random: &mut Random, variables: usize) -> Vec<u32> {
     let most = rules::MAX_DOMAIN;
-    edged(random, 4, &[1, most - 1, most], 1..=4) as u32
+    let edges = [1, most - 1, most];
+    let domain = |_| edged(random, 4, &edges, 1..=4) as u32;
+    (0..variables).map(domain).collect()
+}
+
+fn small_domains(random: &mut Random, variables: usize) -> Vec<u32> {
+    (0..variables).map(|_| random.within(1..=4)).collect()
 }
 
 fn random_cost(random: &mut Random) -> u32 {

@@ -1,5 +1,6 @@
-//! The services of document 01, written from its text alone. Checks stand in the order of the table
-//! of refusals, and each runs over the whole input before the next.
+//! The services of document 01, and the reading of translator texts of document 02, written from
+//! their words alone. Checks stand in the order of the table of refusals, and each runs over the
+//! whole input before the next.
 
 mod blocks;
 mod elimination;
@@ -12,15 +13,17 @@ pub mod search;
 mod states;
 mod tally;
 mod task;
+mod translator;
 
 pub use elimination::{cheaper, eliminate, greedy, kept_part};
 pub use exact::{exact, steps_of};
 pub use marks::marks;
 pub use plan::{all_hold, do_step, has, mask_of, step, Kept, Lodged, Mask, State};
 pub use plan::{MASK_WORDS, WORD_BITS};
-pub use program::{printed_by_shorten, printed_by_validate};
+pub use program::{printed_by_shorten, printed_by_validate, written_by_translate, Written};
 pub use tally::Tally;
 pub use task::{check_sheet, pair_word, Action};
+pub use translator::{translate, MAX_TEXT};
 
 pub const EDITION: usize = 1;
 pub const MAX_WORDS: usize = 8_192;
@@ -71,6 +74,10 @@ pub enum Cause {
     ShortOutput = 10,
     NotValid = 11,
     Unmarked = 12,
+    /// These three are document 02's, for a text that is read into a sheet.
+    Text = 13,
+    Unsupported = 14,
+    NoSheet = 15,
 }
 
 #[derive(Clone, Copy)]

@@ -1,7 +1,7 @@
-//! What the programs print for the bytes of their input (document 01, "Worked lists", on the
-//! program).
+//! What the programs write for the bytes of their input (document 01, "Worked lists", on the
+//! program; document 02 on the text that is read into a sheet).
 
-use super::{Cause, Kept, Lodged, Refusal, COUNT_WORD, HEADER, MAX_STEPS, MAX_WORDS};
+use super::{translate, Cause, Kept, Lodged, Refusal, COUNT_WORD, HEADER, MAX_STEPS, MAX_WORDS};
 
 const WORD_BYTES: usize = 4;
 
@@ -29,7 +29,40 @@ fn printed(bytes: &[u8], answer: impl Fn(&[u32], &[u32]) -> Result<String, Refus
     read(bytes)
         .ok_or(Cause::Length.at(0))
         .and_then(|(words, plan)| answer(&words, &plan))
-        .unwrap_or_else(|refusal| format!("refused {} {}\n", refusal.cause as u8, refusal.place))
+        .unwrap_or_else(refused)
+}
+
+/// The line of a refusal.
+fn refused(refusal: Refusal) -> String {
+    format!("refused {} {}\n", refusal.cause as u8, refusal.place)
+}
+
+/// What a program writes to standard output and to standard error.
+#[derive(Default, PartialEq, Eq)]
+pub struct Written {
+    pub output: Vec<u8>,
+    pub errors: Vec<u8>,
+}
+
+impl Written {
+    /// A program that prints lines prints those of a refusal too.
+    pub fn lines(lines: String) -> Self {
+        Written {
+            output: lines.into_bytes(),
+            errors: Vec::new(),
+        }
+    }
+}
+
+/// The program that reads a text into a sheet. Words go to standard output, and so that nobody takes
+/// a refusal for words, it goes to standard error.
+pub fn written_by_translate(text: &[u8]) -> Written {
+    let mut written = Written::default();
+    match translate(text, MAX_WORDS) {
+        Ok(words) => written.output = words.iter().flat_map(|it| it.to_le_bytes()).collect(),
+        Err(refusal) => written.errors = refused(refusal).into_bytes(),
+    }
+    written
 }
 
 /// The program that checks a plan.

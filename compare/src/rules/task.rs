@@ -151,6 +151,10 @@ impl<'a> Task<'a> {
         self.word(self.offset(START_PAIR) + variable)
     }
 
+    pub fn sizes(self) -> &'a [u32] {
+        &self.words[self.part(SIZES_PAIR)]
+    }
+
     /// The starting values, zero past the task's variables.
     pub fn start(self) -> State {
         let mut state = [0; MAX_VARIABLES];

@@ -13,8 +13,10 @@ mod reduction;
 mod sheet;
 mod step;
 mod tally;
+mod translator;
 
 use super::{Case, Service, TAKING_PLAN};
+use crate::makers::translator::faults as translator_faults;
 use crate::makers::{faults, Random, Task};
 use crate::rules::Kept;
 
@@ -25,6 +27,30 @@ type Make = fn(&mut Random) -> Option<Case>;
 pub type Kind = (&'static str, Box<dyn Fn(&mut Random) -> Option<Case>>);
 
 pub fn all() -> Vec<Kind> {
+    others().into_iter().chain(of_translator()).collect()
+}
+
+/// Those of texts that are read into a sheet, each fault among them.
+fn of_translator() -> Vec<Kind> {
+    let mut kinds: Vec<Kind> = boxed(translator::KINDS.to_vec()).collect();
+    for (name, put) in translator_faults::UNSUPPORTED {
+        let make = move |random: &mut Random| translator::unsupported(random, put);
+        kinds.push((name, Box::new(make)));
+    }
+    for (name, put) in translator_faults::UNFIT {
+        let make = move |random: &mut Random| translator::unfit(random, put);
+        kinds.push((name, Box::new(make)));
+    }
+    kinds
+}
+
+fn boxed(kinds: Vec<(&'static str, Make)>) -> impl Iterator<Item = Kind> {
+    let boxed = |(name, make)| -> Kind { (name, Box::new(make)) };
+    kinds.into_iter().map(boxed)
+}
+
+/// Those of all other services.
+fn others() -> Vec<Kind> {
     let faults = faults::all().into_iter().map(|(name, put)| -> Kind {
         let make = move |random: &mut Random| sheet::with_fault(random, put);
         (name, Box::new(make))
@@ -38,9 +64,7 @@ pub fn all() -> Vec<Kind> {
         exact::KINDS,
         tally::PART_KINDS,
     ];
-    let others = others.concat().into_iter();
-    let others = others.map(|(name, make)| -> Kind { (name, Box::new(make)) });
-    faults.chain(others).collect()
+    faults.chain(boxed(others.concat())).collect()
 }
 
 /// The random case with this number and the name of its kind. Kinds take turns, so that a short run

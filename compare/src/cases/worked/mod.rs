@@ -1,7 +1,9 @@
-//! The worked lists of document 01 and the numbers at its limits, with the answers written out by
-//! hand from its text: they hold the independent version to the document.
+//! The worked lists of document 01 and the numbers at its limits, and texts for the translator of
+//! document 02, with the answers written out by hand from these documents: they hold the independent
+//! version to them.
 
 mod sheets;
+mod texts;
 
 pub use sheets::{with_lamp_cost, SHEET_P};
 
@@ -25,6 +27,7 @@ pub fn cases() -> Vec<Worked> {
     cases.extend(short_outputs());
     cases.extend(unmarked());
     cases.extend(kept_parts());
+    cases.extend(texts::cases());
     cases
 }
 

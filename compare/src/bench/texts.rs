@@ -1,0 +1,158 @@
+//! The texts for the translator that are measured, and the table of their times.
+
+use super::plans::name;
+use super::table;
+use super::timed::{times_of, Timed, RUNS};
+use crate::cases::{Case, Service};
+use crate::makers::translator::{Effect, Listing, Number, Operator, Pair, Text};
+use crate::makers::Task;
+use crate::rules::{MAX_VARIABLES, MAX_WORDS};
+
+/// What most of a text is made of.
+#[derive(Clone, Copy, Debug)]
+pub enum Bulk {
+    /// Operators of one prevail condition and one effect.
+    Small,
+    /// The same with long names.
+    Named,
+    /// Operators that ask for every variable and set every one, in falling order.
+    Full,
+    /// Mutex groups.
+    Mutex,
+}
+
+pub const BULKS: [Bulk; 4] = [Bulk::Small, Bulk::Named, Bulk::Full, Bulk::Mutex];
+/// About so many bytes.
+pub const SIZES: [usize; 3] = [15_000, 30_000, 60_000];
+
+#[derive(Clone, Copy)]
+pub struct LongText {
+    pub bulk: Bulk,
+    pub size: usize,
+}
+
+const VALUES: u32 = 12;
+const MUTEX_PAIRS: usize = 100;
+/// So many pieces are written to see how long one is.
+const TRIED: usize = 16;
+
+impl LongText {
+    pub fn all() -> impl Iterator<Item = LongText> {
+        let of_bulk = |bulk| SIZES.map(|size| LongText { bulk, size });
+        BULKS.into_iter().flat_map(of_bulk)
+    }
+
+    /// What tells it to the program.
+    pub fn arguments(self) -> [String; 2] {
+        [name(self.bulk), name(self.size)]
+    }
+
+    /// As many pieces as make up the size.
+    pub fn make(self) -> Vec<u8> {
+        let [none, tried] = [0, TRIED].map(|pieces| self.with(pieces).len());
+        let pieces = (self.size - none) * TRIED / (tried - none);
+        self.with(pieces)
+    }
+
+    pub fn case(self) -> Case {
+        let case = Case::fitting(Service::Translate, &[], &[], [MAX_WORDS, 0]);
+        case.with_text(&self.make())
+    }
+
+    /// The names of the variables and their values are empty, so that nearly all of even a short
+    /// text is pieces.
+    fn with(self, pieces: usize) -> Vec<u8> {
+        let (variables, name) = match self.bulk {
+            Bulk::Small | Bulk::Mutex => (24, 20),
+            Bulk::Named => (24, 200),
+            Bulk::Full => (MAX_VARIABLES, 20),
+        };
+        let sizes = vec![VALUES; variables];
+        let mut listing = Listing::of(&Task::from_zero(sizes, Vec::new(), Vec::new()));
+        for piece in 0..pieces {
+            match self.bulk {
+                Bulk::Mutex => listing.mutex_groups.push(mutex_group(variables, piece)),
+                Bulk::Full => listing.operators.push(full_operator(variables, piece)),
+                _ => listing.operators.push(small_operator(variables, piece)),
+            }
+        }
+        let mut of_variables = 0..variables * (1 + VALUES as usize);
+        let mut put_name = |bytes: &mut Vec<u8>| match of_variables.next() {
+            Some(_) => (),
+            None => bytes.extend(vec![b'a'; name]),
+        };
+        Text::of(&listing, &mut put_name).bytes
+    }
+}
+
+/// A variable with a value that is not the same in each piece.
+fn pair(variable: usize, piece: usize) -> Pair {
+    [
+        variable as Number,
+        ((variable + piece) % VALUES as usize) as Number,
+    ]
+}
+
+fn mutex_group(variables: usize, piece: usize) -> Vec<Pair> {
+    let pairs = 0..MUTEX_PAIRS;
+    pairs
+        .map(|index| pair(index % variables, piece + index))
+        .collect()
+}
+
+fn effect(variable: usize, old: Option<Number>, piece: usize) -> Effect {
+    let [variable, new] = pair(variable, piece);
+    Effect {
+        conditions: Vec::new(),
+        variable,
+        old,
+        new,
+    }
+}
+
+fn small_operator(variables: usize, piece: usize) -> Operator {
+    let asked = piece % variables;
+    let set = (piece + 1) % variables;
+    Operator {
+        prevail: vec![pair(asked, piece)],
+        effects: vec![effect(set, Some(0), piece)],
+        cost: 1,
+    }
+}
+
+fn full_operator(variables: usize, piece: usize) -> Operator {
+    let falling = (0..variables).rev();
+    Operator {
+        prevail: falling.clone().map(|it| pair(it, piece)).collect(),
+        effects: falling.map(|it| effect(it, None, piece + 1)).collect(),
+        cost: 1,
+    }
+}
+
+/// Prints the times of all texts. Growth is against the shortest text of the same bulk: where a text
+/// is four times as long, it is four at most. Answers whether all answers were right.
+pub fn run() -> bool {
+    let texts: Vec<LongText> = LongText::all().collect();
+    let times = times_of(texts.iter().map(|text| text.case()));
+    println!("\nTexts for the translator, best of {RUNS} runs:\n");
+    let columns = ["Text of", "Bytes", "Words"];
+    table::print_head(&[&columns[..], &["Library", "Rust", "Ratio", "Growth"]].concat());
+    for (index, (text, timed)) in texts.iter().zip(&times).enumerate() {
+        let shortest = &times[index - index % SIZES.len()];
+        let growth = format!("{:.2}", timed.library() / shortest.library());
+        let cells = [name(text.bulk), bytes_of(timed), words_of(timed)];
+        table::print_row(&[&cells[..], &timed.cells(), &[growth]].concat());
+    }
+    times.iter().all(|timed| timed.answer().is_some())
+}
+
+fn bytes_of(timed: &Timed) -> String {
+    timed.case.lent.text.len().to_string()
+}
+
+/// The last word of `out`.
+fn words_of(timed: &Timed) -> String {
+    let answer = timed.answer();
+    let words = answer.and_then(|memory| memory.out.last().copied());
+    words.map_or("**the answers differ**".to_string(), |it| it.to_string())
+}
