@@ -1,7 +1,7 @@
 // Reads and writes that are safe at any index: past the end a read finds 0, and a write does nothing.
 ghost use mathlib.Core.Path.{_≡_};
 ghost use mathlib.Core.Bool.{false};
-ghost use Prim.Native.Nat.{_<_, _^_};
+ghost use Prim.Native.Nat.{min, _<_, _^_};
 ghost use lib.ListN.{getD, set, take};
 ghost use lib.Seq.{sets};
 
@@ -28,13 +28,22 @@ pub fn put(words: &mut [u32], i: usize, x: u32)
     }
 }
 
-// Writes words over the first ones. What there is no room for is dropped.
+// The smaller of two lengths.
+fn smaller(a: usize, b: usize) -> usize
+    ensures { λ r. ⌜ r ≡ min a b ⌝ }
+{
+    if a < b { a } else { b }
+}
+
+// Writes words over the first ones. What there is no room for is dropped. How many there are to write is settled
+// before the first is written, so that the loop is a copy.
 pub fn put_all(words: &mut [u32], values: &[u32])
     ensures { λ _. ⌜ now (words .exit) ≡ sets (now (words .entry)) 0 (now (values .entry)) ⌝ }
 {
+    let n = smaller(words.len(), values.len());
     let mut v = 0;
-    while v < values.len() {
-        put(words, v, word(values, v));
+    while v < n {
+        words[v] = values[v];
         v += 1;
     }
 }

@@ -1,11 +1,10 @@
 -- Where bytes are cut, by the next byte and by the first run. Assumes nothing.
-use Prim.Native.Nat.{ℕ, suc, _+_, _≤_, _<_}
+use Prim.Native.Nat.{ℕ, suc, _≤_, _<_}
 use native.Mathlib.Omega.{arith}
-use mathlib.Core.Path.{_≡_, refl, sym, _∙_, ap}
+use mathlib.Core.Path.{_≡_, refl, _∙_, ap}
 use mathlib.Core.Bool.{Bool, true, false}
 use mathlib.Core.List.{List, [], _∷_}
-use lib.ListN.{length, take, drop, length-drop}
-use lib.Seq.{drop-drop}
+use lib.ListN.{length, take, drop}
 use Rattle.ascii.specs.Bytes.{Split, runs, split}
 
 pub split-at : (test : ℕ → Bool) (b : ℕ) (bs : List ℕ) → test b ≡ true → split test (b ∷ bs) ≡ record { first = []; others = runs (split test bs) }
@@ -22,17 +21,7 @@ abbrev put-in-front : ℕ → Split → Split
 put-in-front b c = record { first = b ∷ c .first; others = c .others }
 
 module _ (test : ℕ → Bool) where
-  -- the first run is no longer than the bytes
-  split-within : (bs : List ℕ) → length (split test bs .first) ≤ length bs
-  unfolding split
-  split-within [] = omega arith
-  split-within (b ∷ bs) = by-case (split-within bs) (test b) refl
-    where
-      by-case : length (split test bs .first) ≤ length bs → (t : Bool) → test b ≡ t → length (split test (b ∷ bs) .first) ≤ suc (length bs)
-      by-case rest true e = rw (split-at test b bs e) (omega arith)
-      by-case rest false e = rw (split-in test b bs e) (omega arith)
-
-  -- where it is as long, it is all of them
+  -- where the first run is as long as the bytes, it is all of them
   pub split-last : (bs : List ℕ) → length bs ≤ length (split test bs .first) → split test bs ≡ record { first = bs; others = [] }
   unfolding split
   split-last [] h = refl
@@ -57,30 +46,3 @@ module _ (test : ℕ → Bool) where
       by-case : (length (split test bs .first) < length bs → Cut-behind bs) → (t : Bool) → test b ≡ t → Cut-behind (b ∷ bs)
       by-case rest true e = rw (split-at test b bs e)
       by-case rest false e = rw (split-in test b bs e) (ap (put-in-front b) (rest (omega (arith, rw (split-in test b bs e) at h))))
-
-  -- the same of the bytes from an index on
-  module _ (t : List ℕ) (at : ℕ) where
-    pub first-within : at ≤ length t → at + length (split test (drop at t) .first) ≤ length t
-    first-within h = omega (arith, split-within (drop at t), length-drop at t)
-
-    pub others-none : at + length (split test (drop at t) .first) ≡ length t → split test (drop at t) .others ≡ []
-    others-none h = ap (λ c. c .others) (split-last (drop at t) (omega (arith, length-drop at t)))
-
-    pub others-more : at + length (split test (drop at t) .first) < length t
-        → split test (drop at t) .others ≡ runs (split test (drop (at + length (split test (drop at t) .first) + 1) t))
-    others-more h =
-        let n = length (split test (drop at t) .first) in
-        let place : at + suc n ≡ at + n + 1 = omega arith in
-        let behind : drop (suc n) (drop at t) ≡ drop (at + n + 1) t = drop-drop (suc n) at t ∙ ap (λ i. drop i t) place in
-        ap (λ c. c .others) (split-more (drop at t) (omega (arith, length-drop at t))) ∙ ap (λ bs. runs (split test bs)) behind
-
-    pub runs-last : at + length (split test (drop at t) .first) ≡ length t → runs (split test (drop at t)) ≡ drop at t ∷ []
-    runs-last h = ap (λ c. runs c) (split-last (drop at t) (omega (arith, length-drop at t)))
-
-    pub runs-more : at + length (split test (drop at t) .first) < length t
-        → runs (split test (drop at t))
-        ≡ take (length (split test (drop at t) .first)) (drop at t) ∷ runs (split test (drop (at + length (split test (drop at t) .first) + 1) t))
-    runs-more h =
-        let first = take (length (split test (drop at t) .first)) (drop at t) in
-        ap (λ c. runs c) (split-more (drop at t) (omega (arith, length-drop at t)))
-        ∙ ap (λ others. first ∷ others) (sym (ap (λ c. c .others) (split-more (drop at t) (omega (arith, length-drop at t)))) ∙ others-more h)

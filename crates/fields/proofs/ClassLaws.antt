@@ -14,8 +14,20 @@ use Rattle.fields.specs.declared.class.Class.{Class}
 use Rattle.fields.specs.declared.class.Class.the-variants.{Digit, Minus, Space, LineEnd, Other}
 use Rattle.fields.proofs.class.Class.{the-type}
 use Rattle.fields.specs.Fields.{minus-sign, ends-word, class-of}
+use Rattle.fields.specs.declared.word.Behind.the-variants as behind
+use Rattle.fields.specs.between.Reading.{behind-byte}
 
 module _ (b : ℕ) where
+  -- whether it is a digit
+  pub digit-between : ascii-zero ≤ b → b ≤ ascii-nine → ascii-digit b ≡ true
+  digit-between low high = rw (le-leb ascii-zero b low, le-leb b ascii-nine high)
+
+  pub digit-below : b < ascii-zero → ascii-digit b ≡ false
+  digit-below low = rw (lt-leb ascii-zero b low)
+
+  pub digit-above : ascii-nine < b → ascii-digit b ≡ false
+  digit-above high = let low : ascii-zero ≤ b = omega arith in rw (le-leb ascii-zero b low, lt-leb b ascii-nine high)
+
   pub class-digit : ascii-zero ≤ b → b ≤ ascii-nine → class-of b ≡ Digit
   unfolding class-of
   class-digit low high = rw (class-of, le-leb ascii-zero b low, le-leb b ascii-nine high)
@@ -58,20 +70,6 @@ by-tests : (b : ℕ) → class-of b ≡ class-by (ascii-digit b) (eqb b minus-si
 unfolding class-of
 by-tests b = refl
 
-digit-test : (a m s e : Bool) → class-by a m s e ≡ Digit → a ≡ true
-digit-test true m s e is = refl
-digit-test false true s e is = differ Minus Digit tt is
-digit-test false false true e is = differ Space Digit tt is
-digit-test false false false true is = differ LineEnd Digit tt is
-digit-test false false false false is = differ Other Digit tt is
-
-minus-test : (a m s e : Bool) → class-by a m s e ≡ Minus → m ≡ true
-minus-test true m s e is = differ Digit Minus tt is
-minus-test false true s e is = refl
-minus-test false false true e is = differ Space Minus tt is
-minus-test false false false true is = differ LineEnd Minus tt is
-minus-test false false false false is = differ Other Minus tt is
-
 space-test : (a m s e : Bool) → class-by a m s e ≡ Space → s ≡ true
 space-test true m s e is = differ Digit Space tt is
 space-test false true s e is = differ Minus Space tt is
@@ -91,29 +89,32 @@ test-fails : (t : Bool) → (t ≡ true → ⊥) → t ≡ false
 test-fails true h = absurd (h refl)
 test-fails false h = refl
 
+-- what stands behind a word, by the class of the byte there
+module _ (b : ℕ) where
+  pub behind-space : ends-word b ≡ true → behind-byte b ≡ behind.Space
+  unfolding behind-byte
+  behind-space e = rw e
+
+  pub behind-line-end : ends-line b ≡ true → behind-byte b ≡ behind.LineEnd
+  unfolding behind-byte
+  behind-line-end e = let is : b ≡ line-end = eqb-true b line-end e in rw is
+
+  pub behind-neither : ends-word b ≡ false → ends-line b ≡ false → behind-byte b ≡ behind.Neither
+  unfolding behind-byte
+  behind-neither e f = rw (e, f)
+
 -- what a byte is by the class that the code has found
 module _ (b : ℕ) (r : Class) (is : r ≡ class-of b) where
-  pub told-digit : r ≡ Digit → ascii-digit b ≡ true
-  told-digit e = digit-test (ascii-digit b) (eqb b minus-sign) (ends-word b) (ends-line b) (sym (by-tests b) ∙ sym is ∙ e)
-
-  pub told-minus : r ≡ Minus → b ≡ minus-sign
-  told-minus e = eqb-true b minus-sign (minus-test (ascii-digit b) (eqb b minus-sign) (ends-word b) (ends-line b) (sym (by-tests b) ∙ sym is ∙ e))
-
   pub told-space : r ≡ Space → ends-word b ≡ true
   told-space e = space-test (ascii-digit b) (eqb b minus-sign) (ends-word b) (ends-line b) (sym (by-tests b) ∙ sym is ∙ e)
 
   pub told-line-end : r ≡ LineEnd → ends-line b ≡ true
   told-line-end e = end-test (ascii-digit b) (eqb b minus-sign) (ends-word b) (ends-line b) (sym (by-tests b) ∙ sym is ∙ e)
 
-  pub told-no-digit : OneOf (1 ∷ 2 ∷ 3 ∷ 4 ∷ []) (tagOf the-type r) → ascii-digit b ≡ false
-  unfolding class-of
-  told-no-digit told = test-fails (ascii-digit b) (λ e. other-class (1 ∷ 2 ∷ 3 ∷ 4 ∷ []) r Digit tt told (is ∙ rw (class-of, e)))
+  -- a class at one of these places is not that one
+  module _ (ks : List ℕ) (told : OneOf ks (tagOf the-type r)) where
+    pub told-no-space : T (not (hasKey ks (tagOf the-type Space))) → ends-word b ≡ false
+    told-no-space h = test-fails (ends-word b) (λ e. other-class ks r Space h told (is ∙ class-space b (eqb-true b space e)))
 
-  pub told-no-minus : OneOf (0 ∷ 2 ∷ 3 ∷ 4 ∷ []) (tagOf the-type r) → eqb b minus-sign ≡ false
-  told-no-minus told = test-fails (eqb b minus-sign) (λ e. other-class (0 ∷ 2 ∷ 3 ∷ 4 ∷ []) r Minus tt told (is ∙ class-minus b (eqb-true b minus-sign e)))
-
-  pub told-no-space : OneOf (0 ∷ 1 ∷ 3 ∷ 4 ∷ []) (tagOf the-type r) → ends-word b ≡ false
-  told-no-space told = test-fails (ends-word b) (λ e. other-class (0 ∷ 1 ∷ 3 ∷ 4 ∷ []) r Space tt told (is ∙ class-space b (eqb-true b space e)))
-
-  pub told-no-line-end : OneOf (0 ∷ 1 ∷ 2 ∷ 4 ∷ []) (tagOf the-type r) → ends-line b ≡ false
-  told-no-line-end told = test-fails (ends-line b) (λ e. other-class (0 ∷ 1 ∷ 2 ∷ 4 ∷ []) r LineEnd tt told (is ∙ class-line-end b (eqb-true b line-end e)))
+    pub told-no-line-end : T (not (hasKey ks (tagOf the-type LineEnd))) → ends-line b ≡ false
+    told-no-line-end h = test-fails (ends-line b) (λ e. other-class ks r LineEnd h told (is ∙ class-line-end b (eqb-true b line-end e)))

@@ -9,8 +9,9 @@ use borrow.Author.Tests.{eqb-true}
 use Rattle.ascii.specs.Bytes.{space, ascii-digit, split, all-digits}
 use Rattle.ascii.proofs.SplitLaws.{split-at, split-in}
 use Rattle.fields.specs.declared.class.Class.the-variants.{Digit, Minus, Space}
-use Rattle.fields.specs.Fields.{minus-sign, ends-word, class-of, words-of, same, is-number, minus-one, word-reads, all-read, line-reads}
+use Rattle.fields.specs.Fields.{minus-sign, ends-word, class-of, words-of, same, minus-one, word-reads, all-read, line-reads}
 use Rattle.fields.proofs.ClassLaws.{class-minus, class-space}
+use Rattle.fields.proofs.WordLaws.{number-digits}
 
 -- a byte of a word
 abbrev In-word : ℕ → Type 0
@@ -53,15 +54,6 @@ same-equal (x ∷ xs) (y ∷ ys) e = by-case (eqb x y) refl (same-equal xs ys)
     by-case : (t : Bool) → eqb x y ≡ t → (same xs ys ≡ true → xs ≡ ys) → x ∷ xs ≡ y ∷ ys
     by-case true is rest = let here : x ≡ y = eqb-true x y is in let later : xs ≡ ys = rest (rw is at e) in cc
     by-case false is rest = absurd (false≢true (rw is at e))
-
-number-digits : (ds : List ℕ) → is-number ds ≡ true → all-digits ds ≡ true
-unfolding is-number
-number-digits [] e = absurd (false≢true e)
-number-digits (d ∷ ds) e = by-case (all-digits (d ∷ ds)) refl
-  where
-    by-case : (t : Bool) → all-digits (d ∷ ds) ≡ t → all-digits (d ∷ ds) ≡ true
-    by-case true is = is
-    by-case false is = absurd (false≢true (rw is at e))
 
 word-classes : (w : List ℕ) → word-reads w ≡ true → (b : ℕ) → List·Memᴰ b w → In-word b
 unfolding word-reads

@@ -10,7 +10,9 @@ use borrow.Author.Tests.{leb-true, leb-false}
 use Rattle.ascii.specs.Bytes.{ascii-zero, ascii-nine, ascii-digit, decimal-from}
 use Rattle.fields.specs.Numbers.{most-number}
 use Rattle.fields.specs.Fields.{number}
-use Rattle.fields.specs.between.Reading.{grown, number-from, leading-digits, Reads-digits}
+use Rattle.fields.specs.declared.word.Behind.{Behind}
+use Rattle.fields.specs.declared.word.Behind.the-variants.{Neither}
+use Rattle.fields.specs.between.Reading.{grown, number-from, leading-digits, Digits-left, behind-byte, Reads-digits}
 use Rattle.fields.proofs.LineLaws.{byte-next}
 
 -- a digit is no smaller than the first
@@ -54,34 +56,39 @@ pub number-small : (ds : List ℕ) → number ds ≤ most-number
 unfolding number
 number-small ds = omega arith
 
-pub digits-begin : (line : List ℕ) (at : ℕ) → Reads-digits line at 0 at
+pub digits-begin : (text : List ℕ) (at : ℕ) → Digits-left text at 0 at
 unfolding number
-digits-begin line at = record { number-left = refl; end-left = refl; small = omega arith }
+digits-begin text at = record { number-left = refl; end-left = refl; small = omega arith }
 
-module _ (line : List ℕ) (at value i : ℕ) (so-far : Reads-digits line at value i) where
+module _ (text : List ℕ) (at value i : ℕ) (so-far : Digits-left text at value i) where
   -- no digit is left
-  no-digit-left : leading-digits (drop i line) ≡ [] → (value ≡ number (leading-digits (drop at line))) × (i ≡ at + length (leading-digits (drop at line)))
+  no-digit-left : leading-digits (drop i text) ≡ [] → (value ≡ number (leading-digits (drop at text))) × (i ≡ at + length (leading-digits (drop at text)))
   unfolding decimal-from
   no-digit-left e =
-      let same-number : number-from value [] ≡ number (leading-digits (drop at line)) = rw e at (so-far .number-left) in
-      let same-end : i + 0 ≡ at + length (leading-digits (drop at line)) = rw e at (so-far .end-left) in
+      let same-number : number-from value [] ≡ number (leading-digits (drop at text)) = rw e at (so-far .number-left) in
+      let same-end : i + 0 ≡ at + length (leading-digits (drop at text)) = rw e at (so-far .end-left) in
       (sym (omega (arith, so-far .small)) ∙ same-number, omega arith)
 
-  pub digits-over : length line ≤ i → (value ≡ number (leading-digits (drop at line))) × (i ≡ at + length (leading-digits (drop at line)))
+  pub digits-over : length text ≤ i → Reads-digits text at (record { value = value; end = i; behind = Neither })
   unfolding leading-digits
-  digits-over h = no-digit-left (rw (drop-of-length-le line h))
+  digits-over h =
+      let none : leading-digits (drop i text) ≡ [] = rw (drop-of-length-le text h) in
+      record { value = no-digit-left none .0; end = no-digit-left none .1; behind = rw (drop-of-length-le text h) }
 
-  module _ (h : i < length line) where
-    pub digits-end : ascii-digit (getD line i 0) ≡ false → (value ≡ number (leading-digits (drop at line))) × (i ≡ at + length (leading-digits (drop at line)))
-    digits-end e = no-digit-left (rw (byte-next line i h) (leading-at (getD line i 0) (drop (i + 1) line) e))
+  module _ (h : i < length text) where
+    pub digits-end : (b : Behind) → ascii-digit (getD text i 0) ≡ false → b ≡ behind-byte (getD text i 0)
+        → Reads-digits text at (record { value = value; end = i; behind = b })
+    digits-end b e is =
+        let none : leading-digits (drop i text) ≡ [] = rw (byte-next text i h) (leading-at (getD text i 0) (drop (i + 1) text) e) in
+        record { value = no-digit-left none .0; end = no-digit-left none .1; behind = is ∙ rw (byte-next text i h) }
 
-    pub digits-next : (more : ℕ) → ascii-digit (getD line i 0) ≡ true → more ≡ grown value (getD line i 0) → more ≤ most-number
-        → Reads-digits line at more (i + 1)
+    pub digits-next : (more : ℕ) → ascii-digit (getD text i 0) ≡ true → more ≡ grown value (getD text i 0) → more ≤ most-number
+        → Digits-left text at more (i + 1)
     digits-next more e is fits =
-        let left : leading-digits (drop i line) ≡ getD line i 0 ∷ leading-digits (drop (i + 1) line) =
-        rw (byte-next line i h) (leading-in (getD line i 0) (drop (i + 1) line) e) in
+        let left : leading-digits (drop i text) ≡ getD text i 0 ∷ leading-digits (drop (i + 1) text) =
+        rw (byte-next text i h) (leading-in (getD text i 0) (drop (i + 1) text) e) in
         record {
-          number-left = rw is (grows value (getD line i 0) (leading-digits (drop (i + 1) line))) ∙ ap (number-from value) (sym left) ∙ so-far .number-left;
+          number-left = rw is (grows value (getD text i 0) (leading-digits (drop (i + 1) text))) ∙ ap (number-from value) (sym left) ∙ so-far .number-left;
           end-left = omega (arith, ap length left, so-far .end-left);
           small = fits;
         }

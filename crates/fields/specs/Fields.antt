@@ -1,6 +1,6 @@
 -- The lines of a planner's text, the words of a line and the numbers that they are (document 02, C-11). Assumes
 -- nothing.
-use Prim.Native.Nat.{ℕ, _+_, min}
+use Prim.Native.Nat.{ℕ, min}
 use mathlib.Core.Bool.{Bool, true, false, not, cond, _&&_, _||_}
 use mathlib.Core.List.{List, [], _∷_, map}
 use lib.ListN.{length}
@@ -70,11 +70,17 @@ line-reads line = all-read (words-of line)
 abbrev pub line-numbers : List ℕ → List ℕ
 line-numbers line = map word-number (words-of line)
 
--- one for −1, none for a number
-abbrev pub minus : ℕ → ℕ
-minus x = elim (eqb x any-value) [ true ↦ 1 | false ↦ 0 ]
+-- a number, and not −1
+abbrev pub plain : ℕ → Bool
+plain x = not (eqb x any-value)
 
--- how many numbers are −1
-unfoldable pub minuses : List ℕ → ℕ
-minuses [] = 0
-minuses (x ∷ xs) = minus x + minuses xs
+unfoldable pub all-plain : List ℕ → Bool
+all-plain [] = true
+all-plain (x ∷ xs) = plain x && all-plain xs
+
+-- none of these numbers is −1 but perhaps the last but one
+unfoldable pub plain-but-old : List ℕ → Bool
+plain-but-old [] = true
+plain-but-old (new ∷ []) = plain new
+plain-but-old (old ∷ new ∷ []) = plain new
+plain-but-old (x ∷ y ∷ z ∷ xs) = plain x && plain-but-old (y ∷ z ∷ xs)

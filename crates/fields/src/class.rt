@@ -1,5 +1,6 @@
 // The five classes of bytes.
 ghost use mathlib.Core.Path.{_≡_};
+ghost use Rattle.ascii.specs.Bytes.{ascii-digit};
 ghost use Rattle.fields.specs.Fields.{class-of};
 
 pub(crate) enum Class {
@@ -20,5 +21,15 @@ pub(crate) fn classify(byte: u8) -> Class
         b' ' => Class::Space,
         b'\n' => Class::LineEnd,
         _ => Class::Other,
+    }
+}
+
+// Whether a byte is of the first class. Most bytes of a line of numbers are, and they are tested for no other.
+pub(crate) fn is_digit(byte: u8) -> bool
+    ensures { λ r. ⌜ r ≡ ascii-digit byte ⌝ }
+{
+    match byte {
+        b'0'..=b'9' => true,
+        _ => false,
     }
 }

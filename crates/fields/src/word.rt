@@ -1,31 +1,55 @@
 // One word of a line of numbers.
 use crate::class::Class;
 use crate::class::classify;
+use crate::class::is_digit;
 use crate::limits::ANY;
 use crate::limits::MOST;
 use access::byte;
 ghost use mathlib.Core.Path.{_≡_};
-ghost use mathlib.Core.Bool.{true, false};
-ghost use Prim.Native.Nat.{_+_, _≤_};
-ghost use lib.ListN.{length, drop, getD};
-ghost use lib.Dec.{eqb};
+ghost use mathlib.Core.Bool.{true};
+ghost use Prim.Native.Nat.{_≤_};
 ghost use Rattle.ascii.specs.Bytes.{ascii-digit};
 ghost use Rattle.fields.specs.Numbers.{most-number};
-ghost use Rattle.fields.specs.Fields.{minus-sign, number};
-ghost use Rattle.fields.specs.between.Reading.{grown, leading-digits, ends-word as is-word-end};
-ghost use Rattle.fields.specs.between.Reading.{needless as no-number, Reads-word};
+ghost use Rattle.fields.specs.Fields.{is-number, word-reads};
+ghost use Rattle.fields.specs.declared.word.Behind.the-variants.{Neither};
+ghost use Rattle.fields.specs.between.Reading.{grown, behind-byte, Reads-digits, Reads-word};
 
-// A word: its number, the index behind it, and whether it is a number or −1.
-pub(crate) struct Word {
-    pub(crate) value: u32,
-    pub(crate) end: usize,
-    pub(crate) reads: bool,
+// What stands behind a word: a space, the end of its line, or neither of them.
+pub enum Behind {
+    Space,
+    LineEnd,
+    Neither,
 }
 
-// Digits: the number that they stand for, and the index behind them.
-struct Digits {
-    value: u32,
-    end: usize,
+// A word: its number, the index behind it, and what stands there. Where that is neither a space nor a line end, or the
+// word is none that was asked for, there is no word.
+pub struct Word {
+    pub value: u32,
+    pub end: usize,
+    pub behind: Behind,
+}
+
+// No word from index `at` on.
+fn no_word(at: usize) -> Word
+    ensures { λ r. ⌜ r ≡ record { value = 0; end = at; behind = Neither } ⌝ }
+{
+    Word {
+        value: 0,
+        end: at,
+        behind: Behind::Neither,
+    }
+}
+
+// What stands behind a word whose next byte this is.
+fn behind_word(byte: u8) -> Behind
+    ensures { λ r. ⌜ r ≡ behind-byte byte ⌝ }
+{
+    let read = classify(byte);
+    match read {
+        Class::Space => Behind::Space,
+        Class::LineEnd => Behind::LineEnd,
+        _ => Behind::Neither,
+    }
 }
 
 // The number that one more digit makes.
@@ -38,98 +62,64 @@ fn grow(value: u32, digit: u8) -> u32
 }
 
 // The digits from index `at` on.
-fn read_digits(line: &[u8], at: usize) -> Digits
-    ensures { λ r. ⌜ (r .value ≡ number (leading-digits (drop at (now (line .entry)))))
-        × (r .end ≡ at + length (leading-digits (drop at (now (line .entry))))) ⌝ }
+fn read_digits(text: &[u8], at: usize) -> Word
+    ensures { λ r. ⌜ Reads-digits (now (text .entry)) at r ⌝ }
 {
     let mut value = 0;
     let mut i = at;
-    while i < line.len() {
-        let read = classify(line[i]);
-        if let Class::Digit = read {
-            value = grow(value, line[i]);
+    while i < text.len() {
+        let next = text[i];
+        if is_digit(next) {
+            value = grow(value, next);
             i += 1;
         } else {
-            return Digits { value, end: i };
+            return Word {
+                value,
+                end: i,
+                behind: behind_word(next),
+            };
         }
-    }
-    Digits { value, end: i }
-}
-
-// Whether a word ends before index i: at a space, or at the line's end.
-fn ends_word(line: &[u8], i: usize) -> bool
-    ensures { λ r. ⌜ r ≡ is-word-end (drop i (now (line .entry))) ⌝ }
-{
-    if i < line.len() {
-        let read = classify(line[i]);
-        if let Class::Space = read {
-            return true;
-        }
-        return false;
-    }
-    true
-}
-
-// Whether digits are no number, by the first of them and how many they are: none, or behind a needless zero.
-fn needless(first: u8, count: usize) -> bool
-    ensures { λ r. ⌜ r ≡ no-number first count ⌝ }
-{
-    if count == 0 {
-        return true;
-    }
-    if first == b'0' {
-        return 1 < count;
-    }
-    false
-}
-
-// The word from index `at` on, which begins with a minus: only −1 does.
-fn read_minus(line: &[u8], at: usize) -> Word
-    requires { ⌜ getD (now line) at 0 ≡ minus-sign ⌝ }
-    ensures { λ r. ⌜ Reads-word (drop at (now (line .entry))) at r ⌝ }
-{
-    let end = at + 2;
-    if byte(line, at + 1) == b'1' {
-        let reads = ends_word(line, end);
-        return Word {
-            value: ANY,
-            end,
-            reads,
-        };
     }
     Word {
-        value: ANY,
-        end,
-        reads: false,
+        value,
+        end: i,
+        behind: Behind::Neither,
     }
 }
 
-// The word from index `at` on, which does not begin with a minus.
-fn read_number(line: &[u8], at: usize) -> Word
-    requires { ⌜ eqb (getD (now line) at 0) minus-sign ≡ false ⌝ }
-    ensures { λ r. ⌜ Reads-word (drop at (now (line .entry))) at r ⌝ }
+// The word from index `at` on, if it is a number. Behind a zero in front a digit is neither a space nor a line end.
+pub fn read_number(text: &[u8], at: usize) -> Word
+    ensures { λ r. ⌜ Reads-word is-number (now (text .entry)) at r ⌝ }
 {
-    let digits = read_digits(line, at);
-    let value = digits.value;
-    let end = digits.end;
-    if needless(byte(line, at), end - at) {
+    let first = byte(text, at);
+    if first == b'0' {
+        let end = at + 1;
         return Word {
-            value,
+            value: 0,
             end,
-            reads: false,
+            behind: behind_word(byte(text, end)),
         };
     }
-    let reads = ends_word(line, end);
-    Word { value, end, reads }
+    if is_digit(first) {
+        return read_digits(text, at);
+    }
+    no_word(at)
 }
 
-// The word from index `at` on.
-pub(crate) fn read_word(line: &[u8], at: usize) -> Word
-    ensures { λ r. ⌜ Reads-word (drop at (now (line .entry))) at r ⌝ }
+// The word from index `at` on, if it is a number or −1.
+pub fn read_word(text: &[u8], at: usize) -> Word
+    ensures { λ r. ⌜ Reads-word word-reads (now (text .entry)) at r ⌝ }
 {
-    let first = classify(byte(line, at));
-    if let Class::Minus = first {
-        return read_minus(line, at);
+    if byte(text, at) == b'-' {
+        if byte(text, at + 1) == b'1' {
+            let end = at + 2;
+            return Word {
+                value: ANY,
+                end,
+                behind: behind_word(byte(text, end)),
+            };
+        }
+        return no_word(at);
     }
-    read_number(line, at)
+    read_number(text, at)
 }

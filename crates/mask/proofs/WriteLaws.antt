@@ -1,24 +1,20 @@
 -- Writing out by words: a turn of the loop along the ones of a word, and one of the loop along the words. Each leaves the same to be written in all, so that
 -- what a loop has written at its end is what was to be written at its start. Assumes nothing.
-use Prim.Native.Nat.{ℕ, suc, _+_, _-_, _*_, _%_, _^_, _≤_, _<_}
-use native.Mathlib.Nat.{add-zero, add-suc, suc-add, one-mul}
+use Prim.Native.Nat.{ℕ, _+_, _-_, _*_, _%_, _^_, _≤_, _<_}
+use native.Mathlib.Nat.{add-zero, one-mul}
 use native.Mathlib.Numerals.{add-one}
 use native.Mathlib.Omega.{arith}
 use mathlib.Core.Path.{_≡_, refl, sym, _∙_}
-use mathlib.Core.List.{List, [], _∷_, _++_, map-append}
+use mathlib.Core.List.{List, [], _++_, map-append}
 use lib.ListN.{length, getD, set, drop, length-append, length-map, drop-of-length-le}
 use lib.Seq.{sets, drop-cons}
 use lib.Dec.{lit<}
 use lib.Count.{trailingZeros}
 use lib.Pow.{pow-pos, shl-exact}
+use Rattle.access.proofs.StoreLaws.{stores-joined}
 use Rattle.mask.specs.Mask.{word-bits}
 use Rattle.mask.specs.between.Places.{ones-at, places, at-places, kept-by-words}
 use Rattle.mask.proofs.MaskWordLaws.{ones-at-none, Lowest, lowest-one}
-
--- the words stored one after the other are those stored in one go
-pub stores-joined : (out vs us : List ℕ) (at : ℕ) → sets (sets out at vs) (at + length vs) us ≡ sets out at (vs ++ us)
-stores-joined out [] us at = rw add-zero
-stores-joined out (v ∷ vs) us at = rw (add-suc, ← suc-add) (stores-joined (set out at v) vs us (suc at))
 
 -- the word with the lowest one of w alone, as the code shifts it
 abbrev pub lowest-bit : ℕ → ℕ

@@ -9,7 +9,7 @@ use lib.Seq.{sets, sets-eq, set-comm, take-append-seam}
 use Rattle.sheet.specs.Layout.{header}
 use Rattle.sheet.specs.between.Encode.{pairs-of, first-offset, body, sheet-of}
 use Rattle.sheet.proofs.LaidLaws.{pairs-of-length}
-use Rattle.mask.proofs.WriteLaws.{stores-joined}
+use Rattle.access.proofs.StoreLaws.{stores-joined}
 use Rattle.meaning.specs.between.Laid.{laid}
 
 store-apart : (w : List ℕ) (i x j : ℕ) (b : List ℕ) → i < j → sets (set w i x) j b ≡ set (sets w j b) i x

@@ -14,7 +14,7 @@ use Rattle.sheet.specs.between.Encode.{fact-word, fact-words, action-part}
 use Rattle.mask.specs.Mask.{word-bits}
 use Rattle.mask.specs.between.Places.{ones-at, at-places}
 use Rattle.mask.proofs.MaskWordLaws.{ones-at-few}
-use Rattle.mask.proofs.WriteLaws.{stores-joined}
+use Rattle.access.proofs.StoreLaws.{stores-joined}
 use Rattle.meaning.specs.declared.numbers.Lines.{Lines}
 use Rattle.meaning.specs.declared.group.Gathered.{Gathered}
 use Rattle.meaning.specs.declared.action.Written.{Written}

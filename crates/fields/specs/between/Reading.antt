@@ -2,18 +2,27 @@
 -- need not be believed. Assumes nothing.
 use Prim.Native.Nat.{ℕ, _+_, _-_, _*_, min, _≤_}
 use mathlib.Core.Path.{_≡_}
-use mathlib.Core.Bool.{Bool, true, false, _&&_, _||_}
-use mathlib.Core.List.{List, [], _∷_, map}
+use mathlib.Core.Bool.{Bool, true, false, cond, _&&_, _||_}
+use mathlib.Core.List.{List, [], _∷_}
 use lib.ListN.{length, drop}
-use lib.Seq.{sets}
-use lib.Dec.{eqb, ltb}
-use Rattle.ascii.specs.Bytes.{ascii-zero, ascii-digit, split, decimal-from}
-use Rattle.fields.specs.Numbers.{most-number, any-value}
-use Rattle.fields.specs.Fields.{minuses, number, word-reads, word-number}
-use Rattle.fields.specs.Fields.{all-read, line-reads, line-numbers}
-use Rattle.fields.specs.Fields.{ends-word as ends-a-word}
+use lib.Dec.{eqb}
+use Rattle.ascii.specs.Bytes.{ends-line, ascii-zero, ascii-digit, runs, split, decimal-from}
+use Rattle.fields.specs.Numbers.{most-number}
+use Rattle.fields.specs.Fields.{ends-word, lines-of, number, word-number, line-reads, line-numbers}
+use Rattle.fields.specs.declared.word.Behind.{Behind}
+use Rattle.fields.specs.declared.word.Behind.the-variants.{Space, LineEnd, Neither}
 use Rattle.fields.specs.declared.word.Word.{Word}
-use Rattle.fields.specs.declared.numbers.Numbers.{Numbers}
+
+-- whether a line ends within bytes
+abbrev pub has-line-end : List ℕ → Bool
+has-line-end [] = false
+has-line-end (b ∷ bs) = ends-line b || has-line-end bs
+
+-- whether bytes begin with this line and its line end
+unfoldable pub begins-line : List ℕ → List ℕ → Bool
+begins-line [] line = false
+begins-line (b ∷ bs) [] = ends-line b
+begins-line (b ∷ bs) (c ∷ line) = eqb b c && begins-line bs line
 
 -- the number that one more digit makes
 abbrev pub grown : ℕ → ℕ → ℕ
@@ -29,41 +38,54 @@ leading-digits [] = []
 leading-digits (b ∷ bs) = elim (ascii-digit b) [ true ↦ b ∷ leading-digits bs | false ↦ [] ]
 
 -- digits read from index `at` to index i: those that are left lead to what all lead to
-pub record Reads-digits (line : List ℕ) (at value i : ℕ) : Type 0 where
-  pub number-left : number-from value (leading-digits (drop i line)) ≡ number (leading-digits (drop at line))
-  pub end-left : i + length (leading-digits (drop i line)) ≡ at + length (leading-digits (drop at line))
+pub record Digits-left (text : List ℕ) (at value i : ℕ) : Type 0 where
+  pub number-left : number-from value (leading-digits (drop i text)) ≡ number (leading-digits (drop at text))
+  pub end-left : i + length (leading-digits (drop i text)) ≡ at + length (leading-digits (drop at text))
   pub small : value ≤ most-number
 
--- whether a word is over before these bytes of its line
-abbrev pub ends-word : List ℕ → Bool
-ends-word [] = true
-ends-word (b ∷ bs) = ends-a-word b
+-- a word ends before a space, and before the end of its line
+abbrev pub ends-either : ℕ → Bool
+ends-either b = ends-word b || ends-line b
 
--- whether digits are no number, by the first of them and how many they are: none, or behind a needless zero
-abbrev pub needless : ℕ → ℕ → Bool
-needless first n = eqb n 0 || (eqb first ascii-zero && ltb 1 n)
+-- what stands behind a word: by its next byte, and by all bytes that are left
+unfoldable pub behind-byte : ℕ → Behind
+behind-byte b = cond (ends-word b) Space (cond (ends-line b) LineEnd Neither)
 
--- the word in front of the rest of a line
+abbrev pub behind-word : List ℕ → Behind
+behind-word [] = Neither
+behind-word (b ∷ bs) = behind-byte b
+
+-- all digits from index `at` on, and what stands behind them
+pub record Reads-digits (text : List ℕ) (at : ℕ) (r : Word) : Type 0 where
+  pub value : r .value ≡ number (leading-digits (drop at text))
+  pub end : r .end ≡ at + length (leading-digits (drop at text))
+  pub behind : r .behind ≡ behind-word (drop (r .end) text)
+
+-- the word in front of bytes
 abbrev pub first-word : List ℕ → List ℕ
-first-word rest = split ends-a-word rest .first
+first-word rest = split ends-either rest .first
 
--- the first word of what is left of a line, read from index `at` on
-pub record Reads-word (rest : List ℕ) (at : ℕ) (r : Word) : Type 0 where
-  pub reads : r .reads ≡ word-reads (first-word rest)
-  pub value : r .reads ≡ true → r .value ≡ word-number (first-word rest)
-  pub end : r .reads ≡ true → r .end ≡ at + length (first-word rest)
-  pub small : r .value ≤ any-value
+-- there is a word
+abbrev pub There : Word → Type 0
+There r = r .behind ≡ Neither → ⊥
 
--- a line read to the front of `before`: all of it where it is a line of numbers
-pub record Reads-numbers (line before after : List ℕ) (r : Numbers) : Type 0 where
-  pub reads : r .reads ≡ line-reads line
-  pub count : r .reads ≡ true → r .count ≡ length (line-numbers line)
-  pub minuses-told : r .reads ≡ true → r .minuses ≡ minuses (line-numbers line)
-  pub stored : r .reads ≡ true → after ≡ sets before 0 (line-numbers line)
+-- the word from index `at` on, where it is one of those that are asked for
+pub record Reads-word (reads : List ℕ → Bool) (text : List ℕ) (at : ℕ) (r : Word) : Type 0 where
+  pub behind : r .behind
+      ≡ cond (reads (first-word (drop at text))) (behind-word (drop (at + length (first-word (drop at text))) text))
+      Neither
+  pub value : There r → r .value ≡ word-number (first-word (drop at text))
+  pub end : There r → r .end ≡ at + length (first-word (drop at text))
 
--- a line read but for the words `left`: they lead to what all of its words lead to
-pub record Reads-left (line before after : List ℕ) (left : List (List ℕ)) (count minus-count : ℕ) : Type 0 where
-  pub reads : all-read left ≡ line-reads line
-  pub counted : count + length (map word-number left) ≡ length (line-numbers line)
-  pub minuses-told : minus-count + minuses (map word-number left) ≡ minuses (line-numbers line)
-  pub stored : sets after count (map word-number left) ≡ sets before 0 (line-numbers line)
+-- the first line of bytes has these numbers, and behind its line end stand those other bytes
+pub record Has-numbers (rest xs behind : List ℕ) : Type 0 where
+  pub line : List ℕ
+  pub cut : lines-of rest ≡ record { first = line; others = runs (lines-of behind) }
+  pub reads : line-reads line ≡ true
+  pub numbers : line-numbers line ≡ xs
+
+-- the first line of bytes, if it ends, is no line of numbers for which the test holds
+abbrev pub Lacks-numbers : (List ℕ → Bool) → List ℕ → Type 0
+Lacks-numbers test rest =
+    (line next : List ℕ) (others : List (List ℕ)) → lines-of rest ≡ record { first = line; others = next ∷ others }
+    → (line-reads line && test (line-numbers line)) ≡ false

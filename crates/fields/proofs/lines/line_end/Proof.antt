@@ -1,7 +1,8 @@
--- `line_end` meets its contract. The loop's invariant: what is left of the line ends where the line ends.
+-- `line_end` meets its contract. The loop's invariant: what is left of the line ends where the line ends, as it does behind the blocks that were passed over.
 -- The measure is the number of bytes left. Assumes nothing.
 use Prim.Native.Nat.{_+_, _-_}
-use mathlib.Core.Path.{_≡_, refl, sym, _∙_}
+use mathlib.Core.Path.{_≡_, sym, _∙_}
+use mathlib.Core.List.{[], _∷_}
 use borrow.Author.Needs.{needs}
 use lib.ListN.{length, drop}
 use Rattle.ascii.specs.Bytes.{ends-line, split}
@@ -16,8 +17,11 @@ Inv-loop text at i₀ i = i + length (split ends-line (drop i text) .first) ≡ 
 abbrev μ-loop : tie.MeasureT-loop
 μ-loop text at i₀ i = length text - i
 
+skip-blocks-requires : tie.Need-skip-blocks-requires Inv-loop μ-loop
+skip-blocks-requires c κs = search needs
+
 loop-holds : tie.Need-loop-holds Inv-loop μ-loop
-loop-holds c = refl
+loop-holds c = c .skip-blocks .ensures .1
 
 shared-slice-read-classify : tie.Need-shared-slice-read-classify Inv-loop μ-loop
 shared-slice-read-classify c = search needs
@@ -43,7 +47,7 @@ loop-less c = search needs
 loop-again : tie.Need-loop-again Inv-loop μ-loop
 loop-again c =
     let turn = c .before .before .before in
-    line-next _ _ (turn .loop-test .taken) (told-no-line-end _ _ (c .before .classify .ensures) (c .match .keys2)) ∙ turn .before .loop .inv
+    line-next _ _ (turn .loop-test .taken) (told-no-line-end _ _ (c .before .classify .ensures) (0 ∷ 1 ∷ 2 ∷ 4 ∷ []) (c .match .keys2) tt) ∙ turn .before .loop .inv
 
 returns-2 : tie.Need-returns-2 Inv-loop μ-loop
 returns-2 c = sym (line-over _ _ (c .loop-test .left)) ∙ c .before .loop .inv
@@ -54,6 +58,7 @@ line-end-spec =
     (tie.spec
     Inv-loop
     μ-loop
+    skip-blocks-requires
     loop-holds
     shared-slice-read-classify
     classify-requires

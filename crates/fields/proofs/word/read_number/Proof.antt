@@ -1,46 +1,60 @@
--- `read_number` meets its contract: digits to the word's end, with no needless zero. Assumes nothing.
+-- `read_number` meets its contract: a law for each way to a return, by the first byte. Assumes nothing.
+use native.Mathlib.Omega.{arith}
+use mathlib.Core.Path.{sym, _∙_}
+use Rattle.fields.proofs.WordLaws.{zero-within, reads-zero, reads-digits, reads-no-digit}
 use borrow.Author.Needs.{needs}
-use Rattle.fields.proofs.WordLaws.{reads-needless, reads-number}
 use Rattle.fields.proofs.word.read_number.Statement.{statement}
 use Rattle.fields.proofs.word.read_number.Tie as tie
-
-read-digits-requires : tie.Need-read-digits-requires
-read-digits-requires c κs = search needs
 
 byte-requires : tie.Need-byte-requires
 byte-requires c κs = search needs
 
-sub-needless : tie.Need-sub-needless
-sub-needless c = search needs
+add-end : tie.Need-add-end
+add-end c =
+    let start = c .before .before .before in
+    omega (arith, zero-within (start .args .text .now) (start .args .at) (sym (c .before .byte .ensures) ∙ c .if1 .taken))
 
-needless-requires : tie.Need-needless-requires
-needless-requires c κs = search needs
+byte-requires-2 : tie.Need-byte-requires-2
+byte-requires-2 c κs = search needs
+
+behind-word-requires : tie.Need-behind-word-requires
+behind-word-requires c κs = search needs
 
 returns : tie.Need-returns
 returns c =
-    let flag = c .before in
-    let read = flag .before .before in
-    reads-needless _ _ (read .before .before .pre) _ _ _ (read .read-digits .ensures) (flag .before .byte .ensures) _ (flag .needless .ensures) (c .if1 .taken)
+    let first = c .before .before .before in
+    reads-zero _ _ _ (first .byte .ensures) (c .before .before .if1 .taken) _ _ (c .before .byte2 .ensures) (c .behind-word .ensures)
 
-ends-word-requires : tie.Need-ends-word-requires
-ends-word-requires c κs = search needs
+is-digit-requires : tie.Need-is-digit-requires
+is-digit-requires c κs = search needs
+
+read-digits-requires : tie.Need-read-digits-requires
+read-digits-requires c κs = search needs
 
 returns-2 : tie.Need-returns-2
 returns-2 c =
-    let flag = c .before .before in
-    let first = flag .before .byte .ensures in
-    let over = c .ends-word .ensures in
-    let read = flag .before .before in
-    reads-number _ _ (read .before .before .pre) _ _ _ (read .read-digits .ensures) first _ (flag .needless .ensures) _ over (c .before .if1 .left)
+    let first = c .before .before .before .before in
+    reads-digits _ _ _ (first .byte .ensures) (c .before .before .before .if1 .left) (sym (c .before .before .is-digit .ensures) ∙ c .before .if2 .taken) _ (c .read-digits .ensures)
+
+no-word-requires : tie.Need-no-word-requires
+no-word-requires c κs = search needs
+
+returns-3 : tie.Need-returns-3
+returns-3 c =
+    let first = c .before .before .before .before in
+    reads-no-digit _ _ _ (first .byte .ensures) (sym (c .before .before .is-digit .ensures) ∙ c .before .if2 .left) _ (c .no-word .ensures)
 
 pub read-number-spec : {M : Type 1} → statement M
 read-number-spec =
     tie.close
     (tie.spec
-    read-digits-requires
     byte-requires
-    sub-needless
-    needless-requires
+    add-end
+    byte-requires-2
+    behind-word-requires
     returns
-    ends-word-requires
-    returns-2)
+    is-digit-requires
+    read-digits-requires
+    returns-2
+    no-word-requires
+    returns-3)
