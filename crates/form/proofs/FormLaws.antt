@@ -16,11 +16,11 @@ use Rattle.form.specs.Form.{text-lines, stop, walk, whole, nothing-left,
 use Rattle.form.specs.between.Reading.{outcome, barred-at, going-on, text-outcome, found-in, Within, Reads}
 use Rattle.form.specs.between.Reading.Outcome.{Broken, Whole}
 use Rattle.form.proofs.GoingLaws.{same-either, going-stopped}
-use Rattle.form.proofs.RowLaws.{first-or-none}
+use Rattle.form.proofs.StopLaws.{first-or-none}
 
 -- a reader at the beginning
 abbrev pub start-reader : Reader
-start-reader = record { at = 0; line = 0; count = 0; barred = 0; broken = false }
+start-reader = record { at = 0; line = 0; count = 0; barred = 0; broken = 0 }
 
 pub going-start : (text tape : List ℕ) → going-on text-lines text start-reader tape ≡ text-outcome text
 unfolding going-on outcome text-outcome walked unsupported-line numbers-of
@@ -41,7 +41,7 @@ left-over b bs = by-case (ends-line b) refl
     by-case true e = rw (split-at ends-line b bs e)
     by-case false e = rw (split-in ends-line b bs e)
 
-module _ (text tape : List ℕ) (r : Reader) (goes-on : r .broken ≡ false) where
+module _ (text tape : List ℕ) (r : Reader) (goes-on : r .broken ≡ 0) where
   -- what is left, where no line is due
   going-last : (bytes : List ℕ) → drop (r .at) text ≡ bytes
       → going-on [] text r tape
@@ -79,11 +79,11 @@ module _ (room : ℕ) {text tape tape′ : List ℕ} {r s : Reader} (short : len
       read .same [] ∙ ap (λ ds. going-on ds text r tape) (append-nil text-lines) ∙ ap (λ u. going-on text-lines text u tape) begins
       ∙ going-start text tape ∙ rw (le-ltb (2 * room) (length text) short)
 
-  pub found-broken : s .broken ≡ true → Broken (s .line + 1) ≡ found-in room text
+  pub found-broken : (s .broken ≡ 0 → ⊥) → Broken (s .broken) ≡ found-in room text
   found-broken stops = sym (going-stopped [] text tape′ s stops) ∙ found
 
-  pub found-over : s .broken ≡ false → s .at < length text → Broken (s .line + 1) ≡ found-in room text
+  pub found-over : s .broken ≡ 0 → s .at < length text → Broken (s .line + 1) ≡ found-in room text
   found-over goes-on more = sym (going-over text tape′ s goes-on more) ∙ found
 
-  pub found-whole : s .broken ≡ false → length text ≤ s .at → Whole (take (s .count) tape′) (barred-at (s .barred)) ≡ found-in room text
+  pub found-whole : s .broken ≡ 0 → length text ≤ s .at → Whole (take (s .count) tape′) (barred-at (s .barred)) ≡ found-in room text
   found-whole goes-on over = sym (going-whole text tape′ s goes-on over) ∙ found

@@ -6,6 +6,7 @@ use mathlib.Core.Path.{_≡_, refl, sym, _∙_, ap}
 use mathlib.Core.Bool.{Bool, true, false, cond}
 use mathlib.Core.List.{List, [], _∷_, _++_, append-assoc}
 use lib.ListN.{take, drop}
+use borrow.Author.Tests.{ne-eqb}
 use Rattle.refusal.specs.declared.place.Place.{Place}
 use Rattle.refusal.specs.declared.place.Place.the-variants.{Nowhere, At}
 use Rattle.refusal.specs.Place.{when, or-else}
@@ -54,15 +55,15 @@ module _ (m l : List ℕ) (others : List (List ℕ)) (d : Due) (ds : List Due) w
   walk-unfit e = rw (e, walk)
 
 -- a reader that has stopped finds the next line broken, whatever is due
-pub going-stopped : (ds : List Due) (text tape : List ℕ) (r : Reader) → r .broken ≡ true → going-on ds text r tape ≡ Broken (r .line + 1)
+pub going-stopped : (ds : List Due) (text tape : List ℕ) (r : Reader) → (r .broken ≡ 0 → ⊥) → going-on ds text r tape ≡ Broken (r .broken)
 unfolding going-on
-going-stopped ds text tape r e = rw e
+going-stopped ds text tape r e = rw (ne-eqb (r .broken) 0 e)
 
 -- a line that ends: the bytes l, and behind its line end what stands from index `after` on
 abbrev pub Cut : List ℕ → ℕ → List ℕ → ℕ → Type 0
 Cut text at l after = lines-of (drop at text) ≡ record { first = l; others = runs (lines-of (drop after text)) }
 
-module _ (text tape : List ℕ) (r : Reader) (goes-on : r .broken ≡ false) where
+module _ (text tape : List ℕ) (r : Reader) (goes-on : r .broken ≡ 0) where
   -- what going on finds, spelled out
   going : (ds : List Due)
       → going-on ds text r tape ≡ outcome (r .line) (barred-at (r .barred)) (take (r .count) tape) (walk-from ds (drop (r .at) text))
@@ -75,18 +76,23 @@ module _ (text tape : List ℕ) (r : Reader) (goes-on : r .broken ≡ false) whe
   unfolding walk
   going-missing l cut d ds = going (d ∷ ds) ∙ rw cut (outcome-stopped (r .line) (barred-at (r .barred)) (take (r .count) tape) l [] d ds)
 
-  module _ (d : Due) (l : List ℕ) (after : ℕ) (cut : Cut text (r .at) l after) where
-    -- the line is not what it must be
-    pub going-broken : fits d l ≡ false → (ds : List Due) → going-on (d ∷ ds) text r tape ≡ Broken (r .line + 1)
-    going-broken unfit ds =
-        let c : Split = lines-of (drop after text) in
-        going (d ∷ ds)
-        ∙ rw (cut, walk-unfit (c .first) l (c .others) d ds unfit) (outcome-stopped (r .line) (barred-at (r .barred)) (take (r .count) tape) l (runs (lines-of (drop after text))) d ds)
+  -- the line, if it ends, is not what it must be
+  pub going-broken : (d : Due) → ((l m : List ℕ) (others : List (List ℕ)) → lines-of (drop (r .at) text) ≡ record { first = l; others = m ∷ others } → fits d l ≡ false)
+      → (ds : List Due) → going-on (d ∷ ds) text r tape ≡ Broken (r .line + 1)
+  going-broken d unfit ds = by-case (lines-of (drop (r .at) text) .first) (lines-of (drop (r .at) text) .others) refl
+    where
+      by-case : (l : List ℕ) (others : List (List ℕ)) → lines-of (drop (r .at) text) ≡ record { first = l; others = others }
+          → going-on (d ∷ ds) text r tape ≡ Broken (r .line + 1)
+      by-case l [] cut = going-missing l cut d ds
+      by-case l (m ∷ others) cut =
+          going (d ∷ ds)
+          ∙ rw (cut, walk-unfit m l others d ds (unfit l m others cut)) (outcome-stopped (r .line) (barred-at (r .barred)) (take (r .count) tape) l (m ∷ others) d ds)
 
+  module _ (d : Due) (l : List ℕ) (after : ℕ) (cut : Cut text (r .at) l after) where
     -- the line is what it must be
     pub going-next : fits d l ≡ true → (tape′ : List ℕ) (count barred : ℕ) → take count tape′ ≡ take (r .count) tape ++ kept d l
         → barred-at barred ≡ or-else (barred-at (r .barred)) (when (bars d l) (r .line + 1)) → (ds : List Due)
-        → going-on (further d l ++ ds) text (record { at = after; line = r .line + 1; count = count; barred = barred; broken = false }) tape′
+        → going-on (further d l ++ ds) text (record { at = after; line = r .line + 1; count = count; barred = barred; broken = 0 }) tape′
         ≡ going-on (d ∷ ds) text r tape
     unfolding going-on
     going-next fit tape′ count barred more met ds =

@@ -1,21 +1,15 @@
 -- Lines read in turn: what one part of them leads to, the next goes on from. Assumes nothing.
 use Prim.Native.Nat.{ℕ, suc, _+_, _-_, _≤_, _<_}
 use native.Mathlib.Omega.{arith}
-use mathlib.Core.Path.{_≡_, refl, sym, _∙_, ap}
-use mathlib.Core.Bool.{true}
+use mathlib.Core.Path.{_≡_, sym, _∙_, ap}
+use mathlib.Core.Bool.{Bool, true, false}
 use mathlib.Core.List.{List, [], _∷_, _++_, append-assoc}
 use lib.ListN.{getD}
 use Rattle.form.specs.declared.reader.Reader.{Reader}
-use Rattle.form.specs.declared.row.Row.{Row}
-use Rattle.form.specs.declared.row.Row.the-variants.{Count}
-use Rattle.form.specs.declared.row.Counted.{Counted}
-use Rattle.form.specs.Form.{Due, numbers, counts, times, after-count}
-use Rattle.form.specs.between.Reading.{going-on, Within, Reads, after-first, Reads-row}
+use Rattle.form.specs.Form.{Row, Value, Count, Counted, GroupFacts, Due, numbers, counts, times, after-count}
+use Rattle.form.specs.between.Reading.{going-on, Within, Reads, after-first, Reads-row, Plain-row}
+use Rattle.form.proofs.CountLaws.{plain-value, counted-group-facts}
 use Rattle.form.proofs.GoingLaws.{going-stopped}
-
--- nothing is read
-pub reads-none : (text : List ℕ) (r : Reader) (tape : List ℕ) → Within text r → Reads [] text r tape r tape
-reads-none text r tape within = record { same = λ next. refl; within = within }
 
 -- one part, then another
 pub reads-then : {first second : List Due} {text : List ℕ} {r s u : Reader} {tape tape′ tape″ : List ℕ}
@@ -27,7 +21,7 @@ reads-then {first} {second} {text} {r} {tape = tape} before after =
     }
 
 -- a reader that has stopped stays, whatever is due
-pub reads-stopped : (ds : List Due) (text : List ℕ) (r : Reader) (tape : List ℕ) → r .broken ≡ true → Within text r → Reads ds text r tape r tape
+pub reads-stopped : (ds : List Due) (text : List ℕ) (r : Reader) (tape : List ℕ) → (r .broken ≡ 0 → ⊥) → Within text r → Reads ds text r tape r tape
 reads-stopped ds text r tape stops within =
     record { same = λ next. going-stopped next text tape r stops ∙ sym (going-stopped (ds ++ next) text tape r stops); within = within }
 
@@ -56,6 +50,12 @@ module _ {text : List ℕ} {r s : Reader} {tape tape′ : List ℕ} where
         within = after .within;
       }
 
+-- what reads every line of one number, kept or not, stays in the text
+pub plain-within : (keeps : Bool) {text : List ℕ} {r s : Reader} {tape tape′ : List ℕ}
+    → ((row : Row) → Plain-row keeps row → Reads-row row text r tape s tape′) → Within text s
+plain-within true read = read Value plain-value .within
+plain-within false read = read (Count GroupFacts) (counted-group-facts .plain-count) .within
+
 -- i of n times the same lines are read
 pub record Left (i n : ℕ) (ds : List Due) (text : List ℕ) (r : Reader) (tape : List ℕ) (s : Reader) (tape′ : List ℕ) : Type 0 where
   pub same : (next : List Due) → going-on (times (n - i) ds ++ next) text s tape′ ≡ going-on (times n ds ++ next) text r tape
@@ -79,7 +79,7 @@ module _ (n : ℕ) (ds : List Due) {text : List ℕ} {r : Reader} {tape : List �
           within = read .within;
         }
 
-    pub repeats-stopped : s .broken ≡ true → Reads (times n ds) text r tape s tape′
+    pub repeats-stopped : (s .broken ≡ 0 → ⊥) → Reads (times n ds) text r tape s tape′
     repeats-stopped stops =
         record {
           same = λ next. going-stopped next text tape′ s stops ∙ sym (going-stopped (times (n - i) ds ++ next) text tape′ s stops) ∙ left .same next;

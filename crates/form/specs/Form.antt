@@ -1,6 +1,6 @@
 -- The form of a planner's text (document 02, C-11: Fast Downward's translator output, version 3): what each line must
 -- be, given those before it. Assumes nothing.
-use Prim.Native.Nat.{ℕ, zero, suc, _+_, _-_, _*_}
+use Prim.Native.Nat.{ℕ, zero, suc, _+_, _*_}
 use mathlib.Core.Bool.{Bool, true, false, not, cond, _&&_}
 use mathlib.Core.List.{List, [], _∷_, _++_}
 use lib.ListN.{length, getD}
@@ -9,16 +9,42 @@ use Rattle.ascii.specs.Bytes.{ascii}
 use Rattle.refusal.specs.declared.place.Place.{Place}
 use Rattle.refusal.specs.declared.place.Place.the-variants.{Nowhere, At}
 use Rattle.fields.specs.Numbers.{any-value}
-use Rattle.fields.specs.Fields.{lines-of, same, line-reads, line-numbers, minus, minuses}
-use Rattle.form.specs.declared.row.Row.{Row}
-use Rattle.form.specs.declared.row.Row.the-variants.{Metric, Layer, Value, Fact, PassedFact, Effect, Head, Count}
-use Rattle.form.specs.declared.row.Counted.{Counted}
-use Rattle.form.specs.declared.row.Counted.the-variants.{Variables, Values, Groups, GroupFacts, Facts, Operators}
-use Rattle.form.specs.declared.row.Counted.the-variants.{Effects, Axioms, Conditions}
+use Rattle.fields.specs.Fields.{lines-of, same, line-reads, line-numbers, all-plain, plain-but-old}
 
 -- the most bytes of a text
 abbrev pub most-bytes : ℕ
 most-bytes = 65536
+
+-- what a number counts
+pub data Counted : Type 0 where
+  Variables : Counted
+  Values : Counted
+  Groups : Counted
+  GroupFacts : Counted
+  Facts : Counted
+  Operators : Counted
+  Effects : Counted
+  Axioms : Counted
+  Conditions : Counted
+
+-- a line of numbers
+pub data Row : Type 0 where
+  -- 0 or 1
+  Metric : Row
+  -- −1 or a number: the axiom layer of a variable
+  Layer : Row
+  -- a starting value, or a cost
+  Value : Row
+  -- `variable value`: of the goal, or a prevail condition
+  Fact : Row
+  -- the same, passed over: of a mutex group, or a condition of an axiom
+  PassedFact : Row
+  -- an effect, with its conditions
+  Effect : Row
+  -- `variable old new`: the head of an axiom
+  Head : Row
+  -- how many lines, or blocks of lines, follow
+  Count : Counted → Row
 
 -- what a line may have to be: a keyword, a name, which is any line, or a line of numbers
 pub data Due : Type 0 where
@@ -29,20 +55,16 @@ pub data Due : Type 0 where
 abbrev pub first-number : List ℕ → ℕ
 first-number xs = getD xs 0 0
 
--- the old value of an effect, the last number but one: only here −1 may stand, or in a layer
-abbrev pub only-old : List ℕ → Bool
-only-old xs = eqb (minuses xs) (minus (getD xs (length xs - 2) 0))
-
--- whether these numbers are such a line's
+-- whether these numbers are such a line's: −1 stands only in a layer, and as an old value, the last number but one
 unfoldable pub numbers-fit : Row → List ℕ → Bool
 numbers-fit Metric xs = eqb (length xs) 1 && ltb (first-number xs) 2
 numbers-fit Layer xs = eqb (length xs) 1
-numbers-fit Value xs = eqb (length xs) 1 && eqb (minuses xs) 0
-numbers-fit Fact xs = eqb (length xs) 2 && eqb (minuses xs) 0
-numbers-fit PassedFact xs = eqb (length xs) 2 && eqb (minuses xs) 0
-numbers-fit Effect xs = eqb (length xs) (2 * first-number xs + 4) && only-old xs
-numbers-fit Head xs = eqb (length xs) 3 && only-old xs
-numbers-fit (Count what) xs = eqb (length xs) 1 && eqb (minuses xs) 0
+numbers-fit Value xs = eqb (length xs) 1 && all-plain xs
+numbers-fit Fact xs = eqb (length xs) 2 && all-plain xs
+numbers-fit PassedFact xs = eqb (length xs) 2 && all-plain xs
+numbers-fit Effect xs = eqb (length xs) (2 * first-number xs + 4) && plain-but-old xs
+numbers-fit Head xs = eqb (length xs) 3 && plain-but-old xs
+numbers-fit (Count what) xs = eqb (length xs) 1 && all-plain xs
 
 unfoldable pub fits : Due → List ℕ → Bool
 fits (keyword k) line = same line k

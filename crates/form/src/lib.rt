@@ -1,9 +1,12 @@
 // The form of a planner's text (document 02, C-11), line by line.
-// limits: how long a text is. reader: how far it is read. row: what a line of numbers may be. lines: the reading of a
-// line. sections: the reading of its sections. text: the reading of it all.
+// limits: how long a text is. reader: how far it is read. lines: keywords and names. numbers: lines of one number.
+// facts: lines of a variable and its value. effects: effects, and the heads of axioms. sections: the reading of its
+// sections. text: the reading of it all.
+mod effects;
+mod facts;
 pub mod limits;
 mod lines;
+mod numbers;
 mod reader;
-mod row;
 mod sections;
 pub mod text;

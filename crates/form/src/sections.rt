@@ -1,19 +1,22 @@
 // The sections of a text.
-use crate::lines::Line;
+use crate::effects::read_effects;
+use crate::effects::read_head;
+use crate::facts::read_facts;
 use crate::lines::keyword;
 use crate::lines::name;
-use crate::lines::read_lines;
-use crate::lines::read_row;
+use crate::lines::names;
+use crate::numbers::read_axiom_count;
+use crate::numbers::read_layer;
+use crate::numbers::read_metric;
+use crate::numbers::read_plain;
+use crate::numbers::read_values;
 use crate::reader::Reader;
-use crate::row::Counted;
-use crate::row::Row;
 use access::word;
-ghost use mathlib.Core.Path.{_≡_};
 ghost use mathlib.Core.List.{[], _∷_};
-ghost use Prim.Native.Nat.{ℕ};
-ghost use Rattle.form.specs.Form.{counts, after-count, times, variable-lines, group-lines, operator-lines};
-ghost use Rattle.form.specs.Form.{axiom-lines, state-lines, goal-lines, front-lines, after-variables};
-ghost use Rattle.form.specs.between.Reading.{Within, Room, Reads, due-of, Adds-none, block-lines};
+ghost use Rattle.form.specs.Form.{Counted, Values, Effects, Axioms, counts, times, variable-lines, group-lines};
+ghost use Rattle.form.specs.Form.{operator-lines, axiom-lines, state-lines, goal-lines, front-lines};
+ghost use Rattle.form.specs.Form.{after-variables};
+ghost use Rattle.form.specs.between.Reading.{Within, Room, Reads, Counts-facts, Counts-blocks, block-lines};
 
 // A block of lines of which there may be several.
 pub(crate) enum Block {
@@ -23,14 +26,32 @@ pub(crate) enum Block {
     Axiom,
 }
 
-// Reads how many lines there are, and those lines.
-fn read_counted(text: &[u8], r: Reader, tape: &mut [u32], what: Counted, line: Line) -> Reader
-    requires { ⌜ Within (now text) r × Room (now text) (now tape) × Adds-none line
-        × ((n : ℕ) → after-count what n ≡ times n (due-of line ∷ [])) ⌝ }
-    ensures { λ s. ⌜ Reads (counts what ∷ []) (now (text .entry)) r (now (tape .entry)) s (now (tape .exit)) ⌝ }
+// Reads how many values a variable has, and their names.
+fn count_names(text: &[u8], r: Reader, tape: &mut [u32]) -> Reader
+    requires { ⌜ Within (now text) r × Room (now text) (now tape) ⌝ }
+    ensures { λ s. ⌜ Reads (counts Values ∷ []) (now (text .entry)) r (now (tape .entry)) s (now (tape .exit)) ⌝ }
 {
-    let counted = read_row(text, r, tape, Row::Count(what));
-    read_lines(text, counted, tape, line, word(tape, r.count) as usize)
+    let counted = read_plain(text, r, tape, true);
+    names(text, counted, word(tape, r.count) as usize)
+}
+
+// Reads how many facts there are, and those facts, which are kept or not.
+fn count_facts(text: &[u8], r: Reader, tape: &mut [u32], keeps: bool) -> Reader
+    requires { ⌜ Within (now text) r × Room (now text) (now tape) ⌝ }
+    ensures { λ s. ⌜ ((what : Counted) → Counts-facts keeps what
+        → Reads (counts what ∷ []) (now (text .entry)) r (now (tape .entry)) s (now (tape .exit))) ⌝ }
+{
+    let counted = read_plain(text, r, tape, keeps);
+    read_facts(text, counted, tape, keeps, word(tape, r.count) as usize)
+}
+
+// Reads how many effects there are, and those effects.
+fn count_effects(text: &[u8], r: Reader, tape: &mut [u32]) -> Reader
+    requires { ⌜ Within (now text) r × Room (now text) (now tape) ⌝ }
+    ensures { λ s. ⌜ Reads (counts Effects ∷ []) (now (text .entry)) r (now (tape .entry)) s (now (tape .exit)) ⌝ }
+{
+    let counted = read_plain(text, r, tape, true);
+    read_effects(text, counted, tape, word(tape, r.count) as usize)
 }
 
 fn read_variable(text: &[u8], r: Reader, tape: &mut [u32]) -> Reader
@@ -39,8 +60,8 @@ fn read_variable(text: &[u8], r: Reader, tape: &mut [u32]) -> Reader
 {
     let begun = keyword(text, r, b"begin_variable");
     let named = name(text, begun);
-    let layered = read_row(text, named, tape, Row::Layer);
-    let valued = read_counted(text, layered, tape, Counted::Values, Line::Name);
+    let layered = read_layer(text, named);
+    let valued = count_names(text, layered, tape);
     keyword(text, valued, b"end_variable")
 }
 
@@ -49,13 +70,7 @@ fn read_group(text: &[u8], r: Reader, tape: &mut [u32]) -> Reader
     ensures { λ s. ⌜ Reads group-lines (now (text .entry)) r (now (tape .entry)) s (now (tape .exit)) ⌝ }
 {
     let begun = keyword(text, r, b"begin_mutex_group");
-    let listed = read_counted(
-        text,
-        begun,
-        tape,
-        Counted::GroupFacts,
-        Line::Numbers(Row::PassedFact),
-    );
+    let listed = count_facts(text, begun, tape, false);
     keyword(text, listed, b"end_mutex_group")
 }
 
@@ -65,15 +80,9 @@ fn read_operator(text: &[u8], r: Reader, tape: &mut [u32]) -> Reader
 {
     let begun = keyword(text, r, b"begin_operator");
     let named = name(text, begun);
-    let needed = read_counted(text, named, tape, Counted::Facts, Line::Numbers(Row::Fact));
-    let done = read_counted(
-        text,
-        needed,
-        tape,
-        Counted::Effects,
-        Line::Numbers(Row::Effect),
-    );
-    let priced = read_row(text, done, tape, Row::Value);
+    let needed = count_facts(text, named, tape, true);
+    let done = count_effects(text, needed, tape);
+    let priced = read_plain(text, done, tape, true);
     keyword(text, priced, b"end_operator")
 }
 
@@ -82,14 +91,8 @@ fn read_axiom(text: &[u8], r: Reader, tape: &mut [u32]) -> Reader
     ensures { λ s. ⌜ Reads axiom-lines (now (text .entry)) r (now (tape .entry)) s (now (tape .exit)) ⌝ }
 {
     let begun = keyword(text, r, b"begin_rule");
-    let needed = read_counted(
-        text,
-        begun,
-        tape,
-        Counted::Conditions,
-        Line::Numbers(Row::PassedFact),
-    );
-    let headed = read_row(text, needed, tape, Row::Head);
+    let needed = count_facts(text, begun, tape, false);
+    let headed = read_head(text, needed, tape);
     keyword(text, headed, b"end_rule")
 }
 
@@ -114,7 +117,7 @@ fn read_blocks(text: &[u8], r: Reader, tape: &mut [u32], block: Block, n: usize)
     let mut current = r;
     let mut i = 0;
     while i < n {
-        if current.broken {
+        if current.broken != 0 {
             return current;
         }
         current = read_block(text, current, tape, block);
@@ -123,14 +126,29 @@ fn read_blocks(text: &[u8], r: Reader, tape: &mut [u32], block: Block, n: usize)
     current
 }
 
-// Reads how many blocks there are, and those blocks.
-fn count_blocks(text: &[u8], r: Reader, tape: &mut [u32], what: Counted, block: Block) -> Reader
-    requires { ⌜ Within (now text) r × Room (now text) (now tape)
-        × ((n : ℕ) → after-count what n ≡ times n (block-lines block)) ⌝ }
-    ensures { λ s. ⌜ Reads (counts what ∷ []) (now (text .entry)) r (now (tape .entry)) s (now (tape .exit)) ⌝ }
+// Reads how many blocks there are, a number that is kept or not, and those blocks.
+fn count_blocks(text: &[u8], r: Reader, tape: &mut [u32], keeps: bool, block: Block) -> Reader
+    requires { ⌜ Within (now text) r × Room (now text) (now tape) ⌝ }
+    ensures { λ s. ⌜ ((what : Counted) → Counts-blocks keeps block what
+        → Reads (counts what ∷ []) (now (text .entry)) r (now (tape .entry)) s (now (tape .exit))) ⌝ }
 {
-    let counted = read_row(text, r, tape, Row::Count(what));
+    let counted = read_plain(text, r, tape, keeps);
     read_blocks(text, counted, tape, block, word(tape, r.count) as usize)
+}
+
+// Reads how many axioms there are, and those axioms.
+fn count_axioms(text: &[u8], r: Reader, tape: &mut [u32]) -> Reader
+    requires { ⌜ Within (now text) r × Room (now text) (now tape) ⌝ }
+    ensures { λ s. ⌜ Reads (counts Axioms ∷ []) (now (text .entry)) r (now (tape .entry)) s (now (tape .exit)) ⌝ }
+{
+    let counted = read_axiom_count(text, r, tape);
+    read_blocks(
+        text,
+        counted,
+        tape,
+        Block::Axiom,
+        word(tape, r.count) as usize,
+    )
 }
 
 fn read_state(text: &[u8], r: Reader, tape: &mut [u32], n: usize) -> Reader
@@ -138,7 +156,7 @@ fn read_state(text: &[u8], r: Reader, tape: &mut [u32], n: usize) -> Reader
     ensures { λ s. ⌜ Reads (state-lines n) (now (text .entry)) r (now (tape .entry)) s (now (tape .exit)) ⌝ }
 {
     let begun = keyword(text, r, b"begin_state");
-    let valued = read_lines(text, begun, tape, Line::Numbers(Row::Value), n);
+    let valued = read_values(text, begun, tape, n);
     keyword(text, valued, b"end_state")
 }
 
@@ -147,7 +165,7 @@ fn read_goal(text: &[u8], r: Reader, tape: &mut [u32]) -> Reader
     ensures { λ s. ⌜ Reads goal-lines (now (text .entry)) r (now (tape .entry)) s (now (tape .exit)) ⌝ }
 {
     let begun = keyword(text, r, b"begin_goal");
-    let listed = read_counted(text, begun, tape, Counted::Facts, Line::Numbers(Row::Fact));
+    let listed = count_facts(text, begun, tape, true);
     keyword(text, listed, b"end_goal")
 }
 
@@ -160,7 +178,7 @@ pub(crate) fn read_front(text: &[u8], r: Reader, tape: &mut [u32]) -> Reader
     let third = keyword(text, begun, b"3");
     let ended = keyword(text, third, b"end_version");
     let metric = keyword(text, ended, b"begin_metric");
-    let told = read_row(text, metric, tape, Row::Metric);
+    let told = read_metric(text, metric, tape);
     keyword(text, told, b"end_metric")
 }
 
@@ -170,9 +188,9 @@ pub(crate) fn read_rest(text: &[u8], r: Reader, tape: &mut [u32], n: usize) -> R
     ensures { λ s. ⌜ Reads (after-variables n) (now (text .entry)) r (now (tape .entry)) s (now (tape .exit)) ⌝ }
 {
     let variables = read_blocks(text, r, tape, Block::Variable, n);
-    let groups = count_blocks(text, variables, tape, Counted::Groups, Block::Group);
+    let groups = count_blocks(text, variables, tape, false, Block::Group);
     let state = read_state(text, groups, tape, n);
     let goal = read_goal(text, state, tape);
-    let operators = count_blocks(text, goal, tape, Counted::Operators, Block::Operator);
-    count_blocks(text, operators, tape, Counted::Axioms, Block::Axiom)
+    let operators = count_blocks(text, goal, tape, true, Block::Operator);
+    count_axioms(text, operators, tape)
 }

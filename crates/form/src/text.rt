@@ -1,8 +1,6 @@
 // The reading of a whole text.
-use crate::lines::read_row;
+use crate::numbers::read_plain;
 use crate::reader::Reader;
-use crate::row::Counted;
-use crate::row::Row;
 use crate::sections::read_front;
 use crate::sections::read_rest;
 use access::word;
@@ -24,7 +22,7 @@ fn read_all(text: &[u8], r: Reader, tape: &mut [u32]) -> Reader
     ensures { λ s. ⌜ Reads text-lines (now (text .entry)) r (now (tape .entry)) s (now (tape .exit)) ⌝ }
 {
     let front = read_front(text, r, tape);
-    let counted = read_row(text, front, tape, Row::Count(Counted::Variables));
+    let counted = read_plain(text, front, tape, true);
     read_rest(text, counted, tape, word(tape, front.count) as usize)
 }
 
@@ -37,8 +35,8 @@ pub fn read_text(text: &[u8], tape: &mut [u32]) -> Form
         return Form::Broken(0);
     }
     let read = read_all(text, Reader::start(), tape);
-    if read.broken {
-        return Form::Broken(read.line + 1);
+    if read.broken != 0 {
+        return Form::Broken(read.broken);
     }
     if read.at < text.len() {
         return Form::Broken(read.line + 1);

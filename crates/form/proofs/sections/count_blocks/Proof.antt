@@ -1,12 +1,12 @@
 -- `count_blocks` meets its contract: the number is followed by so many blocks. Assumes nothing.
-use native.Mathlib.Omega.{arith}
-use Rattle.form.proofs.ReadsLaws.{row-counted}
+use Rattle.form.proofs.ReadsLaws.{row-counted, plain-within}
 use borrow.Author.Needs.{needs}
+use native.Mathlib.Omega.{arith}
 use Rattle.form.proofs.sections.count_blocks.Statement.{statement}
 use Rattle.form.proofs.sections.count_blocks.Tie as tie
 
-read-row-requires : tie.Need-read-row-requires
-read-row-requires c κs = search needs
+read-plain-requires : tie.Need-read-plain-requires
+read-plain-requires c κs = search needs
 
 word-requires : tie.Need-word-requires
 word-requires c κs = search needs
@@ -16,26 +16,26 @@ cast-read-blocks c = search needs
 
 read-blocks-requires : tie.Need-read-blocks-requires
 read-blocks-requires c κs =
-    let after-read-row = c .before .before .before .before .before in
-    let start = after-read-row .before .before .before .before in
-    (after-read-row .read-row .ensures .within, omega (arith, start .pre .1, after-read-row .read-row .kept .1 .1 .0))
+    let after-read-plain = c .before .before .before .before .before in
+    let start = after-read-plain .before .before .before .before in
+    (plain-within _ (after-read-plain .read-plain .ensures), omega (arith, start .pre .1, after-read-plain .read-plain .kept .1 .1 .0))
 
 same-length : tie.Need-same-length
 same-length c = search needs
 
 returns : tie.Need-returns
 returns c =
-    let after-before = c .before .before in
-    let after-before-3 = after-before .before in
-    let after-read-row = after-before-3 .before .before .before .before .before in
-    let start = after-read-row .before .before .before .before in
-    row-counted _ _ _ (after-read-row .read-row .ensures) (after-before-3 .word .ensures .0) (start .pre .2 _) (after-before .read-blocks .ensures)
+    let after-read-blocks = c .before .before in
+    let after-word = after-read-blocks .before in
+    let after-read-plain = after-word .before .before .before .before .before in
+    λ what counted. row-counted _ _ _ (after-read-plain .read-plain .ensures _ (counted .plain-count))
+    (after-word .word .ensures .0) (counted .lines _) (after-read-blocks .read-blocks .ensures)
 
 pub count-blocks-spec : {M : Type 1} → statement M
 count-blocks-spec =
     tie.close
     (tie.spec
-    read-row-requires
+    read-plain-requires
     word-requires
     cast-read-blocks
     read-blocks-requires

@@ -1,10 +1,10 @@
 -- `read_axiom` meets its contract: its lines are read in turn. Assumes nothing.
-use Rattle.form.proofs.ReadsLaws.{reads-then, row-alone}
-use Rattle.form.proofs.RowLaws.{conditions-follow}
-use native.Mathlib.Omega.{arith}
 use mathlib.Core.Path.{refl}
 use mathlib.Core.List.{[]}
+use Rattle.form.proofs.CountLaws.{counted-conditions}
+use Rattle.form.proofs.ReadsLaws.{reads-then}
 use borrow.Author.Needs.{needs}
+use native.Mathlib.Omega.{arith}
 use Rattle.form.proofs.sections.read_axiom.Statement.{statement}
 use Rattle.form.proofs.sections.read_axiom.Tie as tie
 
@@ -12,33 +12,39 @@ slice-aggregate-keyword : tie.Need-slice-aggregate-keyword
 slice-aggregate-keyword c = search needs
 
 keyword-requires : tie.Need-keyword-requires
-keyword-requires c κs = c .before .before .before .pre .0
+keyword-requires c κs = (c .before .before .before .pre .0, refl)
 
-read-counted-requires : tie.Need-read-counted-requires
-read-counted-requires c κs = (c .before .keyword .ensures [] .within, c .before .before .before .before .before .pre .1, λ x. refl, conditions-follow)
+count-facts-requires : tie.Need-count-facts-requires
+count-facts-requires c κs =
+    let after-keyword = c .before in
+    let start = after-keyword .before .before .before .before in
+    (after-keyword .keyword .ensures [] .within, start .pre .1)
 
-read-row-requires : tie.Need-read-row-requires
-read-row-requires c κs =
-    let after-read-counted = c .before .before .before in
-    let start = after-read-counted .before .before .before .before .before .before in
-    (after-read-counted .read-counted .ensures .within, omega (arith, start .pre .1, after-read-counted .read-counted .kept .1 .1 .0))
+read-head-requires : tie.Need-read-head-requires
+read-head-requires c κs =
+    let after-count-facts = c .before .before .before in
+    let start = after-count-facts .before .before .before .before .before .before in (
+      after-count-facts .count-facts .ensures _ counted-conditions .within,
+      omega (arith, start .pre .1, after-count-facts .count-facts .kept .1 .1 .0),
+    )
 
 slice-aggregate-keyword-2 : tie.Need-slice-aggregate-keyword-2
 slice-aggregate-keyword-2 c = search needs
 
 keyword-requires-2 : tie.Need-keyword-requires-2
-keyword-requires-2 c κs = c .before .before .before .read-row .ensures .within
+keyword-requires-2 c κs = (c .before .before .before .read-head .ensures .within, refl)
 
 same-length : tie.Need-same-length
 same-length c = search needs
 
 returns : tie.Need-returns
 returns c =
-    let after-before = c .before .before .before .before in
-    let after-before-8 = after-before .before .before .before .before in
-    let after-keyword = after-before-8 .before .before in
+    let after-read-head = c .before .before .before .before in
+    let after-count-facts = after-read-head .before .before .before .before in
+    let after-keyword = after-count-facts .before .before in
     reads-then (after-keyword .keyword .ensures _)
-    (reads-then (after-before-8 .read-counted .ensures) (reads-then (row-alone _ (λ x. refl) (after-before .read-row .ensures)) (c .keyword2 .ensures _)))
+    (reads-then (after-count-facts .count-facts .ensures _ counted-conditions)
+    (reads-then (after-read-head .read-head .ensures) (c .keyword2 .ensures _)))
 
 pub read-axiom-spec : {M : Type 1} → statement M
 read-axiom-spec =
@@ -46,8 +52,8 @@ read-axiom-spec =
     (tie.spec
     slice-aggregate-keyword
     keyword-requires
-    read-counted-requires
-    read-row-requires
+    count-facts-requires
+    read-head-requires
     slice-aggregate-keyword-2
     keyword-requires-2
     same-length

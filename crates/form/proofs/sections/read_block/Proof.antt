@@ -31,25 +31,37 @@ same-length : tie.Need-same-length
 same-length c = search needs
 
 returns : tie.Need-returns
-returns c = rw (c .before .before .before .before .enum-told .given .1) (c .before .before .read-variable .ensures)
+returns c =
+    let after-read-variable = c .before .before in
+    let after-enum-told = after-read-variable .before .before in
+    rw (after-enum-told .enum-told .given .1) (after-read-variable .read-variable .ensures)
 
 same-length-2 : tie.Need-same-length-2
 same-length-2 c = search needs
 
 returns-2 : tie.Need-returns-2
-returns-2 c = rw (c .before .before .before .before .enum-told2 .given .1) (c .before .before .read-group .ensures)
+returns-2 c =
+    let after-read-group = c .before .before in
+    let after-enum-told2 = after-read-group .before .before in
+    rw (after-enum-told2 .enum-told2 .given .1) (after-read-group .read-group .ensures)
 
 same-length-3 : tie.Need-same-length-3
 same-length-3 c = search needs
 
 returns-3 : tie.Need-returns-3
-returns-3 c = rw (c .before .before .before .before .enum-told3 .given .1) (c .before .before .read-operator .ensures)
+returns-3 c =
+    let after-read-operator = c .before .before in
+    let after-enum-told3 = after-read-operator .before .before in
+    rw (after-enum-told3 .enum-told3 .given .1) (after-read-operator .read-operator .ensures)
 
 same-length-4 : tie.Need-same-length-4
 same-length-4 c = search needs
 
 returns-4 : tie.Need-returns-4
-returns-4 c = rw (c .before .before .before .before .enum-told4 .given .1) (c .before .before .read-axiom .ensures)
+returns-4 c =
+    let after-read-axiom = c .before .before in
+    let after-enum-told4 = after-read-axiom .before .before in
+    rw (after-enum-told4 .enum-told4 .given .1) (after-read-axiom .read-axiom .ensures)
 
 pub read-block-spec : {M : Type 1} → statement M
 read-block-spec =

@@ -1,10 +1,10 @@
 -- `read_operator` meets its contract: its lines are read in turn. Assumes nothing.
-use Rattle.form.proofs.ReadsLaws.{reads-then, row-alone}
-use Rattle.form.proofs.RowLaws.{facts-follow, effects-follow}
-use native.Mathlib.Omega.{arith}
 use mathlib.Core.Path.{refl}
 use mathlib.Core.List.{[]}
+use Rattle.form.proofs.CountLaws.{plain-value, counted-facts}
+use Rattle.form.proofs.ReadsLaws.{reads-then, row-alone}
 use borrow.Author.Needs.{needs}
+use native.Mathlib.Omega.{arith}
 use Rattle.form.proofs.sections.read_operator.Statement.{statement}
 use Rattle.form.proofs.sections.read_operator.Tie as tie
 
@@ -12,45 +12,53 @@ slice-aggregate-keyword : tie.Need-slice-aggregate-keyword
 slice-aggregate-keyword c = search needs
 
 keyword-requires : tie.Need-keyword-requires
-keyword-requires c κs = c .before .before .before .pre .0
+keyword-requires c κs = (c .before .before .before .pre .0, refl)
 
 name-requires : tie.Need-name-requires
 name-requires c κs = c .keyword .ensures [] .within
 
-read-counted-requires : tie.Need-read-counted-requires
-read-counted-requires c κs = (c .before .name .ensures [] .within, c .before .before .before .before .before .before .pre .1, λ x. refl, facts-follow)
+count-facts-requires : tie.Need-count-facts-requires
+count-facts-requires c κs =
+    let after-name = c .before in
+    let start = after-name .before .before .before .before .before in
+    (after-name .name .ensures [] .within, start .pre .1)
 
-read-counted-requires-2 : tie.Need-read-counted-requires-2
-read-counted-requires-2 c κs =
-    let after-read-counted = c .before .before .before in
-    let start = after-read-counted .before .before .before .before .before .before .before in
-    (after-read-counted .read-counted .ensures .within, omega (arith, start .pre .1, after-read-counted .read-counted .kept .1 .1 .0), λ x. refl, effects-follow)
+count-effects-requires : tie.Need-count-effects-requires
+count-effects-requires c κs =
+    let after-count-facts = c .before .before .before in
+    let start = after-count-facts .before .before .before .before .before .before .before in
+    (after-count-facts .count-facts .ensures _ counted-facts .within, omega (arith, start .pre .1, after-count-facts .count-facts .kept .1 .1 .0))
 
-read-row-requires : tie.Need-read-row-requires
-read-row-requires c κs =
-    let after-read-counted2 = c .before .before .before in
-    let after-before = after-read-counted2 .before .before .before .before in
-    let start = after-before .before .before .before .before .before .before .before in
-    (after-read-counted2 .read-counted2 .ensures .within, omega (arith, start .pre .1, after-before .read-counted .kept .1 .1 .0, after-read-counted2 .read-counted2 .kept .1 .1 .0))
+read-plain-requires : tie.Need-read-plain-requires
+read-plain-requires c κs =
+    let after-count-effects = c .before .before .before in
+    let after-count-facts = after-count-effects .before .before .before .before in
+    let start = after-count-facts .before .before .before .before .before .before .before in (
+      after-count-effects .count-effects .ensures .within,
+      omega (arith, start .pre .1, after-count-facts .count-facts .kept .1 .1 .0, after-count-effects .count-effects .kept .1 .1 .0),
+    )
 
 slice-aggregate-keyword-2 : tie.Need-slice-aggregate-keyword-2
 slice-aggregate-keyword-2 c = search needs
 
 keyword-requires-2 : tie.Need-keyword-requires-2
-keyword-requires-2 c κs = c .before .before .before .read-row .ensures .within
+keyword-requires-2 c κs = (c .before .before .before .read-plain .ensures _ plain-value .within, refl)
 
 same-length : tie.Need-same-length
 same-length c = search needs
 
 returns : tie.Need-returns
 returns c =
-    let after-before = c .before .before .before .before in
-    let after-before-8 = after-before .before .before .before .before in
-    let after-before-12 = after-before-8 .before .before .before .before in
-    let after-before-14 = after-before-12 .before .before in
-    let after-keyword = after-before-14 .before in
+    let after-read-plain = c .before .before .before .before in
+    let after-count-effects = after-read-plain .before .before .before .before in
+    let after-count-facts = after-count-effects .before .before .before .before in
+    let after-name = after-count-facts .before .before in
+    let after-keyword = after-name .before in
     reads-then (after-keyword .keyword .ensures _)
-    (reads-then (after-before-14 .name .ensures _) (reads-then (after-before-12 .read-counted .ensures) (reads-then (after-before-8 .read-counted2 .ensures) (reads-then (row-alone _ (λ x. refl) (after-before .read-row .ensures)) (c .keyword2 .ensures _)))))
+    (reads-then (after-name .name .ensures _)
+    (reads-then (after-count-facts .count-facts .ensures _ counted-facts)
+    (reads-then (after-count-effects .count-effects .ensures)
+    (reads-then (row-alone _ (λ x. refl) (after-read-plain .read-plain .ensures _ plain-value)) (c .keyword2 .ensures _)))))
 
 pub read-operator-spec : {M : Type 1} → statement M
 read-operator-spec =
@@ -59,9 +67,9 @@ read-operator-spec =
     slice-aggregate-keyword
     keyword-requires
     name-requires
-    read-counted-requires
-    read-counted-requires-2
-    read-row-requires
+    count-facts-requires
+    count-effects-requires
+    read-plain-requires
     slice-aggregate-keyword-2
     keyword-requires-2
     same-length

@@ -1,5 +1,4 @@
 -- `read_text` meets its contract: a law for each way to a return, by the length of the text and where its reading ends. Assumes nothing.
-use native.Mathlib.Omega.{arith}
 use Rattle.form.proofs.FormLaws.{within-start, found-long, found-broken, found-over, found-whole}
 use borrow.Author.Needs.{needs}
 use Rattle.form.proofs.text.read_text.Statement.{statement}
@@ -15,52 +14,46 @@ start-requires : tie.Need-start-requires
 start-requires c κs = search needs
 
 read-all-requires : tie.Need-read-all-requires
-read-all-requires c κs = (within-start _ (c .before .start .ensures), c .before .before .if1 .left)
-
-add-t11 : tie.Need-add-t11
-add-t11 c =
-    let after-read-all = c .before .before .before .before in
-    omega (arith, after-read-all .read-all .ensures .within .line, after-read-all .read-all .ensures .within .at)
+read-all-requires c κs =
+    let after-start = c .before in
+    let after-if1 = after-start .before in
+    (within-start _ (after-start .start .ensures), after-if1 .if1 .left)
 
 same-length : tie.Need-same-length
 same-length c = search needs
 
 returns-2 : tie.Need-returns-2
 returns-2 c =
-    let after-before = c .before in
-    let after-before-4 = after-before .before .before .before in
-    let after-before-6 = after-before-4 .before .before in
-    let after-if1 = after-before-6 .before in
-    found-broken _ (after-if1 .if1 .left) (after-before-6 .start .ensures) (after-before-4 .read-all .ensures) (after-before .if2 .taken)
+    let after-read-all = c .before .before .before .before in
+    let after-start = after-read-all .before .before in
+    let after-if1 = after-start .before in
+    found-broken _ (after-if1 .if1 .left) (after-start .start .ensures) (after-read-all .read-all .ensures) (c .if2 .taken)
 
-add-t12 : tie.Need-add-t12
-add-t12 c =
-    let after-read-all = c .before .before .before .before .before .before in
-    omega (arith, after-read-all .read-all .ensures .within .line, after-read-all .read-all .ensures .within .at)
+add-t11 : tie.Need-add-t11
+add-t11 c = search needs
 
 same-length-2 : tie.Need-same-length-2
 same-length-2 c = search needs
 
 returns-3 : tie.Need-returns-3
 returns-3 c =
-    let after-before = c .before in
-    let after-before-3 = after-before .before .before in
-    let after-before-6 = after-before-3 .before .before .before in
-    let after-before-8 = after-before-6 .before .before in
-    let after-if1 = after-before-8 .before in
-    found-over _ (after-if1 .if1 .left) (after-before-8 .start .ensures) (after-before-6 .read-all .ensures) (after-before-3 .if2 .left)
-    (after-before .if3 .taken)
+    let after-if3 = c .before in
+    let after-if2 = after-if3 .before .before in
+    let after-read-all = after-if2 .before .before .before .before in
+    let after-start = after-read-all .before .before in
+    let after-if1 = after-start .before in
+    found-over _ (after-if1 .if1 .left) (after-start .start .ensures) (after-read-all .read-all .ensures) (after-if2 .if2 .left) (after-if3 .if3 .taken)
 
 same-length-3 : tie.Need-same-length-3
 same-length-3 c = search needs
 
 returns-4 : tie.Need-returns-4
 returns-4 c =
-    let after-before = c .before .before in
-    let after-before-5 = after-before .before .before .before in
-    let after-before-7 = after-before-5 .before .before in
-    let after-if1 = after-before-7 .before in
-    found-whole _ (after-if1 .if1 .left) (after-before-7 .start .ensures) (after-before-5 .read-all .ensures) (after-before .if2 .left) (c .if3 .left)
+    let after-if2 = c .before .before in
+    let after-read-all = after-if2 .before .before .before .before in
+    let after-start = after-read-all .before .before in
+    let after-if1 = after-start .before in
+    found-whole _ (after-if1 .if1 .left) (after-start .start .ensures) (after-read-all .read-all .ensures) (after-if2 .if2 .left) (c .if3 .left)
 
 pub read-text-spec : {M : Type 1} → statement M
 read-text-spec =
@@ -70,10 +63,9 @@ read-text-spec =
     returns
     start-requires
     read-all-requires
-    add-t11
     same-length
     returns-2
-    add-t12
+    add-t11
     same-length-2
     returns-3
     same-length-3
