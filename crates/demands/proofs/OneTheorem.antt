@@ -4,9 +4,9 @@
 use Prim.Native.Nat.{ℕ, min, _≤_}
 use native.Mathlib.Nat.{min-le-left, min-le-right}
 use native.Mathlib.Omega.{arith}
-use mathlib.Core.Path.{_≡_, refl, sym, _∙_}
+use mathlib.Core.Path.{_≡_, refl, sym, _∙_, ap}
 use mathlib.Core.Logic.{_⊎_, inl, inr}
-use mathlib.Core.Option.{Option, none}
+use mathlib.Core.Option.{Option, none, some}
 use mathlib.Core.List.{List, map}
 use lib.ListN.{length, take}
 use Rattle.refusal.specs.Refusal.{Told}
@@ -26,8 +26,12 @@ use Rattle.service.specs.Reduced.{room-checks, reduction-checks, output-left}
 use Rattle.elimination.specs.declared.single.Elimination.the-variants.{Plain, Greedy}
 use Rattle.elimination.specs.Eliminations.{elimination-of, greedy-elimination-of, left-by, cheaper-part}
 use Rattle.minimal.specs.Minimised.{most-unmarked, unmarked-checks, minimal-checks, minimal-of}
+use Rattle.sas.specs.Task.{Task}
+use Rattle.translation.specs.declared.translate.Translated.{Translated}
+use Rattle.translation.specs.declared.translate.Translated.the-variants.{Refused, Written}
+use Rattle.translation.specs.Translation.{text-task, task-checks, translation-checks, told-translated, Leaves}
 use Rattle.demands.specs.One.{Output-lent, Demand-one}
-use Rattle.demands.specs.One.{sheet-numbers, step-numbers, list-numbers, greedy-numbers, exact-numbers}
+use Rattle.demands.specs.One.{sheet-numbers, step-numbers, list-numbers, greedy-numbers, exact-numbers, text-numbers}
 use Rattle.demands.proofs.FireLaws.{refuses-just}
 use Rattle.demands.proofs.FitLaws.{Flags-each, elimination-flags, minimal-flags}
 
@@ -53,6 +57,19 @@ greedy-numbered w l room = refl
 exact-numbered : (limit : ℕ) (w l : List ℕ) (room : ℕ) → map number-of (minimal-checks limit w l room) ≡ exact-numbers
 unfolding minimal-checks unmarked-checks lodged-checks read-checks sheet-checks list-checks valid-checks room-checks
 exact-numbered limit w l room = refl
+
+text-numbered : (text : List ℕ) (room : ℕ) → map number-of (translation-checks text room) ≡ text-numbers
+unfolding translation-checks task-checks
+text-numbered text room = refl
+
+-- a text that is refused leaves the output
+refused-leaves : (T : Task) (before after : List ℕ) (r : Translated) → Leaves T before r after → (t : Told) → told-translated r ≡ some t → after ≡ before
+refused-leaves T before after (Refused x) leaves t e = leaves
+refused-leaves T before after (Written n) leaves t e = absurd (let no-refusal : 0 ≡ 1 = ap refusals e in omega arith)
+  where
+    refusals : Option Told → ℕ
+    refusals none = 0
+    refusals (some u) = 1
 
 -- an output that is given by a definition, of a reduction that has a flag for each step where nothing is refused
 output-lent : (refusal : Option Told) (l : List ℕ) (m : Reduction) (before after : List ℕ) → after ≡ unless-refused refusal (output-left l m before) before
@@ -104,5 +121,9 @@ demand-one =
         refuses-just _ _ _ (exact-numbered most-unmarked w l (length before)) (minimises .answers .refusal),
         output-lent _ l (minimal-of w l) before after (rw (← minimises .answers .refusal) at (minimises .answers .output))
             (λ h. (length before, omega arith, minimal-flags w l (length before) (sym (minimises .answers .refusal) ∙ h))),
+      );
+      planner-text = λ text before r after translates. (
+        refuses-just _ _ _ (text-numbered text (length before)) (translates .answers),
+        refused-leaves (text-task text) before after r (translates .leaves),
       );
     }

@@ -24,6 +24,8 @@ use Rattle.elimination.specs.declared.single.Elimination.{Elimination}
 use Rattle.elimination.specs.Eliminations.{elimination-of, greedy-elimination-of, left-by, Reduces-both, cheaper-part}
 use Rattle.minimal.specs.declared.within.Minimised.{Minimised}
 use Rattle.minimal.specs.Minimised.{most-unmarked, minimal-checks, minimal-of, Minimises}
+use Rattle.translation.specs.declared.translate.Translated.{Translated}
+use Rattle.translation.specs.Translation.{translation-checks, told-translated, Translates}
 
 -- none of these checks fires
 abbrev pub None-fires : List Check → Type 0
@@ -64,6 +66,10 @@ greedy-numbers = sheet-numbers ++ (8 ∷ 9 ∷ 10 ∷ 11 ∷ [])
 abbrev pub exact-numbers : List ℕ
 exact-numbers = greedy-numbers ++ (12 ∷ [])
 
+-- document 02, C-11: "after a longer text, 13, comes a text that breaks the form, also 13", 14, 15, "then 10"
+abbrev pub text-numbers : List ℕ
+text-numbers = 13 ∷ 13 ∷ 14 ∷ 15 ∷ 10 ∷ []
+
 -- a lent output over which a service writes what the reduction m leaves of the list l: a refusal leaves all its words;
 -- an answer changes its first words alone, one for each kept step, for which it has room
 pub record Output-lent (refusal : Option Told) (l : List ℕ) (m : Reduction) (before after : List ℕ) : Type 0 where
@@ -73,7 +79,7 @@ pub record Output-lent (refusal : Option Told) (l : List ℕ) (m : Reduction) (b
   pub room : refusal ≡ none → count m ≤ length before
 
 -- What is lent to be read no service can change, since the language lends it so; lent to be written are the state of
--- one step and the outputs of the services that strike.
+-- one step, the outputs of the services that strike, and that of the sheet of a text.
 pub record Demand-one : Type 0 where
   -- the check of a sheet
   pub sheet-check : (w : List ℕ) (verdict : Verdict) → told verdict ≡ answer (sheet-checks w)
@@ -108,3 +114,7 @@ pub record Demand-one : Type 0 where
       → Minimises most-unmarked w l before r after
       → Refuses-just exact-numbers (minimal-checks most-unmarked w l (length before)) (told-answer (r .answer))
       × Output-lent (told-answer (r .answer)) l (minimal-of w l) before after
+  -- a planner's text read into a sheet; what an answer writes is `Writes-sheet`
+  pub planner-text : (text before : List ℕ) (r : Translated) (after : List ℕ) → Translates text before r after
+      → Refuses-just text-numbers (translation-checks text (length before)) (told-translated r)
+      × ((t : Told) → told-translated r ≡ some t → after ≡ before)
