@@ -242,8 +242,8 @@ pub extern "C" fn hollchiku_kept_part<'a>(
     kept.len() as u64
 }
 
-// Reads a planner's text into a sheet: its words go to `output`; the number and the place of its refusal, or 0 and 0, and
-// how many words it has go to `out`.
+// Reads a planner's text into a sheet: its words go to `output`; the number and the place of its refusal, or 0 and 0,
+// and how many words it has go to `out`.
 #[no_mangle]
 pub extern "C" fn hollchiku_translate(text: &[u8], output: &mut [u32], out: &mut [u64])
     ensures { λ _. ⌜ Translates-lent (now (text .entry)) (now (output .entry)) (now (output .exit))

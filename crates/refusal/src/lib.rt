@@ -1,5 +1,5 @@
-// The causes of refusal of documents 01 and 02, each with the place that is not always the same. place: where a check fires, if it
-// does. specs/Refusal.antt gives each its number and place, and `number` and `place` hold the code to it.
+// The causes of refusal of documents 01 and 02, each with the place that is not always the same. place: where a check
+// fires, if it does. specs/Refusal.antt gives each its number and place, and `number` and `place` hold the code to it.
 pub mod place;
 
 ghost use mathlib.Core.Path.{_≡_};
