@@ -15,6 +15,11 @@ use Rattle.ascii.specs.Bytes.{ends-line, split}
 use Rattle.ascii.proofs.SplitLaws.{split-at, split-in}
 use Rattle.fields.specs.between.Reading.{has-line-end, begins-line}
 
+-- two tests of which the second fails
+pub fails-either : (t : Bool) → (t && false) ≡ false
+fails-either true = refl
+fails-either false = refl
+
 module _ (t : List ℕ) (i : ℕ) where
   pub line-over : length t ≤ i → i + length (split ends-line (drop i t) .first) ≡ i
   unfolding split
@@ -80,11 +85,7 @@ pub begins-short : (bs line : List ℕ) → length bs ≤ length line → begins
 unfolding begins-line
 begins-short [] line h = refl
 begins-short (b ∷ bs) [] h = absurd (omega arith)
-begins-short (b ∷ bs) (c ∷ line) h = rw (begins-short bs line (omega arith)) (either (eqb b c))
-  where
-    either : (t : Bool) → (t && false) ≡ false
-    either true = refl
-    either false = refl
+begins-short (b ∷ bs) (c ∷ line) h = rw (begins-short bs line (omega arith)) (fails-either (eqb b c))
 
 pub begins-all : (t line : List ℕ) (at : ℕ) → begins-line (drop (at + 0) t) (drop 0 line) ≡ begins-line (drop at t) line
 begins-all t line at = rw add-zero

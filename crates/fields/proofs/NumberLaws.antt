@@ -20,6 +20,7 @@ use Rattle.fields.specs.declared.word.Behind.the-variants.{Space, LineEn
 use Rattle.fields.specs.declared.word.Word.{Word}
 use Rattle.fields.proofs.word.Behind.{the-type}
 use Rattle.fields.specs.between.Reading.{ends-either, behind-byte, behind-word, first-word, There, Reads-word, Has-numbers, Lacks-numbers}
+use Rattle.fields.proofs.LineLaws.{fails-either}
 use Rattle.fields.proofs.DigitLaws.{number-small}
 use Rattle.fields.proofs.WordLaws.{number-word}
 
@@ -40,10 +41,6 @@ space-is-there = differ Space Neither tt
 
 pub line-end-is-there : LineEnd ≡ Neither → ⊥
 line-end-is-there = differ LineEnd Neither tt
-
-either : (t : Bool) → (t && false) ≡ false
-either true = refl
-either false = refl
 
 -- the bytes behind the first word
 abbrev behind-first : List ℕ → List ℕ
@@ -200,7 +197,7 @@ module _ (rest : List ℕ) (b : ℕ) (t : List ℕ) (stands : behind-first rest 
   lacks-last : (test : List ℕ → Bool) → ends-line b ≡ true → test (word-number (first-word rest) ∷ []) ≡ false → Lacks-numbers test rest
   lacks-last test ends fails line next others cut =
       let is-line : line ≡ first-word rest = ap (λ s. s .first) (sym cut ∙ line-ended b t ends rest stands) in
-      ap (λ l. told-by test (words-of l)) is-line ∙ ap (told-by test) (one-word rest) ∙ rw fails (either (all-read (first-word rest ∷ [])))
+      ap (λ l. told-by test (words-of l)) is-line ∙ ap (told-by test) (one-word rest) ∙ rw fails (fails-either (all-read (first-word rest ∷ [])))
 
   module _ (blank : ends-word b ≡ true) where
     words-on : (l : List ℕ) → words-of (first-word rest ++ (b ∷ l)) ≡ first-word rest ∷ words-of l
@@ -248,7 +245,7 @@ lacks-unended test rest e line next others cut =
 
 -- and so does one of whose numbers a test never holds
 pub lacks-all : (test : List ℕ → Bool) → ((x : ℕ) (xs : List ℕ) → test (x ∷ xs) ≡ false) → (rest : List ℕ) → Lacks-numbers test rest
-lacks-all test fails rest line next others cut = rw (fails _ _) (either (line-reads line))
+lacks-all test fails rest line next others cut = rw (fails _ _) (fails-either (line-reads line))
 
 -- or of none that begin with its first word's number
 module _ (test : List ℕ → Bool) (rest : List ℕ) where
@@ -257,7 +254,7 @@ module _ (test : List ℕ → Bool) (rest : List ℕ) where
   lacks-first fails = by-stand (behind-first rest) refl
     where
       by-read : (ws : List (List ℕ)) (r : Bool) → word-reads (first-word rest) ≡ r → told-by test (first-word rest ∷ ws) ≡ false
-      by-read ws true read = rw (fails read (map word-number ws)) (either (all-read (first-word rest ∷ ws)))
+      by-read ws true read = rw (fails read (map word-number ws)) (fails-either (all-read (first-word rest ∷ ws)))
       by-read ws false read = rw read
 
       by-end : (b : ℕ) (t : List ℕ) → behind-first rest ≡ b ∷ t → (s : Bool) → ends-word b ≡ s → ends-either b ≡ true → Lacks-numbers test rest

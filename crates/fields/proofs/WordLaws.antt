@@ -16,7 +16,7 @@ use Rattle.fields.specs.declared.word.Behind.{Behind}
 use Rattle.fields.specs.declared.word.Behind.the-variants.{Neither}
 use Rattle.fields.specs.declared.word.Word.{Word}
 use Rattle.fields.specs.between.Reading.{leading-digits, ends-either, behind-byte, behind-word, first-word, Reads-digits, Reads-word}
-use Rattle.fields.proofs.LineLaws.{byte-next}
+use Rattle.fields.proofs.LineLaws.{fails-either, byte-next}
 use Rattle.fields.proofs.DigitLaws.{digit-from-zero, leading-in, leading-at}
 
 -- a byte that is not 0 stands within the bytes
@@ -149,11 +149,7 @@ zero-goes-on [] h = absurd (false≢true (sym h))
 zero-goes-on (b ∷ bs) h =
     rw
     (word-on ascii-zero (b ∷ bs) refl, word-on b bs h, ne-eqb (length (b ∷ first-word bs)) 0 (λ e. omega arith))
-    (either (all-digits (ascii-zero ∷ b ∷ first-word bs)))
-  where
-    either : (t : Bool) → (t && false) ≡ false
-    either true = refl
-    either false = refl
+    (fails-either (all-digits (ascii-zero ∷ b ∷ first-word bs)))
 
 -- nor is one that does not begin with a digit
 no-digit-first : (rest : List ℕ) → ascii-digit (getD rest 0 0) ≡ false → is-number (first-word rest) ≡ false

@@ -17,6 +17,7 @@ use Rattle.fields.specs.Fields.{is-number, word-reads, plain, all-plain, plain-
 use Rattle.fields.specs.declared.word.Word.{Word}
 use Rattle.fields.specs.declared.word.Behind.the-variants.{Space, LineEnd}
 use Rattle.fields.specs.between.Reading.{Reads-word, Has-numbers, Lacks-numbers}
+use Rattle.fields.proofs.LineLaws.{fails-either}
 use Rattle.fields.proofs.NumberLaws.{numbers-next, numbers-last, no-numbers-next, no-numbers-ended, no-numbers-on, word-ahead, word-inside}
 use Rattle.fields.proofs.NumberLaws.{any-kind, no-other-kind, number-kind, sign-kind, number-plain, space-is-there, line-end-is-there}
 use Rattle.form.specs.declared.reader.Reader.{Reader}
@@ -25,7 +26,7 @@ use Rattle.form.specs.Form.{Fact, PassedFact, Effect, Head, numbers, num
 use Rattle.form.specs.between.Reading.{barred-at, Within, Reads, Reads-row, after-first, fact-row, Room, Has-run, Asks-run, Reads-run, Has-change, Reads-change}
 use Rattle.form.proofs.StopLaws.{first-or-none, stopped-reader, past-reader}
 use Rattle.form.proofs.ReadsLaws.{row-alone}
-use Rattle.form.proofs.RowLaws.{fails-either, taken, row-lacks, row-read}
+use Rattle.form.proofs.RowLaws.{taken, row-lacks, row-read}
 
 -- a number with a space behind it
 module _ {text : List ℕ} {at : ℕ} {w : Word} (read : Reads-word is-number text at w) (found : w .behind ≡ Space) where

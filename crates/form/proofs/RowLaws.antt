@@ -16,6 +16,7 @@ use Rattle.fields.specs.Fields.{is-number, word-reads, all-plain}
 use Rattle.fields.specs.declared.word.Word.{Word}
 use Rattle.fields.specs.declared.word.Behind.the-variants.{LineEnd}
 use Rattle.fields.specs.between.Reading.{Reads-word, Has-numbers, Lacks-numbers}
+use Rattle.fields.proofs.LineLaws.{fails-either}
 use Rattle.fields.proofs.NumberLaws.{numbers-last, no-numbers-last, no-numbers-on, word-ahead, word-inside, any-kind, no-other-kind, number-kind, sign-kind, number-plain, line-end-is-there}
 use Rattle.form.specs.declared.reader.Reader.{Reader}
 use Rattle.form.specs.Form.{Row, Metric, Layer, Count, Axioms, numbers, numbers-fit, fits, further, after-row, bars, row-bars, kept, row-keeps, first-number}
@@ -23,10 +24,6 @@ use Rattle.form.specs.between.Reading.{barred-at, going-on, Within, Read
 use Rattle.form.proofs.GoingLaws.{going-broken, going-next}
 use Rattle.form.proofs.StopLaws.{first-or-none, stopped-reader, past-reader, stops-row}
 use Rattle.form.proofs.ReadsLaws.{row-alone}
-
-pub fails-either : (t : Bool) → (t && false) ≡ false
-fails-either true = refl
-fails-either false = refl
 
 -- numbers put on the tape, behind the first `count` of it
 module _ (tape xs : List ℕ) (count : ℕ) (room : count + length xs ≤ length tape) where
