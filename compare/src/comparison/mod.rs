@@ -25,8 +25,7 @@ const CASES_OF_ROUND: u64 = 100_000;
 /// Tries what no seed changes on the rules alone. Answers whether nothing failed, as the others do.
 pub fn fixed() -> bool {
     let mut record = Record::default();
-    services::try_worked(&mut record, false);
-    services::try_damaged(&mut record, false);
+    services::try_fixed(&mut record, false);
     record.finish()
 }
 
@@ -42,8 +41,7 @@ pub fn all(built: &[Built], seed: u64, cases: u64) -> bool {
     let mut record = expecting_all(built);
     programs::compare(&mut record, built, &inputs::fixed());
     programs::compare(&mut record, built, &inputs::of_random_cases(seed));
-    services::try_worked(&mut record, true);
-    services::try_damaged(&mut record, true);
+    services::try_fixed(&mut record, true);
     services::try_random(&mut record, seed, 1..=cases);
     record.finish()
 }
@@ -55,8 +53,7 @@ pub fn long(built: &[Built], first_seed: u64, seconds: u64) -> bool {
     println!("first seed {first_seed}; again: compare/run --long {seconds} --seed {first_seed}");
     let mut record = expecting_all(built);
     record.end = Some(Instant::now() + Duration::from_secs(seconds));
-    services::try_worked(&mut record, true);
-    services::try_damaged(&mut record, true);
+    services::try_fixed(&mut record, true);
     programs::compare(&mut record, built, &inputs::fixed());
     let mut rounds = 0;
     while !record.is_over() {

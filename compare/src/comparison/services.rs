@@ -10,25 +10,17 @@ use std::ops::RangeInclusive;
 const WORKED: &str = "documents: worked lists, texts and limits";
 const DAMAGED: &str = "translator: small texts damaged everywhere";
 
-/// Tries the worked lists, on the rules alone or on the library too.
-pub fn try_worked(record: &mut Record, with_library: bool) {
-    for (name, case) in worked::cases() {
+/// Tries the cases that are the same in each run, on the rules alone or on the library too.
+pub fn try_fixed(record: &mut Record, with_library: bool) {
+    let worked = worked::cases().into_iter();
+    let worked = worked.map(|(name, case)| (WORKED, name.to_string(), case));
+    let damaged = damaged::cases().map(|(name, case)| (DAMAGED, name, case));
+    for (kind, name, case) in worked.chain(damaged) {
         if record.is_over() {
             break;
         }
-        let title = || format!("{WORKED}: {name}");
-        try_case(record, WORKED, &case, with_library, title);
-    }
-}
-
-/// Tries the small texts that are damaged in every way, on the rules alone or on the library too.
-pub fn try_damaged(record: &mut Record, with_library: bool) {
-    for (name, case) in damaged::cases() {
-        if record.is_over() {
-            break;
-        }
-        let title = || format!("{DAMAGED}: {name}");
-        try_case(record, DAMAGED, &case, with_library, title);
+        let title = || format!("{kind}: {name}");
+        try_case(record, kind, &case, with_library, title);
     }
 }
 
