@@ -1,6 +1,6 @@
 // Reads and writes that are safe at any index: past the end a read finds 0, and a write does nothing.
 ghost use mathlib.Core.Path.{_≡_};
-ghost use mathlib.Core.Bool.{false};
+ghost use mathlib.Core.Bool.{true, false};
 ghost use Prim.Native.Nat.{min, _<_, _^_};
 ghost use lib.ListN.{getD, set, take};
 ghost use lib.Seq.{sets};
@@ -93,5 +93,14 @@ pub fn strike(flags: &mut [bool], i: usize)
 {
     if i < flags.len() {
         flags[i] = false;
+    }
+}
+
+// Puts the flag at index i up.
+pub fn raise(flags: &mut [bool], i: usize)
+    ensures { λ _. ⌜ now (flags .exit) ≡ set (now (flags .entry)) i true ⌝ }
+{
+    if i < flags.len() {
+        flags[i] = true;
     }
 }

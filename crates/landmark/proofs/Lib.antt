@@ -1,10 +1,26 @@
--- SoughtLaws: the search for a fact that a step is to write, by the cases of its loop.
-pub mod SoughtLaws
--- MarkWalkLaws: the two walks along a plan, by the cases of their loops.
-pub mod MarkWalkLaws
--- FlagTheorem: the flags that the walks make are the landmarks.
-pub mod FlagTheorem
+-- TraceLaws: the tables of a walk, by the cases of the code.
+pub mod TraceLaws
+-- RowLaws: the rows of supports, by the cases of the code.
+pub mod RowLaws
+-- WalkLaws: the walk along the steps, by the cases of the code.
+pub mod WalkLaws
+-- CloseLaws: the walk back, by the cases of the code.
+pub mod CloseLaws
+-- PositionLaws: flags of positions compared, and those of the steps among them.
+pub mod PositionLaws
+-- TraceTheorem: the tables of a walk tell the trace of each fact.
+pub mod TraceTheorem
+-- StartTheorem: the tables as a pass begins.
+pub mod StartTheorem
+-- WalkTheorem: the walks of a pass raise what the traces say.
+pub mod WalkTheorem
+-- PassLaws: what a pass along the positions of a plan raises.
+pub mod PassLaws
+-- PassTheorem: the passes find the landmarks.
+pub mod PassTheorem
+-- FlagLaws: the passes along a list, by the cases of the code.
+pub mod FlagLaws
 -- MarkLaws: what the function for landmarks and the services answer on each of their ways.
 pub mod MarkLaws
--- MarkTheorem: the marks are those of document 01's rule.
+-- MarkTheorem: the marks are those of document 02's rule.
 pub mod MarkTheorem

@@ -6,7 +6,7 @@ use mathlib.Core.Path.{_≡_, refl, sym, _∙_, ap}
 use mathlib.Core.Bool.{false}
 use mathlib.Core.Option.{none, some}
 use mathlib.Core.List.{List}
-use lib.ListN.{length, take, replicate, length-map}
+use lib.ListN.{length, replicate}
 use Rattle.refusal.specs.declared.Refusal.{Refusal}
 use Rattle.refusal.specs.declared.Verdict.{Verdict}
 use Rattle.refusal.specs.declared.Verdict.the-variants.{Passed, Refused as Refused-verdict}
@@ -17,12 +17,7 @@ use Rattle.reduction.specs.Reduction.{Reduction}
 use Rattle.reduction.proofs.LandmarkTheorem.{landmarks-length}
 use Rattle.tally.specs.declared.Tally.{Tally}
 use Rattle.mask.specs.Mask.{mask-length, mask-words}
-use Rattle.sheet.specs.declared.group.Group.{Group}
 use Rattle.sheet.specs.Decode.{initial, goal}
-use Rattle.sheet.specs.between.Group.{goal-group, facts-in}
-use Rattle.sheet.proofs.GroupLaws.{goal-facts}
-use Rattle.step.specs.State.{state-size, in-array}
-use Rattle.step.proofs.StateLaws.{front-initial}
 use Rattle.plan.specs.declared.check.Answer.{Answer}
 use Rattle.plan.specs.declared.check.Answer.the-variants.{Valid, Refused}
 use Rattle.plan.specs.Limits.{most-steps}
@@ -30,25 +25,11 @@ use Rattle.plan.specs.Valid.{steps}
 use Rattle.plan.specs.Readable.{Readable}
 use Rattle.plan.specs.Checked.{lodged-checks, plan-checks, told-answer, Checks}
 use Rattle.plan.specs.between.Lodged.{Checks-lodged}
-use Rattle.plan.proofs.PlanLaws.{steps-formed, passed-readable}
+use Rattle.plan.proofs.PlanLaws.{passed-readable}
 use Rattle.service.specs.between.Held.{mask, held, Leaves}
 use Rattle.service.proofs.HeldLaws.{leaves}
-use Rattle.fact_table.specs.between.Tables.{most-facts, is-wanted, not-wanted, stamped, goal-table}
 use Rattle.landmark.specs.Marks.{marks, Masks}
 use Rattle.landmark.specs.between.Flagged.{Marks, Marks-lodged}
-use Rattle.landmark.specs.between.Walks.{written-first, flags-walked}
-use Rattle.landmark.proofs.FlagTheorem.{walks-flag}
-
--- the walks flag the landmarks of a list that can be read
-pub flags-told : (w l values first goals : List ℕ) (n : ℕ) (g : Group) (flags : Reduction) → values ≡ in-array (initial w) → n ≡ state-size w
-    → first ≡ written-first (replicate most-facts most-steps) 0 (steps w l) → g ≡ goal-group w → goals ≡ stamped (replicate most-facts not-wanted) (facts-in w g) is-wanted
-    → flags ≡ flags-walked (take n values) first goals w l → Readable w l → flags ≡ held l (marks w l)
-unfolding marks goal-table
-flags-told w l values first goals n g flags starts fits firsts group stamps e readable =
-    let begins : take n values ≡ initial w = rw (fits, starts) (front-initial w (readable .accepted)) in
-    let wanted : goals ≡ goal-table w = stamps ∙ rw (group, goal-facts w) in
-    e ∙ rw (begins, firsts, wanted)
-    (ap (held l) (walks-flag w (readable .accepted) (initial w) (steps w l) most-steps (rw length-map (readable .few)) (steps-formed w l (readable .accepted) (readable .known))))
 
 -- a list over the limit can't be read
 pub too-long : (w l : List ℕ) (flags : Reduction) → most-steps < length l → Readable w l → flags ≡ held l (marks w l)

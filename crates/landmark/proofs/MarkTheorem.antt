@@ -1,4 +1,4 @@
--- The marks of a list are those of document 01's rule ("Marks"): `flagged-just-marked` says that the rule marks just the steps that are flagged, and each step
+-- The marks of a list are those of document 02's rule (C-12): `flagged-just-marked` says that the rule marks just the steps that are flagged, and each step
 -- has a flag, which is its bit in the mask that the service tells. Nothing here is about the code: its contract cites the same definitions. Assumes nothing.
 use Prim.Native.Nat.{ℕ, _≤_}
 use native.Mathlib.Omega.{arith}
@@ -11,9 +11,8 @@ use lib.ListN.{length, getD, length-map}
 use Rattle.refusal.specs.declared.Verdict.{Verdict}
 use Rattle.refusal.specs.Refusal.{told}
 use Rattle.refusal.specs.Check.{answer}
-use Rattle.sas.specs.Plan.{holds}
 use Rattle.reduction.specs.Reduction.{keeps}
-use Rattle.reduction.specs.Landmark.{Marked}
+use Rattle.reduction.specs.Landmark.{Landmark}
 use Rattle.reduction.proofs.LandmarkTheorem.{landmarks-length, flagged-just-marked}
 use Rattle.sheet.specs.Decode.{initial, goal, action}
 use Rattle.mask.specs.Mask.{mask-bits, bit-up}
@@ -24,7 +23,7 @@ use Rattle.plan.proofs.PlanLaws.{passed-readable}
 use Rattle.landmark.specs.Marks.{marks, Masks}
 
 -- step i of document 01 stands at index i − 1
-pub marks-theorem : (w l : List ℕ) (i : ℕ) → keeps (marks w l) i ↔ Marked (holds (initial w)) (goal w) (steps w l) i
+pub marks-theorem : (w l : List ℕ) (i : ℕ) → keeps (marks w l) i ↔ Landmark (initial w) (goal w) (steps w l) i
 unfolding marks
 marks-theorem w l i = flagged-just-marked (initial w) (goal w) (steps w l) i
 
@@ -35,7 +34,7 @@ marks-length w l = landmarks-length (initial w) (goal w) (steps w l) ∙ length-
 
 -- "Marks are returned as such a mask, one for marked": bit i of the mask told is one just where step i + 1 is marked
 pub bits-just-marked : (w l : List ℕ) (verdict : Verdict) (mask : List ℕ) → Masks w l verdict mask → told verdict ≡ none
-    → (i : ℕ) → bit-up mask i ≡ true ↔ Marked (holds (initial w)) (goal w) (steps w l) i
+    → (i : ℕ) → bit-up mask i ≡ true ↔ Landmark (initial w) (goal w) (steps w l) i
 bits-just-marked w l verdict mask masks passes i =
     let passed : answer (plan-checks w l) ≡ none = sym (masks .refusal) ∙ passes in
     let few : length (marks w l) ≤ mask-bits = omega (arith, marks-length w l, passed-readable [] w l passed .few) in

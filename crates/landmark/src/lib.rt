@@ -1,8 +1,9 @@
-// The landmarks of a plan (document 01: marks).
-// sought: the facts that a step is to write. walks: the two walks along a plan, from its last step. flags: the
-// landmarks of a plan.
+// The landmarks of a plan (document 01: marks, by the rule of document 02).
+// traces: what a walk along a plan knows of its facts. rows: the steps that support what a position needs. walks: the
+// two walks of a pass. flags: the passes that find the landmarks.
 // marks: what every service that needs them begins with, and the marks as a service.
 mod flags;
 pub mod marks;
-mod sought;
+mod rows;
+mod traces;
 mod walks;

@@ -1,67 +1,68 @@
-// The two walks along a plan, from its last step to its first: one finds the first writer of each fact, the other the
-// landmarks.
-use crate::sought::some_sought;
-use fact_table::pass_back;
-use fact_table::stamp;
-use plan::limits::Plan;
+// The two walks of a pass along the positions of a plan: from the first to the last for the supports of what each
+// needs, and back to raise the supports of each marked one.
+use crate::rows::note;
+use crate::rows::raise_marked;
+use crate::traces::write_facts;
+use access::flag;
+use sheet::group::Group;
 use sheet::group::facts_of;
+use sheet::group::goal;
 ghost use mathlib.Core.Path.{_≡_};
-ghost use Prim.Native.Nat.{_≤_};
+ghost use Prim.Native.Nat.{suc, _≤_};
 ghost use lib.ListN.{length};
-ghost use Rattle.sheet.specs.Decode.{action as action-of};
+ghost use Rattle.sheet.specs.between.Group.{facts-in};
+ghost use Rattle.sas.specs.Plan.{needed};
+ghost use Rattle.reduction.specs.Landmark.{step};
 ghost use Rattle.plan.specs.Limits.{most-steps};
 ghost use Rattle.plan.specs.Valid.{steps};
-ghost use Rattle.landmark.specs.between.Walks.{written-first, flags-walked, Marks-step};
+ghost use Rattle.landmark.specs.between.Passes.{framed-list, walk-tables, walked, closed};
 
-// Stamps each fact that a plan's steps write with the index of the first step that writes it.
-pub(crate) fn write_first(words: &[u32], plan: &[u32], first: &mut [u8])
-    requires { ⌜ length (now plan) ≤ most-steps ⌝ }
-    ensures { λ _. ⌜ now (first .exit)
-        ≡ written-first (now (first .entry)) 0 (steps (now (words .entry)) (now (plan .entry))) ⌝ }
+// What the position behind index i of a plan needs: a step's facts, or the goal's behind the last step.
+fn needs_at(words: &[u32], plan: &[u32], i: usize) -> Group
+    requires { ⌜ i ≤ length (now plan) ⌝ }
+    ensures { λ r. ⌜ facts-in (now (words .entry)) r
+        ≡ needed (step (framed-list (now (words .entry)) (now (plan .entry))) (suc i)) ⌝ }
 {
-    let mut i = plan.len();
-    while 0 < i {
-        i -= 1;
-        let facts = facts_of(words, plan[i]);
-        stamp(words, first, facts.effect, i as u8);
+    if i < plan.len() {
+        return facts_of(words, plan[i]).precondition;
     }
+    goal(words)
 }
 
-// Whether the step at index i is a landmark; the table then has the facts that are wanted before it.
-fn mark_step(
-    words: &[u32],
-    start: &[u32],
-    first: &[u8],
-    wanted: &mut [u8],
-    i: u8,
-    action: u32,
-) -> bool
-    ensures { λ r. ⌜ Marks-step (now (start .entry)) (now (first .entry)) (now (wanted .entry)) i
-        (action-of (now (words .entry)) action) r (now (wanted .exit)) ⌝ }
-{
-    let facts = facts_of(words, action);
-    let landmark = some_sought(words, start, first, wanted, i, facts.effect);
-    pass_back(words, wanted, facts, landmark);
-    landmark
-}
-
-// The landmarks among a plan's steps, from the first writers of all facts and the wanted facts of the goal.
-pub(crate) fn mark_steps(
+// Walks along the steps of a plan, of which `flags` has the marked positions, and notes what supports each need.
+pub(crate) fn walk(
     words: &[u32],
     plan: &[u32],
-    start: &[u32],
-    first: &[u8],
-    wanted: &mut [u8],
-) -> [bool; Plan::STEPS]
+    flags: &[bool],
+    traces: &mut [u8],
+    latest: &mut [u32],
+    rows: &mut [u8],
+)
     requires { ⌜ length (now plan) ≤ most-steps ⌝ }
-    ensures { λ r. ⌜ r ≡ flags-walked (now (start .entry)) (now (first .entry)) (now (wanted .entry))
-        (now (words .entry)) (now (plan .entry)) ⌝ }
+    ensures { λ _. ⌜ walk-tables (now (traces .exit)) (now (latest .exit)) (now (rows .exit))
+        ≡ walked (now (flags .entry)) 1 (steps (now (words .entry)) (now (plan .entry)))
+        (walk-tables (now (traces .entry)) (now (latest .entry)) (now (rows .entry))) ⌝ }
 {
-    let mut flags = [false; Plan::STEPS];
-    let mut i = plan.len();
-    while 0 < i {
-        i -= 1;
-        flags[i] = mark_step(words, start, first, wanted, i as u8, plan[i]);
+    let mut i = 0;
+    while i < plan.len() {
+        let facts = facts_of(words, plan[i]);
+        note(words, traces, rows, i + 1, facts.precondition);
+        let marked = flag(flags, i + 1);
+        write_facts(words, traces, latest, (i + 1) as u8, marked, facts.effect);
+        i += 1;
     }
-    flags
+}
+
+// Walks back from the end step of a plan, and raises the supports of what each marked position needs.
+pub(crate) fn close(words: &[u32], plan: &[u32], rows: &[u8], flags: &mut [bool])
+    requires { ⌜ length (now plan) ≤ most-steps ⌝ }
+    ensures { λ _. ⌜ now (flags .exit)
+        ≡ closed (now (rows .entry)) (framed-list (now (words .entry)) (now (plan .entry)))
+        (suc (suc (length (now (plan .entry))))) (now (flags .entry)) ⌝ }
+{
+    let mut i = plan.len() + 1;
+    while 0 < i {
+        raise_marked(words, rows, flags, i, needs_at(words, plan, i - 1));
+        i -= 1;
+    }
 }

@@ -17,7 +17,7 @@ use Rattle.sas.specs.Plan.{Plan}
 use Rattle.reduction.specs.Reduction.{meets, kept, count, valid}
 use Rattle.reduction.proofs.ValidLaws.{plan-valid}
 use Rattle.reduction.proofs.ReductionLaws.{kept-length, left-length, reduced-plan}
-use Rattle.reduction.proofs.LandmarkTheorem.{landmark-kept}
+use Rattle.reduction.proofs.LandmarksKept.{landmark-kept}
 use Rattle.reduction.specs.Minimal.{Minimal-reduction}
 use Rattle.reduction.proofs.MinimalTheorem.{minimal-found}
 use Rattle.mask.specs.Mask.{mask-bits}
@@ -32,7 +32,7 @@ use Rattle.minimal.specs.declared.within.Minimised.{Minimised}
 use Rattle.minimal.specs.Minimised.{unmarked-checks, minimal-checks, minimal-of, Minimises}
 use Rattle.minimal.specs.Statement.{Answered, Refused-unmarked, Demand-three}
 use Rattle.plan.specs.Readable.{Readable}
-use Rattle.plan.proofs.PlanLaws.{faultless-passes, passes-faultless}
+use Rattle.plan.proofs.PlanLaws.{steps-formed, faultless-passes, passes-faultless}
 use Rattle.landmark.specs.Marks.{unmarked}
 use Rattle.landmark.proofs.MarkTheorem.{marks-theorem, marks-length}
 
@@ -111,7 +111,7 @@ pub demand-three : (limit : ℕ) (w l before : List ℕ) (r : Minimised) (after 
     → Demand-three limit w l before (r .answer) (r .mask .words) after
 demand-three limit w l before r after minimises readable plan roomy =
     record {
-      marked-kept = λ m v i marked. landmark-kept v marked;
+      marked-kept = λ m v i marked. landmark-kept (steps-formed w l (readable .accepted) (readable .known)) v marked;
       flagged = marks-theorem w l;
       each-flagged = marks-length w l;
       answered = answered w l readable plan limit before roomy _ _ after (minimises .answers);

@@ -17,6 +17,7 @@ use Rattle.refusal.proofs.CheckLaws.{answer-fires, answer-passes, answer-nothin
 use Rattle.reduction.specs.Reduction.{Reduction, count, whole, meets}
 use Rattle.reduction.specs.between.Sound.{Flags-kept}
 use Rattle.reduction.proofs.ReductionLaws.{kept-length, kept-whole}
+use Rattle.reduction.proofs.RoundLaws.{count-few}
 use Rattle.reduction.proofs.LandmarksKept.{landmarks-kept}
 use Rattle.tally.specs.declared.Tally.{Tally}
 use Rattle.tally.proofs.TallyLaws.{same-tally}
@@ -28,7 +29,7 @@ use Rattle.plan.specs.declared.check.Answer.the-variants.{Valid, Refused}
 use Rattle.plan.specs.Valid.{steps}
 use Rattle.plan.specs.Readable.{Readable}
 use Rattle.plan.specs.Checked.{lodged-tally, told-answer}
-use Rattle.plan.proofs.PlanLaws.{passed-readable}
+use Rattle.plan.proofs.PlanLaws.{steps-formed, passed-readable}
 use Rattle.landmark.specs.Marks.{marks, marked, unmarked}
 use Rattle.landmark.specs.between.Flagged.{Marks, Marks-lodged}
 use Rattle.landmark.proofs.MarkLaws.{marks-leave}
@@ -46,15 +47,9 @@ use Rattle.minimal.specs.declared.within.Minimised.{Minimised}
 use Rattle.minimal.specs.Minimised.{unmarked-checks, minimal-checks, minimal-of, Minimises}
 use Rattle.minimal.specs.between.Written.{Writes, Refuses}
 
-count-few : (m : Reduction) → count m ≤ length m
-unfolding count
-count-few [] = omega arith
-count-few (true ∷ m) = omega (arith, count-few m)
-count-few (false ∷ m) = omega (arith, count-few m)
-
-marks-kept : (w l : List ℕ) → Flags-kept (meets (goal w)) (initial w) (steps w l) (marks w l)
+marks-kept : (w l : List ℕ) → Readable w l → Flags-kept (meets (goal w)) (initial w) (steps w l) (marks w l)
 unfolding marks
-marks-kept w l = landmarks-kept (initial w) (goal w) (steps w l)
+marks-kept w l readable = landmarks-kept (initial w) (goal w) (steps w l) (steps-formed w l (readable .accepted) (readable .known))
 
 -- a refusal, by the check that fires
 refuses-all : (limit : ℕ) (w l before : List ℕ) (refusal : Refusal) (r : Minimised) → answer (minimal-checks limit w l (length before)) ≡ some (told-refusal refusal)
@@ -145,7 +140,7 @@ module _ (limit : ℕ) (w l before : List ℕ) (v : Verdict) (given : Answer) (f
             readable = readable;
             fits = marks-left .fits;
             valid = lodged-valid _ w l passed;
-            flagged = rw (marks-left .same) (marks-kept w l);
+            flagged = rw (marks-left .same) (marks-kept w l readable);
             few = rw (marks-left .same) few;
           })
           (lodged-is ∙ whole-tally) in

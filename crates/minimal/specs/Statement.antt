@@ -7,9 +7,9 @@ use mathlib.Core.Option.{none, some}
 use mathlib.Core.List.{List, _++_}
 use lib.ListN.{length, drop, replicate}
 use Rattle.refusal.specs.Refusal.{Told}
-use Rattle.sas.specs.Plan.{holds, Plan}
+use Rattle.sas.specs.Plan.{Plan}
 use Rattle.reduction.specs.Reduction.{Reduction, keeps, kept, count, Valid-reduction}
-use Rattle.reduction.specs.Landmark.{Marked}
+use Rattle.reduction.specs.Landmark.{Landmark}
 use Rattle.reduction.specs.Minimal.{Minimal-reduction}
 use Rattle.tally.specs.Tally.{nothing}
 use Rattle.mask.specs.Mask.{mask-length, mask-words}
@@ -22,9 +22,9 @@ use Rattle.landmark.specs.Marks.{marks, unmarked}
 use Rattle.plan.specs.Readable.{Readable}
 
 module _ (w l : List ℕ) where
-  -- step i of the list is marked by the rule of document 01
+  -- step i of the list is marked by the rule of document 02 (C-12)
   abbrev pub Is-marked : ℕ → Type 0
-  Is-marked i = Marked (holds (initial w)) (goal w) (steps w l) i
+  Is-marked i = Landmark (initial w) (goal w) (steps w l) i
 
   -- a valid reduction of the list
   abbrev pub Valid-striking : Reduction → Type 0

@@ -25,7 +25,7 @@ use Rattle.reduction.specs.between.Cuts.{wanted-held, tests}
 use Rattle.reduction.specs.between.Course.{held-after, held, On-course}
 use Rattle.reduction.proofs.ReductionLaws.{whole-valid, contains-behind, alike-behind}
 use Rattle.reduction.proofs.MemberLaws.{found, has-member, member-has, has-no-member}
-use Rattle.reduction.proofs.WantedLaws.{wanted-holds, wanted-before, why-wanted, by-step}
+use Rattle.reduction.proofs.WantedLaws.{wanted-holds, wanted-before, first-wanted}
 use Rattle.reduction.proofs.HeldLaws.{all-satisfied, run-length, step-formed, apply-held, held-more, held-kept, held-struck, held-alike}
 use Rattle.reduction.proofs.BeforeLaws.{before-first, rest-valid, before-next}
 use Rattle.reduction.proofs.TurnLaws.{turns, strike-flagged, keep-goes-on}
@@ -183,7 +183,7 @@ module _ (goal : Assignment) (s : State) (p : List Action) (flags : Reduction) (
           needs-hold f need =
               course .supplied f
               (rw (drop-cons p (v .index) idle inside, drop-cons flags (v .index) false (omega arith))
-              (why-wanted goal _ _ f (by-step 0 up need (λ k h. absurd (omega arith)))))
+              (first-wanted goal _ _ f up need))
 
       -- a flagged step is passed without a test
       pub course-passes : getD flags (v .index) false ≡ true → On-course goal s p flags v

@@ -1,130 +1,155 @@
--- The steps that `landmarks` flags are just those that the rule marks, and so every valid reduction keeps every marked step. A step behind the first one
--- is marked in the whole list just when it is marked in the rest, with what the first step writes counted as held; the first step by the reason for which
--- its fact is wanted. Assumes nothing.
-use Prim.Native.Nat.{ℕ, zero, suc, _<_}
+-- The steps that `landmarks` flags are just those that the rule marks, and as many rounds as there are steps reach them all: by induction on the rounds, on the
+-- rule and on the rounds' rule, since what is flagged after so many rounds is closed under links. Assumes nothing.
+use Prim.Native.Nat.{ℕ, zero, suc, _+_, _≤_, _<_}
 use native.Mathlib.Omega.{arith}
-use mathlib.Core.Path.{_≡_, refl, ap}
-use mathlib.Core.Logic.{_↔_, _≢_}
-use mathlib.Core.Bool.{Bool, true, false, false≢true, not, _&&_}
-use mathlib.Core.List.{List, [], _∷_}
-use lib.ListN.{length}
-use Rattle.sas.specs.Task.{Fact, Assignment, State, Action}
-use Rattle.sas.specs.Plan.{holds, written, may-write}
-use Rattle.sas.proofs.ActionLaws.{idle-writes-nothing}
-use Rattle.reduction.specs.Reduction.{Reduction, keeps, Valid-reduction}
-use Rattle.reduction.specs.Landmark.{step, Sole-writer, Marked}
-use Rattle.reduction.specs.Landmark.Marked.{for-goal, for-step}
-use Rattle.reduction.specs.between.Wanted.{has, wanted}
-use Rattle.reduction.proofs.MemberLaws.{or-neither, found, has-no-member, no-member-has}
-use Rattle.reduction.proofs.WantedLaws.{Unwritten, Wanted-by, wanted-why, why-wanted}
-use Rattle.reduction.proofs.WantedLaws.Wanted-by.{by-goal, by-step}
-use Rattle.reduction.proofs.LandmarksKept.{passed, flags-behind, flagged-fact, landmarks-kept}
-use Rattle.reduction.specs.between.Landmarks.{landmarks-behind, landmarks}
+use mathlib.Core.Path.{_≡_, refl, sym, _∙_, ap}
+use mathlib.Core.Logic.{_↔_, _⊎_, inl, inr, ⊎-elim}
+use mathlib.Core.Bool.{true, false, false≢true}
+use mathlib.Core.List.{List, [], _∷_, _++_}
+use lib.ListN.{length, getD, take, drop, replicate, length-append, length-replicate, length-drop}
+use lib.Seq.{length-take-le, getD-take, getD-drop}
+use Rattle.sas.specs.Task.{Assignment, State, Action}
+use Rattle.reduction.specs.Reduction.{Reduction, keeps, count}
+use Rattle.reduction.specs.Landmark.{framed, Marked, Landmark, In-round}
+use Rattle.reduction.specs.Landmark.Marked.{start-marked, end-marked, linked}
+use Rattle.reduction.specs.Landmark.In-round.{start-first, end-first, linked-in}
+use Rattle.reduction.specs.between.Order.{Contains}
+use Rattle.reduction.specs.between.Landmarks.{rounds, ends-alone, of-steps, landmarks}
+use Rattle.reduction.proofs.ReductionLaws.{kept-inside}
+use Rattle.reduction.proofs.RoundLaws.{Closed, links, round-more, round-why, round-has, rounds-length, rounds-settle, settled-closed}
 
-module _ {f : Fact} {n : ℕ} (a : Action) (p : List Action) where
-  -- the first step writes f, and none behind it does
-  sole-first : may-write a f → Unwritten p n f → Sole-writer (a ∷ p) (suc n) f 0
-  sole-first w u = record { before = omega arith; writes = w; alone = others }
+-- flags of which the last alone is up
+last-up : (n : ℕ) → keeps (replicate n false ++ (true ∷ [])) n
+last-up zero = refl
+last-up (suc n) = last-up n
+
+last-why : (n k : ℕ) → keeps (replicate n false ++ (true ∷ [])) k → k ≡ n
+last-why zero zero up = refl
+last-why zero (suc k) up = absurd (false≢true up)
+last-why (suc n) zero up = absurd (false≢true up)
+last-why (suc n) (suc k) up = ap suc (last-why n k up)
+
+last-count : (n : ℕ) → count (replicate n false ++ (true ∷ [])) ≡ 1
+unfolding count
+last-count zero = refl
+last-count (suc n) = last-count n
+
+-- the flags of the first n steps among those of the positions
+module _ (n : ℕ) (m : Reduction) where
+  pub step-flag : (i : ℕ) → i < n → getD (take n (drop 1 m)) i false ≡ getD m (suc i) false
+  step-flag i inside =
+      let next : 1 + i ≡ suc i = omega arith in
+      getD-take n (drop 1 m) i false inside ∙ getD-drop 1 m i false ∙ rw next
+
+  pub step-flags-length : n < length m → length (take n (drop 1 m)) ≡ n
+  step-flags-length room = length-take-le n (drop 1 m) (omega (arith, length-drop 1 m))
+
+module _ (p : List Action) where
+  -- start and end alone
+  pub ends-why : (k : ℕ) → keeps (ends-alone p) k → (k ≡ 0) ⊎ (k ≡ suc (length p))
+  ends-why zero up = inl refl
+  ends-why (suc k) up = inr (ap suc (last-why (length p) k up))
+
+  pub ends-length : length (ends-alone p) ≡ suc (suc (length p))
+  ends-length = ap suc (length-append (replicate (length p) false) (true ∷ []) ∙ rw length-replicate (omega arith))
+
+  ends-count : count (ends-alone p) ≡ 2
+  unfolding count
+  ends-count = ap suc (last-count (length p))
+
+pub framed-length : (s : State) (goal : Assignment) (p : List Action) → length (framed s goal p) ≡ suc (suc (length p))
+unfolding framed
+framed-length s goal p = ap suc (length-append p _ ∙ omega arith)
+
+module _ (s : State) (goal : Assignment) (p : List Action) where
+  -- the flags of all positions after r rounds
+  abbrev pub flags : ℕ → Reduction
+  flags r = rounds (framed s goal p) (ends-alone p) r
+
+  pub flags-length : (r : ℕ) → length (flags r) ≡ suc (suc (length p))
+  flags-length r = rounds-length (framed s goal p) (ends-alone p) r ∙ ends-length p
+
+  pub flags-fit : (r : ℕ) → length (flags r) ≡ length (framed s goal p)
+  flags-fit r = flags-length r ∙ sym (framed-length s goal p)
+
+  flags-more : (r : ℕ) → Contains (flags (suc r)) (flags r)
+  unfolding rounds
+  flags-more r = round-more (framed s goal p) (flags r)
+
+  pub start-up : (r : ℕ) → keeps (flags r) 0
+  unfolding rounds
+  start-up zero = refl
+  start-up (suc r) = flags-more r 0 (start-up r)
+
+  pub end-up : (r : ℕ) → keeps (flags r) (suc (length p))
+  unfolding rounds
+  end-up zero = last-up (length p)
+  end-up (suc r) = flags-more r (suc (length p)) (end-up r)
+
+  -- what a round flags the rounds' rule has
+  flagged-in-round : (r k : ℕ) → keeps (flags r) k → (a : ℕ) × (a ≤ r) × In-round s goal p a k
+  unfolding rounds
+  flagged-in-round zero k up =
+      ⊎-elim
+      (λ first. (0, omega arith, rw first start-first))
+      (λ last. (0, omega arith, rw last end-first))
+      (ends-why p k up)
+  flagged-in-round (suc r) k up =
+      ⊎-elim
+      (λ before. let (a, few, found) = flagged-in-round r k before in (a, omega arith, found))
+      (λ l.
+      let (a, few, earlier) = flagged-in-round r (l .i) (l .marked-earlier) in
+      let (b, few′, later) = flagged-in-round r (l .j) (l .marked-later) in
+      (suc r, omega arith, linked-in (omega arith) (omega arith) earlier later (l .link)))
+      (round-why (framed s goal p) (flags r) k (start-up r) up)
+
+  -- and what it has is flagged then, and from then on
+  in-round-flagged : {a k : ℕ} (r : ℕ) → a ≤ r → In-round s goal p a k → keeps (flags r) k
+  unfolding rounds
+  in-round-flagged r few start-first = start-up r
+  in-round-flagged r few end-first = end-up r
+  in-round-flagged zero few (linked-in below below′ earlier later link) = absurd (omega arith)
+  in-round-flagged (suc r) few (linked-in {k = k} below below′ earlier later link) =
+      round-has (framed s goal p) (flags r) (flags-fit r) k
+      (links (in-round-flagged r (omega arith) earlier) (in-round-flagged r (omega arith) later) link)
+
+  -- every step of a round is marked
+  pub in-round-marked : {r k : ℕ} → In-round s goal p r k → Marked s goal p k
+  in-round-marked start-first = start-marked
+  in-round-marked end-first = end-marked
+  in-round-marked (linked-in below below′ earlier later link) = linked (in-round-marked earlier) (in-round-marked later) link
+
+  -- as many rounds as there are steps are closed under links
+  pub last-closed : Closed (framed s goal p) (flags (length p))
+  last-closed =
+      settled-closed (framed s goal p) (ends-alone p) (length p) (ends-length p ∙ sym (framed-length s goal p))
+      (rounds-settle (framed s goal p) (ends-alone p) (length p) (omega (arith, ends-length p, ends-count p)))
+
+  marked-flagged : {k : ℕ} → Marked s goal p k → keeps (flags (length p)) k
+  marked-flagged start-marked = start-up (length p)
+  marked-flagged end-marked = end-up (length p)
+  marked-flagged (linked {k = k} earlier later link) =
+      last-closed k (links (marked-flagged earlier) (marked-flagged later) link)
+
+  -- every marked step is in some round, and no step needs more rounds than there are steps
+  pub marked-in-round : {k : ℕ} → Marked s goal p k → (r : ℕ) × (r ≤ length p) × In-round s goal p r k
+  marked-in-round {k} marked = flagged-in-round (length p) k (marked-flagged marked)
+
+  -- each step has a flag
+  pub landmarks-length : length (landmarks s goal p) ≡ length p
+  unfolding landmarks
+  landmarks-length = step-flags-length (length p) (flags (length p)) (omega (arith, flags-length (length p)))
+
+  -- a step is flagged just where the rule marks it
+  pub flagged-just-marked : (i : ℕ) → keeps (landmarks s goal p) i ↔ Landmark s goal p i
+  unfolding landmarks
+  flagged-just-marked i = (to, from)
     where
-      others : (k : ℕ) → k < suc n → k ≢ 0 → may-write (step (a ∷ p) k) f → ⊥
-      others zero h other = absurd (other refl)
-      others (suc k) h other = u k (omega arith)
+      to : keeps (landmarks s goal p) i → Landmark s goal p i
+      to up =
+          let inside : i < length p = rw landmarks-length at (kept-inside (landmarks s goal p) i up) in
+          let (r, few, found) = flagged-in-round (length p) (suc i) (sym (step-flag (length p) (flags (length p)) i inside) ∙ up) in
+          (inside, in-round-marked found)
 
-  others-unwritten : Sole-writer (a ∷ p) (suc n) f 0 → Unwritten p n f
-  others-unwritten sole k h = sole .alone (suc k) (omega arith) (λ e. omega arith)
-
-  module _ {i : ℕ} where
-    sole-later : (may-write a f → ⊥) → Sole-writer p n f i → Sole-writer (a ∷ p) (suc n) f (suc i)
-    sole-later first sole = record { before = omega (arith, sole .before); writes = sole .writes; alone = others }
-      where
-        others : (k : ℕ) → k < suc n → k ≢ suc i → may-write (step (a ∷ p) k) f → ⊥
-        others zero h other = first
-        others (suc k) h other = sole .alone k (omega arith) (λ e. other (ap suc e))
-
-    first-unwritten : Sole-writer (a ∷ p) (suc n) f (suc i) → may-write a f → ⊥
-    first-unwritten sole = sole .alone 0 (omega arith) (λ e. omega arith)
-
-    sole-sooner : Sole-writer (a ∷ p) (suc n) f (suc i) → Sole-writer p n f i
-    sole-sooner sole =
-        record { before = omega (arith, sole .before); writes = sole .writes; alone = λ k h other. sole .alone (suc k) (omega arith) (λ e. other (omega arith)) }
-
-module _ (held : Fact → Bool) (goal : Assignment) (a : Action) (p : List Action) where
-  marked-later : {i : ℕ} → Marked (passed held a) goal p i → Marked held goal (a ∷ p) (suc i)
-  marked-later (for-goal {f = f} unheld sole g) =
-      let (before, unwritten) = or-neither (held f) (has (written a) f) unheld in
-      for-goal before (sole-later a p (has-no-member (written a) f unwritten) sole) g
-  marked-later (for-step {f = f} unheld sole need m) =
-      let (before, unwritten) = or-neither (held f) (has (written a) f) unheld in
-      for-step before (sole-later a p (has-no-member (written a) f unwritten) sole) need (marked-later m)
-
-  not-passed : (f : Fact) → held f ≡ false → (may-write a f → ⊥) → passed held a f ≡ false
-  not-passed f unheld first = rw (unheld, no-member-has (written a) f first)
-
-  marked-sooner : {i : ℕ} → Marked held goal (a ∷ p) (suc i) → Marked (passed held a) goal p i
-  marked-sooner (for-goal {f = f} unheld sole g) = for-goal (not-passed f unheld (first-unwritten a p sole)) (sole-sooner a p sole) g
-  marked-sooner (for-step {j = zero} {f = f} unheld sole need m) = absurd (omega (arith, sole .before))
-  marked-sooner (for-step {j = suc j} {f = f} unheld sole need m) =
-      for-step (not-passed f unheld (first-unwritten a p sole)) (sole-sooner a p sole) need (marked-sooner m)
-
-  -- a fact flags the first step where it is a fact of that step's effect, not held, and wanted behind it
-  flagged-by : (f : Fact) → may-write a f → held f ≡ false → wanted goal p (flags-behind held goal a p) f ≡ true
-      → keeps (landmarks-behind held goal (a ∷ p)) 0
-  unfolding landmarks-behind
-  flagged-by f w unheld behind = found (λ f. not (held f) && wanted goal p (flags-behind held goal a p) f) w (rw (unheld, behind))
-
-  -- the first step is flagged where it is marked, if the rest is flagged where it is marked
-  first-flagged : ((j : ℕ) → Marked (passed held a) goal p j → keeps (flags-behind held goal a p) j) → Marked held goal (a ∷ p) 0
-      → keeps (landmarks-behind held goal (a ∷ p)) 0
-  first-flagged rest (for-goal {f = f} unheld sole g) =
-      flagged-by f (sole .writes) unheld (why-wanted goal p (flags-behind held goal a p) f (by-goal g (others-unwritten a p sole)))
-  first-flagged rest (for-step {j = zero} unheld sole need m) = absurd (omega (arith, sole .before))
-  first-flagged rest (for-step {j = suc j} {f = f} unheld sole need m) =
-      flagged-by f (sole .writes) unheld
-      (why-wanted goal p (flags-behind held goal a p) f (by-step j (rest j (marked-sooner m)) need (others-unwritten a p sole)))
-
-  -- and marked where it is flagged, if the rest is marked where it is flagged
-  first-marked : ((j : ℕ) → keeps (flags-behind held goal a p) j → Marked (passed held a) goal p j) → keeps (landmarks-behind held goal (a ∷ p)) 0
-      → Marked held goal (a ∷ p) 0
-  first-marked rest k =
-      let (f, w, unheld, behind) = flagged-fact held goal a p k in
-      by-reason f w unheld (wanted-why goal p (flags-behind held goal a p) f behind)
-    where
-      by-reason : (f : Fact) → may-write a f → held f ≡ false → Wanted-by goal p (flags-behind held goal a p) f → Marked held goal (a ∷ p) 0
-      by-reason f w unheld (by-goal g u) = for-goal unheld (sole-first a p w u) g
-      by-reason f w unheld (by-step j flagged need u) = for-step unheld (sole-first a p w u) need (marked-later (rest j flagged))
-
-unmarked : {held : Fact → Bool} {goal : Assignment} {i : ℕ} → Marked held goal [] i → ⊥
-unmarked (for-goal unheld sole g) = idle-writes-nothing (sole .writes)
-unmarked (for-step unheld sole need m) = idle-writes-nothing (sole .writes)
-
-marked-flagged : (held : Fact → Bool) (goal : Assignment) (p : List Action) (i : ℕ) → Marked held goal p i → keeps (landmarks-behind held goal p) i
-unfolding landmarks-behind
-marked-flagged held goal [] i m = absurd (unmarked m)
-marked-flagged held goal (a ∷ p) zero m = first-flagged held goal a p (marked-flagged (passed held a) goal p) m
-marked-flagged held goal (a ∷ p) (suc i) m = marked-flagged (passed held a) goal p i (marked-sooner held goal a p m)
-
-flagged-marked : (held : Fact → Bool) (goal : Assignment) (p : List Action) (i : ℕ) → keeps (landmarks-behind held goal p) i → Marked held goal p i
-unfolding landmarks-behind
-flagged-marked held goal [] i k = absurd (false≢true k)
-flagged-marked held goal (a ∷ p) zero k = first-marked held goal a p (flagged-marked (passed held a) goal p) k
-flagged-marked held goal (a ∷ p) (suc i) k = marked-later held goal a p (flagged-marked (passed held a) goal p i k)
-
-flags-length : (held : Fact → Bool) (goal : Assignment) (p : List Action) → length (landmarks-behind held goal p) ≡ length p
-unfolding landmarks-behind
-flags-length held goal [] = refl
-flags-length held goal (a ∷ p) = ap suc (flags-length (passed held a) goal p)
-
--- each step has a flag
-pub landmarks-length : (s : State) (goal : Assignment) (p : List Action) → length (landmarks s goal p) ≡ length p
-unfolding landmarks
-landmarks-length s goal p = flags-length (holds s) goal p
-
--- a step is flagged just where the rule marks it
-pub flagged-just-marked : (s : State) (goal : Assignment) (p : List Action) (i : ℕ) → keeps (landmarks s goal p) i ↔ Marked (holds s) goal p i
-unfolding landmarks
-flagged-just-marked s goal p i = (flagged-marked (holds s) goal p i, marked-flagged (holds s) goal p i)
-
--- every valid reduction keeps every marked step
-pub landmark-kept : {s : State} {goal : Assignment} {p : List Action} {m : Reduction} {i : ℕ}
-    → Valid-reduction s goal p m → Marked (holds s) goal p i → keeps m i
-landmark-kept {s} {goal} {p} {m} {i} v marked = landmarks-kept s goal p m v i (flagged-just-marked s goal p i .1 marked)
+      from : Landmark s goal p i → keeps (landmarks s goal p) i
+      from (inside, marked) = step-flag (length p) (flags (length p)) i inside ∙ marked-flagged marked

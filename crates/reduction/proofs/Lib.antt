@@ -6,10 +6,18 @@ pub mod ReductionLaws
 pub mod MemberLaws
 -- WantedLaws: which facts are wanted behind a step, and that those hold in every valid reduction.
 pub mod WantedLaws
--- LandmarksKept: every valid reduction keeps every flagged step.
-pub mod LandmarksKept
--- LandmarkTheorem: the steps flagged are the landmarks, and every valid reduction keeps them.
+-- FrameLaws: the positions of a list with its start step and its end step.
+pub mod FrameLaws
+-- LinkLaws: the trace of a fact tells the links of the rule for marks.
+pub mod LinkLaws
+-- RoundLaws: a round of marks raises just what the rule links, and as many rounds as steps are enough.
+pub mod RoundLaws
+-- LandmarkTheorem: the steps flagged are the landmarks, and as many rounds as there are steps reach them.
 pub mod LandmarkTheorem
+-- LandmarksKept: every valid reduction keeps every marked step.
+pub mod LandmarksKept
+-- OlderTheorem: every step that document 01's rule marks is still marked.
+pub mod OlderTheorem
 -- TrialLaws: what a walk and a successful trial leave, and that a trial walks along the rest from the state before its step.
 pub mod TrialLaws
 -- PartWalk: a walk in the first values of a state is the walk in the state.

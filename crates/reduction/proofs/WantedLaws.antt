@@ -1,12 +1,12 @@
 -- Which facts are wanted behind a step, and that those hold in every valid reduction that keeps the flagged steps: the goal needs them at the end or a
 -- kept step before it, and what no step between writes held before. By one walk along the steps. Assumes nothing.
-use Prim.Native.Nat.{ℕ, zero, suc, _<_}
+use Prim.Native.Nat.{ℕ, suc}
 use native.Mathlib.Omega.{arith}
-use mathlib.Core.Path.{_≡_, refl, _∙_}
+use mathlib.Core.Path.{_≡_, refl}
 use mathlib.Core.Logic.{_⊎_, inl, inr, ⊎-elim}
 use mathlib.Core.Bool.{Bool, true, false, false≢true, not, _&&_, and-eq-true-iff, or-true}
 use mathlib.Core.Option.{some}
-use mathlib.Core.List.{List, [], _∷_, List·Memᴰ}
+use mathlib.Core.List.{List, [], _∷_}
 use lib.ListN.{length, getD, drop}
 use borrow.Author.Tests.{not-true}
 use Rattle.sas.specs.Task.{Fact, Assignment, State, Action}
@@ -63,51 +63,14 @@ wanted-holds ends goal met s (a ∷ p) (true ∷ r) m f fits v c w =
     (wanted-holds ends goal met t p r (drop 1 m) f (omega arith) rest (λ i k. c (suc i) (rw keeps-later at k)) behind))
     (wanted-cases goal a p m f w)
 
--- none of the steps before index n may write f
-abbrev pub Unwritten : List Action → ℕ → Fact → Type 0
-Unwritten p n f = (k : ℕ) → k < n → may-write (step p k) f → ⊥
-
-unwritten-more : {f : Fact} {n : ℕ} (a : Action) (p : List Action) → (may-write a f → ⊥) → Unwritten p n f → Unwritten (a ∷ p) (suc n) f
-unwritten-more a p first rest zero h = first
-unwritten-more a p first rest (suc k) h = rest k (omega arith)
-
--- why a fact is wanted: the goal or a flagged step needs it, and no step before that writes it
-pub data Wanted-by (goal : Assignment) (p : List Action) (m : Reduction) (f : Fact) : Type 0 where
-  by-goal : List·Memᴰ f goal → Unwritten p (length p) f → Wanted-by goal p m f
-  by-step : (j : ℕ) → keeps m j → needs (step p j) f → Unwritten p j f → Wanted-by goal p m f
-
-wanted-later : {goal : Assignment} {f : Fact} (a : Action) (p : List Action) (m : Reduction) → (may-write a f → ⊥)
-    → Wanted-by goal p (drop 1 m) f → Wanted-by goal (a ∷ p) m f
-wanted-later a p m first (by-goal g u) = by-goal g (unwritten-more a p first u)
-wanted-later a p m first (by-step j k need u) = by-step (suc j) (rw keeps-later at k) need (unwritten-more a p first u)
-
-pub wanted-why : (goal : Assignment) (p : List Action) (m : Reduction) (f : Fact) → wanted goal p m f ≡ true → Wanted-by goal p m f
-unfolding wanted
-wanted-why goal [] m f w = by-goal (has-member goal f w) (λ k h. absurd (omega arith))
-wanted-why goal (a ∷ p) m f w =
-    ⊎-elim
-    (λ (flagged, need). by-step 0 flagged need (λ k h. absurd (omega arith)))
-    (λ (unwritten, behind). wanted-later a p m unwritten (wanted-why goal p (drop 1 m) f behind))
-    (wanted-cases goal a p m f w)
-
 -- a fact that the first step does not write and that is wanted behind it is wanted before it
 pub wanted-before : (goal : Assignment) (a : Action) (p : List Action) (m : Reduction) (f : Fact) → (may-write a f → ⊥) → wanted goal p (drop 1 m) f ≡ true
     → wanted goal (a ∷ p) m f ≡ true
 unfolding wanted
 wanted-before goal a p m f unwritten h = rw (no-member-has (written a) f unwritten, h, or-true)
 
-goal-wanted : (goal : Assignment) (p : List Action) (m : Reduction) (f : Fact) → List·Memᴰ f goal → Unwritten p (length p) f → wanted goal p m f ≡ true
+-- what a flagged first step needs is wanted
+pub first-wanted : (goal : Assignment) (p : List Action) (m : Reduction) (f : Fact) → keeps m 0 → needs (step p 0) f → wanted goal p m f ≡ true
 unfolding wanted
-goal-wanted goal [] m f g u = member-has g
-goal-wanted goal (a ∷ p) m f g u = wanted-before goal a p m f (u 0 (omega arith)) (goal-wanted goal p (drop 1 m) f g (λ k h. u (suc k) (omega arith)))
-
-step-wanted : (goal : Assignment) (p : List Action) (m : Reduction) (f : Fact) (j : ℕ) → keeps m j → needs (step p j) f → Unwritten p j f → wanted goal p m f ≡ true
-unfolding wanted
-step-wanted goal [] m f j k need u = absurd (idle-needs-nothing need)
-step-wanted goal (a ∷ p) m f zero k need u = rw (k, member-has need)
-step-wanted goal (a ∷ p) m f (suc j) k need u =
-    wanted-before goal a p m f (u 0 (omega arith)) (step-wanted goal p (drop 1 m) f j (keeps-later m j ∙ k) need (λ i h. u (suc i) (omega arith)))
-
-pub why-wanted : (goal : Assignment) (p : List Action) (m : Reduction) (f : Fact) → Wanted-by goal p m f → wanted goal p m f ≡ true
-why-wanted goal p m f (by-goal g u) = goal-wanted goal p m f g u
-why-wanted goal p m f (by-step j k need u) = step-wanted goal p m f j k need u
+first-wanted goal [] m f k need = absurd (idle-needs-nothing need)
+first-wanted goal (a ∷ p) m f k need = rw (k, member-has need)

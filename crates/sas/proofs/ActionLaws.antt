@@ -1,7 +1,7 @@
 -- What theorems about plans use of an action, and all that they use: the facts that it may write and those that it needs, and what holds between a
 -- state and its result. For another kind of action these laws are proved again, with those of domains, which look into its effect too. That the facts of a
 -- satisfied goal hold is `satisfied-holds`. By the laws of `assign`. Assumes nothing.
-use mathlib.Core.Path.{_≡_, refl, sym, _∙_}
+use mathlib.Core.Path.{_≡_, refl, sym, _∙_, ap}
 use Prim.Native.Nat.{ℕ, _<_}
 use mathlib.Core.Logic.{_⊎_, ⊎-elim, _≢_}
 use mathlib.Core.Bool.{Bool, true, false, true≢false}
@@ -11,7 +11,7 @@ use lib.ListN.{length, getD}
 use Rattle.sas.specs.Task.{Fact, State, Action, idle}
 use Rattle.sas.specs.Plan.{holds, satisfies, applicable, apply, result, written, needed, may-write, needs}
 use Rattle.sas.specs.between.WellFormed.{Known, Action-formed}
-use Rattle.sas.proofs.FactLaws.{satisfied-holds}
+use Rattle.sas.proofs.FactLaws.{holds-variable, holds-value, satisfied-holds}
 use Rattle.sas.proofs.WellFormedLaws.{rising-known}
 use Rattle.sas.proofs.AssignLaws.{assign-length, assign-other, assigned-holds, assigned-or-held}
 
@@ -76,6 +76,20 @@ module _ {domains : List ℕ} {f : Fact} (a : Action) (formed : Action-formed do
   pub apply-holds : (s : State) → may-write a f → f .variable < length s → holds (apply s a) f ≡ true
   unfolding apply written
   apply-holds s w below = assigned-holds s (formed .effect) w below
+
+  -- so that another value of the same variable fails
+  pub other-fails : (s : State) (g : Fact) → may-write a f → f .variable ≡ g .variable → f .value ≢ g .value → holds (apply s a) g ≡ false
+  other-fails s g w same other = by-case (holds (apply s a) g) refl
+    where
+      t : State
+      t = apply s a
+
+      by-case : (b : Bool) → holds t g ≡ b → b ≡ false
+      by-case false e = refl
+      by-case true e =
+          let below : f .variable < length s = rw (same, ← apply-length s a) (holds-variable t g e) in
+          let here : getD t (f .variable) 0 ≡ f .value = holds-value t f (apply-holds s w below) in
+          absurd (other (sym here ∙ ap (λ v. getD t v 0) same ∙ holds-value t g e))
 
   -- and is known, as is what it needs
   pub written-known : may-write a f → Known domains f

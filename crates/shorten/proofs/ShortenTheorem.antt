@@ -9,7 +9,8 @@ use Rattle.sheet.specs.Decode.{task}
 use Rattle.plan.specs.Limits.{most-steps}
 use Rattle.plan.specs.Valid.{steps}
 use Rattle.plan.specs.Readable.{Readable}
-use Rattle.reduction.proofs.LandmarkTheorem.{landmark-kept}
+use Rattle.reduction.proofs.LandmarksKept.{landmark-kept}
+use Rattle.plan.proofs.PlanLaws.{steps-formed}
 use Rattle.landmark.specs.Marks.{unmarked}
 use Rattle.minimal.specs.Minimised.{most-unmarked, minimal-of}
 use Rattle.minimal.proofs.DemandThree.{is-minimal, plan-left, few-pass, many-refused}
@@ -44,7 +45,7 @@ module _ (w l : List ℕ) (sized : Word-sized w) (sized-list : Word-sized l) (re
 pub demand-three-printed : (w l : List ℕ) → Demand-three-printed w l
 demand-three-printed w l sized sized-list readable plan =
     record {
-      marked-kept = λ m v i marked. landmark-kept v marked;
+      marked-kept = λ m v i marked. landmark-kept (steps-formed w l (readable .accepted) (readable .known)) v marked;
       answered = reported w l sized sized-list readable plan;
       refused = refuses w l sized sized-list readable plan;
     }

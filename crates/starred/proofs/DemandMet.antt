@@ -12,8 +12,9 @@ use Rattle.sas.specs.Plan.{holds, first-failing, satisfies, applicable, assign,
 use Rattle.reduction.specs.Reduction.{kept, count}
 use Rattle.reduction.specs.between.Order.{lower}
 use Rattle.reduction.specs.between.Elimination.{better}
-use Rattle.reduction.specs.between.Wanted.{some-fact, same-fact, has, wanted}
-use Rattle.reduction.specs.between.Landmarks.{landmarks-behind, landmarks}
+use Rattle.reduction.specs.between.Wanted.{some-fact, same-fact, has}
+use Rattle.reduction.specs.Landmark.{values-from, framed}
+use Rattle.reduction.specs.between.Landmarks.{sets-other, passed, trace, raised, round-to, rounds as mark-rounds, landmarks}
 use Rattle.reduction.specs.between.Found.{found, minimal}
 use Rattle.mask.specs.Mask.{binary, words-of, mask-words}
 use Rattle.landmark.specs.Marks.{marks}
@@ -44,7 +45,7 @@ module _ (before : List ℕ) (six : length before ≡ 6) where
     -- and so the service answers as document 01 says of worked list 2
     pub answer-met : (told-answer given ≡ none) × (told-tally given ≡ record { cost = 12; steps = 3 })
         × (mask ≡ 56 ∷ 0 ∷ 0 ∷ 0 ∷ []) × (after ≡ 0 ∷ 1 ∷ 2 ∷ drop 3 before)
-    unfolding table facts initial goal action holds first-failing satisfies applicable assign apply written needed cost kept count lower better found minimal some-fact same-fact has wanted landmarks-behind landmarks marks binary words-of mask-words
+    unfolding table facts initial goal action holds first-failing satisfies applicable assign apply written needed cost kept count lower better found minimal some-fact same-fact has values-from framed sets-other passed trace raised round-to mark-rounds landmarks marks binary words-of mask-words
     answer-met =
         let (readable, plan, roomy) = premises-met in
         let answered : Answered sheet-p list-1 before given mask after = demand-three-met .answered (lit≤ tt) in

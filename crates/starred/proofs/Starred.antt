@@ -16,8 +16,9 @@ use Rattle.reduction.specs.Reduction.{Reduction, kept, count, valid-for, valid,
 use Rattle.reduction.specs.between.Order.{lower}
 use Rattle.reduction.specs.between.Elimination.{trial, eliminated, eliminate, better, best, rounds, greedy}
 use Rattle.reduction.specs.Trials.{walk, after}
-use Rattle.reduction.specs.between.Wanted.{some-fact, same-fact, has, wanted}
-use Rattle.reduction.specs.between.Landmarks.{landmarks-behind, landmarks}
+use Rattle.reduction.specs.between.Wanted.{some-fact, same-fact, has}
+use Rattle.reduction.specs.Landmark.{values-from, framed}
+use Rattle.reduction.specs.between.Landmarks.{sets-other, passed, trace, raised, round-to, rounds as mark-rounds, landmarks}
 use Rattle.reduction.specs.between.Found.{found, minimal}
 use Rattle.reduction.proofs.EliminationTheorem.{eliminate-shortens, greedy-shortens}
 use Rattle.reduction.proofs.MinimalTheorem.{minimal-found}
@@ -74,7 +75,7 @@ module _ (w l : List ℕ) where
 
 -- what document 01 says of each list holds
 pub starred : Each Row-holds rows
-unfolding answer sheet-checks bad-length bad-edition bad-counts due wrong-size bad-pair pair-place bad-variable variable-place bad-fact group-place action-place fact-place cost-place first first-of first-of-next table facts initial goal action fault unknown-place list-checks read-checks valid-checks lodged-checks room-checks unmarked-checks minimal-checks holds first-failing satisfies applicable assign apply written needed result run cost kept count valid-for lower walk after trial eliminated eliminate better best rounds greedy found minimal some-fact same-fact has wanted landmarks-behind landmarks marks positions-from binary words-of mask-words
+unfolding answer sheet-checks bad-length bad-edition bad-counts due wrong-size bad-pair pair-place bad-variable variable-place bad-fact group-place action-place fact-place cost-place first first-of first-of-next table facts initial goal action fault unknown-place list-checks read-checks valid-checks lodged-checks room-checks unmarked-checks minimal-checks holds first-failing satisfies applicable assign apply written needed result run cost kept count valid-for lower walk after trial eliminated eliminate better best rounds greedy found minimal some-fact same-fact has values-from framed sets-other passed trace raised round-to mark-rounds landmarks marks positions-from binary words-of mask-words
 starred =
     (refl, valid-truly sheet-p list-1 refl refl)
     also (refl, (marks-just sheet-p list-1, refl))

@@ -1,7 +1,8 @@
--- Each cause of refusal of document 01, met by words: sheet P with one word changed, or a list of P. Assumes nothing.
-use Prim.Native.Nat.{ℕ}
+-- Each cause of refusal of document 01, met by words: sheet P with one word changed, or a list of P; and the worked list
+-- 10, by document 02 (C-12). Assumes nothing.
+use Prim.Native.Nat.{ℕ, _+_}
 use mathlib.Core.Path.{_≡_}
-use mathlib.Core.Option.{some}
+use mathlib.Core.Option.{none, some}
 use mathlib.Core.List.{List, [], _∷_, _++_}
 use lib.ListN.{set, replicate}
 use Rattle.refusal.specs.Refusal.{Told}
@@ -9,6 +10,7 @@ use Rattle.refusal.specs.Check.{Check, answer}
 use Rattle.sheet.specs.Causes.{sheet-checks}
 use Rattle.plan.specs.Checked.{plan-checks}
 use Rattle.service.specs.Reduced.{reduction-checks}
+use Rattle.landmark.specs.Marks.{unmarked}
 use Rattle.minimal.specs.Minimised.{most-unmarked, minimal-checks}
 use Rattle.starred.specs.Sheets.{sheet-p}
 
@@ -34,9 +36,9 @@ by-word i x number place =
 abbrev pub by-list : List ℕ → ℕ → ℕ → Cause
 by-list l number place = record { checks = plan-checks sheet-p l; refusal = record { number = number; place = place } }
 
--- 20 lamps then 0 1 2
-abbrev pub twenty-lamps : List ℕ
-twenty-lamps = replicate 20 3 ++ (0 ∷ 1 ∷ 2 ∷ [])
+-- so many lamps then 0 1 2: the worked list 10
+abbrev pub lamps-first : ℕ → List ℕ
+lamps-first n = replicate n 3 ++ (0 ∷ 1 ∷ 2 ∷ [])
 
 -- the causes 1 to 12, in order: of a word changed its index and the new word, then number and place
 abbrev pub causes : List Cause
@@ -65,7 +67,15 @@ causes =
     ∷ by-list (0 ∷ 1 ∷ 0 ∷ 2 ∷ []) 11 3
     -- 21 steps are unmarked
     ∷ record {
-      checks = minimal-checks most-unmarked sheet-p twenty-lamps 23;
+      checks = minimal-checks most-unmarked sheet-p (lamps-first 21) 24;
       refusal = record { number = 12; place = 21 };
     }
     ∷ []
+
+-- the worked list 10, by document 02: "has 19 and then 20 unmarked, both answered"
+abbrev pub Lamps-answered : ℕ → Type 0
+Lamps-answered n =
+    (unmarked sheet-p (lamps-first n) ≡ n) × (answer (minimal-checks most-unmarked sheet-p (lamps-first n) (n + 3)) ≡ none)
+
+abbrev pub List-ten : Type 0
+List-ten = Lamps-answered 19 × Lamps-answered 20

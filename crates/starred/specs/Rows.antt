@@ -1,6 +1,6 @@
 -- Document 01's worked lists that carry a star, 1 to 9, as one table: each row has the words of a sheet, a list, and
--- what document 01 says of them. What it means that this holds is told by the definitions that the services' contracts
--- cite and by the rules of document 01. Assumes nothing.
+-- what document 01 says of them; of marks, what document 02 does (C-12). What it means that this holds is told by the
+-- definitions that the services' contracts cite and by the rules of both. Assumes nothing.
 use Prim.Native.Nat.{ℕ, _+_}
 use mathlib.Core.Path.{_≡_}
 use mathlib.Core.Logic.{_↔_, _⊎_}
@@ -146,8 +146,8 @@ rows =
     -- costs 12; it loses at step 2"
     ∷ said-of sheet-p list-1 (keep-at all-three (4 ∷ 5 ∷ 6 ∷ []) 12 (in-first-word 56))
     ∷ said-of sheet-p list-1 (loses-at (2 ∷ 5 ∷ 6 ∷ []) 12 2)
-    -- 3: "steps 1 and 2 marked; nothing struck"
-    ∷ said-of sheet-p (0 ∷ 1 ∷ 2 ∷ []) (marked-at (1 ∷ 2 ∷ []) (in-first-word 3))
+    -- 3: "steps 1 and 2 marked; nothing struck", and in document 02 "now has step 3 marked too"
+    ∷ said-of sheet-p (0 ∷ 1 ∷ 2 ∷ []) (marked-at (1 ∷ 2 ∷ 3 ∷ []) (in-first-word 7))
     ∷ said-of sheet-p (0 ∷ 1 ∷ 2 ∷ []) (keep-at all-three (1 ∷ 2 ∷ 3 ∷ []) 12 (in-first-word 7))
     -- 4 to 6: "refusal 11", at the places 1, 2 and 3
     ∷ said-of sheet-p [] (refused-at 1)

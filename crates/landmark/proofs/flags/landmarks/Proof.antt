@@ -1,71 +1,69 @@
--- `landmarks` meets its contract: the two walks from the tables that it fills. Assumes nothing.
-use Rattle.landmark.proofs.MarkLaws.{flags-told, too-long}
-use Rattle.step.proofs.StateLaws.{lent-length}
+-- `landmarks` meets its contract. The loop's invariant: the flags stand where as many passes leave them. The measure is the number of passes left. Assumes nothing.
+use Rattle.landmark.proofs.FlagLaws.{Searching, searching-start, searching-more, searching-settled, searching-done}
+use Rattle.landmark.proofs.MarkLaws.{too-long}
+use Prim.Native.Nat.{_-_}
+use mathlib.Core.Path.{refl}
 use borrow.Author.Needs.{needs}
 use Rattle.landmark.proofs.flags.landmarks.Statement.{statement}
 use Rattle.landmark.proofs.flags.landmarks.Tie as tie
 
-returns : tie.Need-returns
+abbrev Inv-loop : tie.InvT-loop
+Inv-loop words plan n rows₀ flags₀ r₀ rows flags r = Searching words plan n r flags
+
+abbrev μ-loop : tie.MeasureT-loop
+μ-loop words plan n rows₀ flags₀ r₀ rows flags r = n - r
+
+returns : tie.Need-returns Inv-loop μ-loop
 returns c = too-long _ _ _ (c .if1 .taken)
 
-cast-first : tie.Need-cast-first
-cast-first c = search needs
+ends-requires : tie.Need-ends-requires Inv-loop μ-loop
+ends-requires c κs = search needs
 
-slice-aggregate-write-first : tie.Need-slice-aggregate-write-first
-slice-aggregate-write-first c = search needs
+loop-holds : tie.Need-loop-holds Inv-loop μ-loop
+loop-holds c = searching-start _ _ _ _ refl (c .before .if1 .left) (c .ends .ensures)
 
-write-first-requires : tie.Need-write-first-requires
-write-first-requires c κs = search needs
+pass-along-requires : tie.Need-pass-along-requires Inv-loop μ-loop
+pass-along-requires c κs = search needs
 
-slice-aggregate-stamp : tie.Need-slice-aggregate-stamp
-slice-aggregate-stamp c = search needs
+same-requires : tie.Need-same-requires Inv-loop μ-loop
+same-requires c κs = search needs
 
-goal-requires : tie.Need-goal-requires
-goal-requires c κs = search needs
+of-steps-requires : tie.Need-of-steps-requires Inv-loop μ-loop
+of-steps-requires c κs = search needs
 
-stamp-requires : tie.Need-stamp-requires
-stamp-requires c κs = search needs
+returns-2 : tie.Need-returns-2 Inv-loop μ-loop
+returns-2 c = searching-settled _ _ _ _ _ _ (c .before .before .before .before .before .before .before .before .before .before .loop .inv) (c .before .before .before .before .before .before .pass-along .ensures) _ _ (c .before .before .before .same .ensures) (c .before .before .if2 .taken) (c .of-steps .ensures)
 
-initial-requires : tie.Need-initial-requires
-initial-requires c κs = search needs
+add-r : tie.Need-add-r Inv-loop μ-loop
+add-r c = search needs
 
-size-requires : tie.Need-size-requires
-size-requires c κs = search needs
+loop-less : tie.Need-loop-less Inv-loop μ-loop
+loop-less c = search needs
 
-array-share-prefix-start : tie.Need-array-share-prefix-start
-array-share-prefix-start c = search needs
+loop-again : tie.Need-loop-again Inv-loop μ-loop
+loop-again c = searching-more _ _ _ _ _ _ (c .before .before .before .before .before .before .before .before .loop .inv) (c .before .before .before .before .pass-along .ensures) (c .before .before .before .before .before .before .before .loop-test .taken)
 
-slice-aggregate-mark-steps : tie.Need-slice-aggregate-mark-steps
-slice-aggregate-mark-steps c = lent-length _ _ _ (c .before .before .initial .ensures) (c .before .size .ensures .1)
+of-steps-requires-2 : tie.Need-of-steps-requires-2 Inv-loop μ-loop
+of-steps-requires-2 c κs = search needs
 
-slice-aggregate-mark-steps-2 : tie.Need-slice-aggregate-mark-steps-2
-slice-aggregate-mark-steps-2 c = search needs
-
-slice-aggregate-mark-steps-3 : tie.Need-slice-aggregate-mark-steps-3
-slice-aggregate-mark-steps-3 c = search needs
-
-mark-steps-requires : tie.Need-mark-steps-requires
-mark-steps-requires c κs = search needs
-
-returns-2 : tie.Need-returns-2
-returns-2 c = flags-told _ _ _ _ _ _ _ _ (c .before .before .before .before .before .before .initial .ensures) (c .before .before .before .before .before .size .ensures .0) (c .before .before .before .before .before .before .before .before .before .before .before .before .write-first .ensures) (c .before .before .before .before .before .before .before .before .before .goal .ensures) (c .before .before .before .before .before .before .before .before .stamp .ensures) (c .before .mark-steps .ensures)
+returns-3 : tie.Need-returns-3 Inv-loop μ-loop
+returns-3 c = searching-done _ _ _ _ _ _ (c .before .before .before .loop .inv) (c .before .before .loop-test .left) (c .of-steps2 .ensures)
 
 pub landmarks-spec : {M : Type 1} → statement M
 landmarks-spec =
     tie.close
     (tie.spec
+    Inv-loop
+    μ-loop
     returns
-    cast-first
-    slice-aggregate-write-first
-    write-first-requires
-    slice-aggregate-stamp
-    goal-requires
-    stamp-requires
-    initial-requires
-    size-requires
-    array-share-prefix-start
-    slice-aggregate-mark-steps
-    slice-aggregate-mark-steps-2
-    slice-aggregate-mark-steps-3
-    mark-steps-requires
-    returns-2)
+    ends-requires
+    loop-holds
+    pass-along-requires
+    same-requires
+    of-steps-requires
+    returns-2
+    add-r
+    loop-less
+    loop-again
+    of-steps-requires-2
+    returns-3)
