@@ -17,7 +17,7 @@ pub use times::run;
 
 use crate::cases::{Call, Case, Memory, Service};
 use crate::comparison::{by_rules, library};
-use crate::rules::search;
+use crate::rules::{passes, search};
 
 /// What is measured: the library, or the Rust version of the same rules.
 #[derive(Clone, Copy, Debug)]
@@ -29,12 +29,13 @@ pub enum Side {
 pub const SIDES: [Side; 2] = [Side::Library, Side::Rust];
 
 impl Side {
-    /// The Rust version of the exact reduction is the search with the library's cuts: the rules go
-    /// another way.
+    /// The Rust version of the exact reduction is the search with the library's cuts, and that of
+    /// marks has the library's passes: the rules go other ways.
     fn answer(self, call: Call, memory: &mut Memory) {
         let answer = match (self, call.service) {
             (Side::Library, _) => return library::answer(call, memory),
             (Side::Rust, Service::Exact) => by_rules::exact_by(memory, search::exact),
+            (Side::Rust, Service::Marks) => by_rules::marks_by(memory, passes::marks),
             (Side::Rust, _) => by_rules::answer(call, memory),
         };
         memory.write(&answer);

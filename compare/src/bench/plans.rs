@@ -43,7 +43,7 @@ impl HardPlan {
             family: self.family,
             placement: self.placement,
             steps: self.steps,
-            unmarked: MAX_UNMARKED,
+            size: MAX_UNMARKED,
             costs: 1..=100,
         };
         shape.make(&mut Random::of_case(SEED, hardest(self.family)))
@@ -51,7 +51,9 @@ impl HardPlan {
 
     /// With the answer that is due where the way that the plan is made says it.
     pub fn case(self) -> Case {
-        let Made { task, plan, kept } = self.make();
+        let Made {
+            task, plan, kept, ..
+        } = self.make();
         let case = case_of(Service::Exact, &task, &plan);
         let Some(steps) = kept else {
             return case;

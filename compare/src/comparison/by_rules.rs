@@ -1,7 +1,7 @@
 //! The side of the rules: what each service answers by the independent version.
 
 use crate::cases::{Answer, Call, Memory, Service, LEFT, TAKEN};
-use crate::rules::{self, Kept, Lodged, Refusal, State, Tally};
+use crate::rules::{self, Kept, Lodged, Mask, Refusal, State, Tally};
 use std::cmp::Ordering;
 
 pub fn answer(call: Call, lent: &Memory) -> Answer {
@@ -11,7 +11,7 @@ pub fn answer(call: Call, lent: &Memory) -> Answer {
         Service::Step => step(lent, call.numbers[0]),
         Service::CheckPlan => Lodged::check(words, plan, &[])
             .map(|lodged| Answer::accepted(&[lodged.cost(), plan.len()]).with_state(&lodged.end)),
-        Service::Marks => rules::marks(words, plan).map(Answer::marking),
+        Service::Marks => return marks_by(lent, rules::marks::marks),
         Service::Eliminate => reduce(lent, rules::eliminate),
         Service::Greedy => reduce(lent, rules::greedy),
         Service::Exact => return exact_by(lent, rules::exact),
@@ -47,6 +47,15 @@ fn reduce(lent: &Memory, way: Way) -> Result<Answer, Refusal> {
 /// What the exact reduction answers when it goes this way.
 pub fn exact_by(lent: &Memory, way: Way) -> Answer {
     reduce(lent, way).unwrap_or_else(|refusal| Answer::refused(Service::Exact, refusal))
+}
+
+/// A way of marking answers to the sheet and the plan.
+pub type MarkingWay = fn(&[u32], &[u32]) -> Result<Mask, Refusal>;
+
+/// What marks answer when they are found this way.
+pub fn marks_by(lent: &Memory, way: MarkingWay) -> Answer {
+    let marked = way(&lent.words, &lent.plan).map(Answer::marking);
+    marked.unwrap_or_else(|refusal| Answer::refused(Service::Marks, refusal))
 }
 
 /// What the services without refusals answer.

@@ -1,6 +1,6 @@
 //! Tests the comparison itself, without the library: the ways of finding the exact reduction are
-//! held to each other, exact reductions with a fault must be found out, and the text of a case must
-//! read back as its words.
+//! held to each other, and so are the ways of finding marks; services with a fault must be found
+//! out, and the text of a case must read back as its words.
 
 use super::faulty::FAULTS;
 use super::inputs::input_bytes;
@@ -17,6 +17,10 @@ const CASES_FOR_WAYS: u64 = 57_000;
 const CASES_FOR_FAULTS: u64 = 5_700;
 const CASES_FOR_TEXTS: u64 = 2_900;
 
+/// So many rounds and passes must be seen: a version that gives up early would not be found out.
+const MANY_ROUNDS: usize = 250;
+const MANY_PASSES: usize = 100;
+
 /// What document 01 has its program print for sheet P and list 1.
 const PRINTED: &str = "lodged 6 23\nmarked 1\nkept 3 12\n4 0 5\n5 1 2\n6 2 5\n";
 
@@ -25,6 +29,7 @@ pub fn run(seed: u64) -> bool {
     lines_are_as_documented()
         && texts_read_back(seed)
         && ways_are_alike(seed)
+        && ways_of_marks_are_alike(seed)
         && faults_are_found(seed)
 }
 
@@ -42,10 +47,6 @@ fn lines_are_as_documented() -> bool {
 fn numbered_cases(seed: u64, last: u64) -> impl Iterator<Item = (u64, Case)> {
     let kinds = kinds::all();
     (1..=last).map(move |number| (number, kinds::numbered(&kinds, seed, number).1))
-}
-
-fn is_exact(case: &Case) -> bool {
-    case.call.service == Service::Exact
 }
 
 /// Sheets of every fault among them.
@@ -76,8 +77,8 @@ fn words_in(text: &str) -> Vec<u32> {
 /// reductions where there are few enough.
 fn ways_are_alike(seed: u64) -> bool {
     let (mut tried, mut tried_all) = (0, 0);
-    let cases = numbered_cases(seed, CASES_FOR_WAYS).filter(|(_, case)| is_exact(case));
-    for (number, case) in cases {
+    let cases = numbered_cases(seed, CASES_FOR_WAYS);
+    for (number, case) in cases.filter(|(_, case)| case.call.service == Service::Exact) {
         let (words, plan, output) = (&case.lent.words, &case.lent.plan, case.lent.first.len());
         let Ok(lodged) = Lodged::check_unmarked(words, plan, output) else {
             continue;
@@ -99,22 +100,59 @@ fn ways_are_alike(seed: u64) -> bool {
     tried_all > 0
 }
 
+/// The rule, the passes and the rounds against each other, on the plans of all services.
+fn ways_of_marks_are_alike(seed: u64) -> bool {
+    let (mut tried, mut most_rounds, mut most_passes) = (0, 0, 0);
+    let cases = numbered_cases(seed, CASES_FOR_WAYS);
+    for (number, case) in cases.filter(|(_, case)| case.call.service.takes_plan()) {
+        let Ok(lodged) = Lodged::check(&case.lent.words, &case.lent.plan, &[]) else {
+            continue;
+        };
+        let marked = lodged.marked();
+        let (by_passes, passes) = lodged.marked_by_passes();
+        let (by_rounds, rounds) = lodged.marked_by_rounds();
+        if by_passes != marked || by_rounds != marked {
+            println!("ways of marks differ: --seed {seed} --case {number}");
+            return false;
+        }
+        tried += 1;
+        most_rounds = most_rounds.max(rounds);
+        most_passes = most_passes.max(passes);
+    }
+    print_count("marks, by the rule, by passes, by rounds", tried);
+    print_count("the most rounds that marked", most_rounds);
+    print_count("the most passes that marked", most_passes);
+    most_rounds >= MANY_ROUNDS && most_passes >= MANY_PASSES
+}
+
 fn faults_are_found(seed: u64) -> bool {
+    FAULTS
+        .iter()
+        .all(|&(service, faults)| faults_of_service_are_found(seed, service, faults))
+}
+
+fn faults_of_service_are_found(
+    seed: u64,
+    service: Service,
+    faults: &[(&str, fn(&Memory) -> Memory)],
+) -> bool {
     let worked = worked::cases().into_iter().map(|(_, case)| case);
     let random = numbered_cases(seed, CASES_FOR_FAULTS).map(|(_, case)| case);
     let with_answer = |Case { call, lent, .. }| {
         let right = lent.after(&by_rules::answer(call, &lent));
         (lent, right)
     };
-    let cases = worked.chain(random).filter(is_exact).map(with_answer);
-    let cases: Vec<(Memory, Memory)> = cases.collect();
+    let cases = worked.chain(random);
+    let cases = cases.filter(|case| case.call.service == service);
+    let cases: Vec<(Memory, Memory)> = cases.map(with_answer).collect();
     let mut all_found = true;
-    for (name, faulty) in FAULTS {
+    for (name, faulty) in faults {
         let found = cases.iter().filter(|(lent, right)| faulty(lent) != *right);
         let found = found.count();
         print_count(&format!("fault found: {name}"), found);
         all_found &= found > 0;
     }
-    print_count("cases that the faults were tried on", cases.len());
+    let tried = format!("cases of {} for the faults", service.name());
+    print_count(&tried, cases.len());
     all_found
 }

@@ -1,10 +1,10 @@
-//! Compares the services: the library and the search against the rules, and the rules against the
-//! answers that are due.
+//! Compares the services: the library, the search and the passes against the rules, and the rules
+//! against the answers that are due.
 
 use super::record::Record;
 use super::{by_rules, library, report};
 use crate::cases::{damaged, kinds, worked, Case, Service};
-use crate::rules::search;
+use crate::rules::{passes, search};
 use std::ops::RangeInclusive;
 
 const WORKED: &str = "documents: worked lists, texts and limits";
@@ -51,15 +51,21 @@ fn try_case(
         library::answer(*call, &mut memory);
         memory
     });
-    let is_exact = call.service == Service::Exact;
-    let by_search = is_exact.then(|| lent.after(&by_rules::exact_by(lent, search::exact)));
+    let by_search = (call.service == Service::Exact)
+        .then(|| lent.after(&by_rules::exact_by(lent, search::exact)));
+    let by_passes = (call.service == Service::Marks)
+        .then(|| lent.after(&by_rules::marks_by(lent, passes::marks)));
     let number = by_rules::number(*call, lent, &answer);
     record.count(kind, call.service.name(), number);
     if let [number, place, ..] = answer.out[..] {
         record.note_place(call.service.name(), number, place);
     }
     let as_due = due.as_ref().is_none_or(|due| lent.after(due) == by_rules);
-    let others = [("library", by_library), ("search", by_search)];
+    let others = [
+        ("library", by_library),
+        ("search", by_search),
+        ("passes", by_passes),
+    ];
     let alike = |(_, other): &(_, Option<_>)| other.as_ref().is_none_or(|it| *it == by_rules);
     if !(as_due && others.iter().all(alike)) {
         record.differ(&title());

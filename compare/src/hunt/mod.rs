@@ -108,7 +108,7 @@ fn start(random: &mut Random, number: u64) -> List {
         family,
         placement: random.pick(&PLACEMENTS),
         steps: random.size(2 * MAX_UNMARKED..=MOST_STEPS),
-        unmarked: MAX_UNMARKED - random.index(2),
+        size: random.size(MAX_UNMARKED - 1..=MAX_UNMARKED + 1),
         costs: 1..=100,
     };
     let made = shape.make(random);

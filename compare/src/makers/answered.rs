@@ -1,12 +1,12 @@
 //! Plans whose marks and reductions are known by the way that they are made.
 
-use super::parts::{
-    chain, drain_in_lane, gate_actions, gate_goal, gate_lane, laid_into_each_other,
-};
+use super::parts::{chain, drain_in_lane, gate_actions, gate_goal, gate_lane, gate_turns};
+use super::parts::{laid_into_each_other, GATE_ACTIONS};
 use super::{action, fact, Action, Fact, Random, Task};
 use std::cmp::Reverse;
+use std::iter::repeat_n;
 
-const COSTS: [u32; 4] = [0, 1, 2, 3];
+pub const COSTS: [u32; 4] = [0, 1, 2, 3];
 
 /// A plan with the indices of the steps that are marked, and that each elimination keeps. What the
 /// greedy one keeps is also the exact reduction.
@@ -20,7 +20,7 @@ pub struct Answered {
 
 impl Answered {
     /// Both eliminations keep the same steps.
-    fn alike(task: Task, plan: Vec<u32>, marked: Vec<usize>, kept: Vec<usize>) -> Self {
+    pub fn alike(task: Task, plan: Vec<u32>, marked: Vec<usize>, kept: Vec<usize>) -> Self {
         Answered {
             task,
             plan,
@@ -97,9 +97,10 @@ fn random_way(random: &mut Random, variable: usize) -> Vec<Action> {
 }
 
 /// Gates that are each lifted and dropped some times, and once drained in between; the goal is all
-/// drained and dropped. Every drain is marked, and the lift before it if it is the first. What is
-/// kept is the last lift before the drain, the drain, and the last drop of all: a drop goes with
-/// the lift behind it.
+/// drained and dropped. Every drain is marked, the lift before it if it is the first, and then the
+/// drop behind it if it is the last; otherwise lifts and drops only support each other. What is kept
+/// is the last lift before the drain, the drain, and the last drop of all: a drop goes with the lift
+/// behind it.
 pub fn with_gates(random: &mut Random) -> Answered {
     let gates = random.size(1..=4);
     let turns: Vec<[usize; 2]> = (0..gates)
@@ -110,10 +111,14 @@ pub fn with_gates(random: &mut Random) -> Answered {
         .collect();
     let (plan, places) = laid_into_each_other(random, &lanes);
     let (mut marked, mut kept) = (Vec::new(), Vec::new());
-    for (places, [before, _]) in places.iter().zip(turns) {
+    for (places, [before, after]) in places.iter().zip(turns) {
         let drain = drain_in_lane(before);
-        let first_marked = if before == 0 { drain - 1 } else { drain };
-        marked.extend(&places[first_marked..=drain]);
+        let (first, last) = match (before, after) {
+            (0, 0) => (drain - 1, drain + 1),
+            (0, _) => (drain - 1, drain),
+            _ => (drain, drain),
+        };
+        marked.extend(&places[first..=last]);
         kept.extend(&places[drain - 1..=drain]);
         kept.extend(places.last());
     }
@@ -125,4 +130,26 @@ pub fn with_gates(random: &mut Random) -> Answered {
     let goal = (0..gates).flat_map(gate_goal).collect();
     let task = Task::from_zero(vec![2; 2 * gates], goal, actions);
     Answered::alike(task, plan, marked, kept)
+}
+
+/// Needed steps, and gates that are lifted and dropped again for nothing. The goal has all gates shut,
+/// as they are at the start, so that each lift and each drop would be marked if the others were.
+pub fn with_idle_gates(random: &mut Random, needed: usize) -> Answered {
+    let gates = random.size(1..=4);
+    let counter = 2 * gates;
+    let first_needed = GATE_ACTIONS * gates;
+    let mut lanes = vec![(first_needed as u32..).take(needed).collect()];
+    for gate in 0..gates {
+        lanes.push(gate_turns(gate, random.size(1..=3)));
+    }
+    let (plan, places) = laid_into_each_other(random, &lanes);
+    let mut cost = || random.pick(&COSTS);
+    let gate_actions = (0..gates).flat_map(|gate| gate_actions(gate, &mut cost));
+    let mut actions: Vec<Action> = gate_actions.collect();
+    actions.extend(chain(counter, needed, &mut cost));
+    let shut = (0..gates).map(|gate| gate_goal(gate)[0]);
+    let goal = shut.chain([fact(counter, needed)]).collect();
+    let sizes = repeat_n(2, counter).chain([needed as u32 + 1]).collect();
+    let task = Task::from_zero(sizes, goal, actions);
+    Answered::alike(task, plan, places[0].clone(), places[0].clone())
 }

@@ -7,6 +7,7 @@ pub mod families;
 pub mod faults;
 mod parts;
 mod random;
+pub mod restores;
 mod sheet;
 mod task;
 pub mod translator;

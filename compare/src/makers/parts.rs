@@ -30,10 +30,20 @@ pub fn gate_goal(gate: usize) -> [Fact; 2] {
 /// The steps of a gate: it is lifted and dropped some times, lifted, drained and dropped, and
 /// lifted and dropped again.
 pub fn gate_lane(gate: usize, [before, after]: [usize; 2]) -> Vec<u32> {
+    let [lift, drain, drop] = gate_steps(gate);
+    let drained = vec![lift, drain, drop];
+    [gate_turns(gate, before), drained, gate_turns(gate, after)].concat()
+}
+
+/// The gate is so many times lifted and dropped.
+pub fn gate_turns(gate: usize, turns: usize) -> Vec<u32> {
+    let [lift, _, drop] = gate_steps(gate);
+    [lift, drop].repeat(turns)
+}
+
+fn gate_steps(gate: usize) -> [u32; GATE_ACTIONS] {
     let first = (GATE_ACTIONS * gate) as u32;
-    let [lift, drain, drop] = [first, first + 1, first + 2];
-    let turns = |count| [lift, drop].repeat(count);
-    [turns(before), vec![lift, drain, drop], turns(after)].concat()
+    [first, first + 1, first + 2]
 }
 
 /// Where a lane has the drain: behind the lifts and drops before it and its own lift.

@@ -3,7 +3,7 @@
 //! that strikes it. Neither way of finding it knows anything of marks, so that a fault in the marks
 //! can't hide in it; they are only counted.
 
-use super::{all_hold, do_step, refuse, Cause, Kept, Lodged, Refusal, MAX_UNMARKED};
+use super::{all_hold, do_step, refuse, Cause, Kept, Lodged, Mask, Refusal, MAX_UNMARKED};
 
 /// Plans of so many steps have all their reductions gone through; longer ones would take too long.
 const FEW_STEPS: usize = 9;
@@ -26,15 +26,25 @@ impl<'a> Lodged<'a> {
         output: usize,
     ) -> Result<Self, Refusal> {
         let lodged = Lodged::check(words, plan, &[output])?;
-        let unmarked = lodged.unmarked();
-        let too_many = unmarked > MAX_UNMARKED;
-        refuse(Cause::Unmarked, too_many.then_some(unmarked))?;
+        lodged.check_marks(lodged.marked())?;
         Ok(lodged)
     }
 
+    /// Refusal 12, by these marks.
+    pub fn check_marks(&self, marked: Mask) -> Result<(), Refusal> {
+        let unmarked = self.outside(marked);
+        let too_many = unmarked > MAX_UNMARKED;
+        refuse(Cause::Unmarked, too_many.then_some(unmarked))
+    }
+
+    /// How many steps are not in the mask.
+    fn outside(&self, mask: Mask) -> usize {
+        let inside: u32 = mask.iter().map(|word| word.count_ones()).sum();
+        self.actions.len() - inside as usize
+    }
+
     pub fn unmarked(&self) -> usize {
-        let marked: u32 = self.marked().iter().map(|word| word.count_ones()).sum();
-        self.actions.len() - marked as usize
+        self.outside(self.marked())
     }
 
     /// The exact reduction as the steps that it keeps, found among all reductions: a reduction is

@@ -5,10 +5,12 @@
 mod blocks;
 mod elimination;
 mod exact;
-mod marks;
+pub mod marks;
 mod meter;
+pub mod passes;
 mod plan;
 mod program;
+pub mod rounds;
 pub mod search;
 mod states;
 mod tally;
@@ -17,7 +19,6 @@ mod translator;
 
 pub use elimination::{cheaper, eliminate, greedy, kept_part};
 pub use exact::{exact, steps_of};
-pub use marks::marks;
 pub use plan::{all_hold, do_step, has, mask_of, step, Kept, Lodged, Mask, State};
 pub use plan::{MASK_WORDS, WORD_BITS};
 pub use program::{printed_by_shorten, printed_by_validate, written_by_translate, Written};

@@ -14,16 +14,28 @@ use std::ops::Range;
 /// Refusals 1 to 12.
 #[inline(never)]
 pub fn exact(words: &[u32], plan: &[u32], output: usize) -> Result<Kept, Refusal> {
-    let lodged = Lodged::check_unmarked(words, plan, output)?;
-    Ok(lodged.kept(|lodged| Search::of(lodged, Unmetered).run()))
+    let (lodged, marked) = check(words, plan, output)?;
+    Ok(lodged.kept(|lodged| Search::of(lodged, marked, Unmetered).run()))
 }
 
 /// How many turns the search takes, unless the plan is refused.
 pub fn turns(words: &[u32], plan: &[u32]) -> Result<u64, Refusal> {
-    let lodged = Lodged::check_unmarked(words, plan, plan.len())?;
-    let search = Search::of(&lodged, Turns::default());
+    let (lodged, marked) = check(words, plan, plan.len())?;
+    let search = Search::of(&lodged, marked, Turns::default());
     search.run();
     Ok(search.meter.count())
+}
+
+/// The plan with its marks, which are found by passes.
+fn check<'a>(
+    words: &'a [u32],
+    plan: &'a [u32],
+    output: usize,
+) -> Result<(Lodged<'a>, Mask), Refusal> {
+    let lodged = Lodged::check(words, plan, &[output])?;
+    let (marked, _) = lodged.marked_by_passes();
+    lodged.check_marks(marked)?;
+    Ok((lodged, marked))
 }
 
 /// A choice of unmarked steps, with the tally of the reduction that keeps them and the marked ones.
@@ -73,8 +85,7 @@ struct Search<M> {
 }
 
 impl<M: Meter> Search<M> {
-    fn of(lodged: &Lodged, meter: M) -> Self {
-        let marked = lodged.marked();
+    fn of(lodged: &Lodged, marked: Mask, meter: M) -> Self {
         let steps = 0..lodged.actions.len();
         Search {
             marks: Choice::of_marks(lodged, marked),

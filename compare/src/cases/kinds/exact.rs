@@ -20,17 +20,14 @@ pub const KINDS: &[(&str, Make)] = kinds! { random:
     "exact: facts that are set again, and many" => of_family(random, Family::Laden),
     "exact: one step for several" => with_one_for_all(random),
     "exact: 20 unmarked" => with_most_unmarked(random),
-    "exact: 21 unmarked" => too_many_unmarked(random, MAX_UNMARKED + 1),
-    "exact: over 20 unmarked" => {
-        let unmarked = random.size(TOO_MANY);
-        too_many_unmarked(random, unmarked)
-    },
+    "exact: 21 unmarked" => with_unmarked(random, &FAMILIES, MAX_UNMARKED + 1)?.refused(random),
+    "exact: over 20 unmarked" => with_too_many(random)?.refused(random),
     "exact: over 20 unmarked, not valid" => not_valid(random),
     "exact: over 20 unmarked, output short" => output_short(random),
     "exact: everything struck" => everything_struck(random),
     "exact: nothing struck" => {
         let shape = random_shape(random, Family::Lamps);
-        Some(Shape { unmarked: 0, ..shape }.make(random).case(random))
+        Some(Shape { size: 0, ..shape }.make(random).case(random))
     },
     "exact: few actions, alike or free" => of_cycles(random, &ALIKE_OR_FREE),
     "exact: cycles, up to 20 steps" => of_cycles(random, &[cycles::USUAL, cycles::MANY_WRITERS]),
@@ -52,7 +49,7 @@ const SELDOM: usize = 16;
 /// One case in so many has 20 of them whatever its family.
 const VERY_SELDOM: usize = 128;
 
-/// The unmarked steps that a plan has room for: a gate has a marked step with each four that are not.
+/// The size that a plan has room for: a gate has a drain with each four of its steps.
 fn room(steps: usize) -> usize {
     steps * 4 / 5
 }
@@ -70,7 +67,7 @@ fn random_shape(random: &mut Random, family: Family) -> Shape {
         family,
         placement: random.pick(&PLACEMENTS),
         steps,
-        unmarked: random.size(0..=most.min(room(steps))),
+        size: random.size(0..=most.min(room(steps))),
         costs: random_costs(random, MAX_ACTION_COST),
     }
 }
@@ -85,12 +82,23 @@ fn random_costs(random: &mut Random, most: usize) -> RangeInclusive<u32> {
 
 impl Made {
     fn case(&self, random: &mut Random) -> Case {
-        let case = plan_case(random, Service::Exact, &self.task, &self.plan);
         match &self.kept {
-            Some(steps) => case.due(Answer::keeping(kept(&self.task, &self.plan, steps))),
-            None => case,
+            Some(steps) => keeping(random, &self.task, &self.plan, steps),
+            None => plan_case(random, Service::Exact, &self.task, &self.plan),
         }
     }
+
+    /// The plan has too many unmarked steps.
+    fn refused(&self, random: &mut Random) -> Option<Case> {
+        let refusal = Cause::Unmarked.at(self.unmarked);
+        Some(self.case(random).refused(refusal))
+    }
+}
+
+/// The exact reduction keeps the steps with these indices.
+fn keeping(random: &mut Random, task: &Task, plan: &[u32], steps: &[usize]) -> Case {
+    let case = plan_case(random, Service::Exact, task, plan);
+    case.due(Answer::keeping(kept(task, plan, steps)))
 }
 
 fn of_family(random: &mut Random, family: Family) -> Option<Case> {
@@ -108,20 +116,24 @@ fn with_one_for_all(random: &mut Random) -> Option<Case> {
     let goal: Vec<_> = (0..goals).map(|goal| fact(goal, 1)).collect();
     let one = random.index(goals + 1);
     actions.insert(one, action(cost_of_all, vec![], goal.clone()));
-    let made = Made {
-        plan: (0..actions.len() as u32).collect(),
-        kept: Some(vec![one]),
-        task: Task::from_zero(vec![2; goals], goal, actions),
-    };
-    Some(made.case(random))
+    let plan: Vec<u32> = (0..actions.len() as u32).collect();
+    let task = Task::from_zero(vec![2; goals], goal, actions);
+    Some(keeping(random, &task, &plan, &[one]))
 }
 
-/// A plan with so many unmarked steps, if there is room for them.
-fn with_unmarked(random: &mut Random, families: &[Family], unmarked: usize) -> Option<Made> {
+/// A plan of this size, if there is room for it.
+fn of_size(random: &mut Random, families: &[Family], size: usize) -> Option<Made> {
     let family = random.pick(families);
     let shape = random_shape(random, family);
-    let shape = Shape { unmarked, ..shape };
-    (room(shape.steps) >= unmarked).then(|| shape.make(random))
+    let shape = Shape { size, ..shape };
+    (room(shape.steps) >= size).then(|| shape.make(random))
+}
+
+/// A plan with so many unmarked steps: some families have a marked step among those of their size.
+fn with_unmarked(random: &mut Random, families: &[Family], unmarked: usize) -> Option<Made> {
+    let size = unmarked + random.index(2);
+    let made = of_size(random, families, size)?;
+    (made.unmarked == unmarked).then_some(made)
 }
 
 /// Whether no two reductions of a front reach one state, so that the rules take minutes over many
@@ -143,13 +155,9 @@ fn with_most_unmarked(random: &mut Random) -> Option<Case> {
 }
 
 fn with_too_many(random: &mut Random) -> Option<Made> {
-    let unmarked = random.size(TOO_MANY);
-    with_unmarked(random, &FAMILIES, unmarked)
-}
-
-fn too_many_unmarked(random: &mut Random, unmarked: usize) -> Option<Case> {
-    let case = with_unmarked(random, &FAMILIES, unmarked)?.case(random);
-    Some(case.refused(Cause::Unmarked.at(unmarked)))
+    let size = random.size(TOO_MANY);
+    let made = of_size(random, &FAMILIES, size)?;
+    (made.unmarked > MAX_UNMARKED).then_some(made)
 }
 
 /// Whether a plan is valid is told before its marks are counted.
@@ -177,8 +185,7 @@ fn everything_struck(random: &mut Random) -> Option<Case> {
     let Walk { mut task, plan, .. } = cycles::walk(random, cycles::USUAL, length);
     let start = task.start();
     task.goal.retain(|fact| fact.holds(&start));
-    let kept = Some(Vec::new());
-    Some(Made { task, plan, kept }.case(random))
+    Some(keeping(random, &task, &plan, &[]))
 }
 
 fn of_cycles(random: &mut Random, shapes: &[cycles::Shape]) -> Option<Case> {

@@ -5,8 +5,10 @@ use super::{case_with, kept, plan_case, service_for_valid, Make, QUICK_STEPS};
 use crate::cases::{Answer, Case, Service, REDUCING};
 use crate::makers::answered::{self, Answered};
 use crate::makers::cycles::{self, Shape};
+use crate::makers::restores::Restores;
 use crate::makers::{Random, Walk};
 use crate::rules::{mask_of, Cause, Refusal, MAX_STEPS, MAX_UNMARKED};
+use std::ops::RangeInclusive;
 
 pub const KINDS: &[(&str, Make)] = kinds! { random:
     "reduction: cycles" => of_shape(random, cycles::USUAL, SHORT),
@@ -20,7 +22,7 @@ pub const KINDS: &[(&str, Make)] = kinds! { random:
     "reduction: steps beside mask words" => of_edge_length(random),
     "reduction: task of any shape" => {
         let walk = Walk::of_any_length(random)?;
-        Some(case_of(random, &walk))
+        Some(walk_case(random, &walk))
     },
     "reduction: needed steps and lamps" => {
         let [needed, lamps] = [(); 2].map(|_| random.size(0..=SHORT));
@@ -33,6 +35,18 @@ pub const KINDS: &[(&str, Make)] = kinds! { random:
     },
     "reduction: ways to one goal" => answered::with_ways(random).case(random),
     "reduction: lifts, drains and drops" => answered::with_gates(random).case(random),
+    "marks: cycles" => marks_of_cycles(random),
+    "marks: steps that support each other" => {
+        let needed = random.size(0..=SHORT);
+        answered::with_idle_gates(random, needed).case_of_marks(random)
+    },
+    "marks: long chain of needs" => {
+        let lamps = random.size(0..=3);
+        let steps = random.size(LONG..=MAX_STEPS);
+        answered::with_lamps(random, steps - lamps, lamps).case_of_marks(random)
+    },
+    "marks: chain of earlier steps" => of_restores(random, 0..=SHORT),
+    "marks: long chain of earlier steps" => of_restores(random, LONG / 2..=MOST_LINKS),
     "reduction: output short" => with_short_output(random, |walk, _| short_output(walk)),
     "reduction: output short, plan not valid" => with_short_output(random, |walk, random| {
         walk.spoil(random)?;
@@ -47,8 +61,11 @@ pub const KINDS: &[(&str, Make)] = kinds! { random:
 /// Numbers of steps at which a word of a mask ends, and beside them; the last one is too many.
 const EDGE_LENGTHS: [usize; 9] = [63, 64, 65, 127, 128, 129, 254, MAX_STEPS, MAX_STEPS + 1];
 const SHORT: usize = 14;
+const LONG: usize = 200;
+/// The restores that a plan has room for, each with the step that needs it.
+const MOST_LINKS: usize = MAX_STEPS / 2;
 
-fn case_of(random: &mut Random, walk: &Walk) -> Case {
+fn walk_case(random: &mut Random, walk: &Walk) -> Case {
     let service = service_for_valid(random, walk.plan.len());
     plan_case(random, service, &walk.task, &walk.plan)
 }
@@ -56,7 +73,7 @@ fn case_of(random: &mut Random, walk: &Walk) -> Case {
 fn of_shape(random: &mut Random, shape: Shape, most_steps: usize) -> Option<Case> {
     let length = random.size(0..=most_steps);
     let walk = cycles::walk(random, shape, length);
-    Some(case_of(random, &walk))
+    Some(walk_case(random, &walk))
 }
 
 /// Some of the goal, or all of it, holds at the start.
@@ -68,22 +85,55 @@ fn of_goal_at_start(random: &mut Random) -> Option<Case> {
         walk.task.goal.retain(|fact| fact.holds(&start));
     }
     let is_held = walk.task.goal.iter().any(|fact| fact.holds(&start));
-    is_held.then(|| case_of(random, &walk))
+    is_held.then(|| walk_case(random, &walk))
 }
 
 fn of_edge_length(random: &mut Random) -> Option<Case> {
     let length = random.pick(&EDGE_LENGTHS);
     let walk = cycles::walk(random, cycles::USUAL, length);
-    let case = case_of(random, &walk);
+    let case = walk_case(random, &walk);
     Some(match length > MAX_STEPS {
         true => case.refused(Cause::PlanLength.at(MAX_STEPS)),
         false => case,
     })
 }
 
+/// Marks of a plan that goes round in circles for long.
+fn marks_of_cycles(random: &mut Random) -> Option<Case> {
+    let shape = random.pick(&[cycles::USUAL, cycles::FEW_ACTIONS, cycles::MANY_WRITERS]);
+    let length = random.size(0..=MAX_STEPS);
+    let walk = cycles::walk(random, shape, length);
+    Some(plan_case(random, Service::Marks, &walk.task, &walk.plan))
+}
+
+/// Most often all restores are marked, or nearly all, so that the exact reduction takes the plan.
+fn of_restores(random: &mut Random, links: RangeInclusive<usize>) -> Option<Case> {
+    let links = random.size(links);
+    let nearly_all = random.size(links.saturating_sub(SHORT)..=links);
+    let some = random.size(0..=links);
+    let restores = Restores {
+        links,
+        marked: random.pick(&[links, nearly_all, some]),
+        width: random.size(2..=4),
+        lamps: random.size(0..=3.min(MAX_STEPS - 2 * links)),
+    };
+    restores.make(random).case_of_marks(random)
+}
+
 impl Answered {
     fn case(&self, random: &mut Random) -> Option<Case> {
         let service = service_for_valid(random, self.plan.len());
+        self.case_of(random, service)
+    }
+
+    /// Most often of a service that the marks tell in.
+    fn case_of_marks(&self, random: &mut Random) -> Option<Case> {
+        let any = service_for_valid(random, self.plan.len());
+        let service = random.pick(&[Service::Marks, Service::Exact, any]);
+        self.case_of(random, service)
+    }
+
+    fn case_of(&self, random: &mut Random, service: Service) -> Option<Case> {
         let case = plan_case(random, service, &self.task, &self.plan);
         let unmarked = self.plan.len() - self.marked.len();
         Some(match service {

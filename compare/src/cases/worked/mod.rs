@@ -1,6 +1,6 @@
-//! The worked lists of document 01 and the numbers at its limits, and texts for the translator of
-//! document 02, with the answers written out by hand from these documents: they hold the independent
-//! version to them.
+//! The worked lists of document 01 with the marks of document 02, the numbers at its limits, and
+//! texts for the translator of document 02, with the answers written out by hand from these
+//! documents: they hold the independent version to them.
 
 mod sheets;
 mod texts;
@@ -168,6 +168,12 @@ fn list(
     answers.map(case).into()
 }
 
+/// In list 1 the drain alone is marked, as before: the second lift would have to be by the first
+/// drop, that one by both lifts, the first lift by the first drop, and the last drop by the second
+/// lift. In list 3 and behind the lamps of the longest list the lift is marked by the start and the
+/// drain, and the drop by the lift and the end. In lists 7 and 8 nobody writes another value between
+/// two writers of a goal fact, and in list 9 the lift and the drop only support each other.
+///
 /// Elimination on list 8, of which the document is silent, keeps step 2. The last step of the
 /// longest list is bit 62 of the mask's last word; the exact reduction refuses that list.
 fn reductions() -> Vec<Worked> {
@@ -183,11 +189,11 @@ fn reductions() -> Vec<Worked> {
     let nothing = alike(kept(short(0), 0, &[]));
     let last_word = |bits: u64| [0, 0, 0, bits << 60];
     let longest = lamps_then_drain(255);
-    let mut longest = in_p("255 steps", &longest, last_word(0b011), last_word(0b111));
+    let mut longest = in_p("255 steps", &longest, last_word(0b111), last_word(0b111));
     longest.pop();
     let lists = [
         in_p("lists 1 and 2", &LIST_1, short(0b010000), short(0b111000)),
-        in_p("list 3", &LIFT_DRAIN_DROP, short(0b011), short(0b111)),
+        in_p("list 3", &LIFT_DRAIN_DROP, short(0b111), short(0b111)),
         list("list 7", &TWO_WAYS, &[0, 1], short(0), ways),
         list("list 8", &U_AND_V, &[0, 1, 2], short(0), covers),
         list("list 9", &GATE_ALONE, &[0, 2], short(0), nothing),
@@ -218,7 +224,7 @@ fn short_outputs() -> Vec<Worked> {
         let refusal = Cause::ShortOutput.at(plan.len());
         Case::fitting(service, &SHEET_P, plan, outputs).refused(refusal)
     };
-    let unmarked_21 = short(Service::Exact, &lamps_then_drain(23), [22, 0]);
+    let unmarked_21 = short(Service::Exact, &lamps_then_drain(24), [23, 0]);
     let mut cases = vec![("short output, 21 unmarked", unmarked_21)];
     for (service, outputs) in [
         (Service::Eliminate, [2, 0]),
@@ -235,18 +241,22 @@ fn short_outputs() -> Vec<Worked> {
     cases
 }
 
-/// List 10. In list 3 behind lamps the lift and the drain are marked.
+/// List 10. The lamps are not marked, and list 3 behind them is.
 fn unmarked() -> Vec<Worked> {
-    let behind_lamps = |steps| {
-        let plan = lamps_then_drain(steps);
-        Case::fitting(Service::Exact, &SHEET_P, &plan, [steps, 0])
+    let behind_lamps = |lamps| {
+        let plan = lamps_then_drain(lamps + LIFT_DRAIN_DROP.len());
+        Case::fitting(Service::Exact, &SHEET_P, &plan, [plan.len(), 0])
     };
-    let last_three = kept(short(0b111 << 19), 12, &LIFT_DRAIN_DROP);
-    let refused = |steps| behind_lamps(steps).refused(Cause::Unmarked.at(steps - 2));
+    let answered = |lamps| {
+        let last_three = kept(short(0b111_u64 << lamps), 12, &LIFT_DRAIN_DROP);
+        behind_lamps(lamps).due(Answer::keeping(last_three))
+    };
+    let refused = |lamps| behind_lamps(lamps).refused(Cause::Unmarked.at(lamps));
     vec![
-        ("list 10", behind_lamps(22).due(Answer::keeping(last_three))),
-        ("list 10, refused", refused(23)),
-        ("255 steps, refused", refused(255)),
+        ("list 10, 19 unmarked", answered(19)),
+        ("list 10, 20 unmarked", answered(20)),
+        ("list 10, 21 unmarked", refused(21)),
+        ("255 steps, refused", refused(252)),
     ]
 }
 

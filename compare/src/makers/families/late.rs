@@ -7,8 +7,10 @@ use crate::makers::{action, fact, Action, Fact, Random};
 use crate::rules::MAX_VARIABLES;
 use std::cmp::Reverse;
 
-/// Late steps that each give the goal fact: with one alone it would be marked.
+/// Late steps that each give a goal fact which doesn't hold before: one alone would be marked.
 const WRITERS: usize = 2;
+/// The late step that shuts what the chain has opened is marked.
+const WITH_OPENED: usize = 1;
 /// The chain sets facts again with a step, and needs them with another.
 const CHAIN_OF_DECOYS: usize = 2;
 /// The first decoy spoils all loads, and the next one sets them as they were.
@@ -31,11 +33,11 @@ fn own_fact(number: usize) -> Fact {
 
 impl Shape {
     pub(super) fn has_room_for_late(&self) -> bool {
-        self.unmarked >= 2 && self.steps >= self.unmarked + CHAIN_OF_DECOYS
+        self.size >= 2 && self.steps >= self.size + CHAIN_OF_DECOYS
     }
 
-    /// The same shape with the lowest costs: where these are near zero, all unmarked steps together
-    /// cost less than one of the dearest.
+    /// The same shape with the lowest costs: where these are near zero, all steps of the family
+    /// together cost less than one of the dearest.
     fn cheap(&self) -> Self {
         let (lowest, highest) = (self.costs.start(), self.costs.end());
         let costs = *lowest..=lowest + self.narrow(highest - lowest);
@@ -56,7 +58,7 @@ impl Shape {
     }
 
     fn narrow(&self, width: u32) -> u32 {
-        width / (2 * self.unmarked as u32)
+        width / (2 * self.size as u32)
     }
 
     /// The part of cheap actions, each of which has one step, and of dear ones behind them.
@@ -75,7 +77,7 @@ impl Shape {
 
     /// Of the late writers the cheaper is kept, of those the last.
     pub(super) fn dear(&self, random: &mut Random) -> Part {
-        let lamps = self.unmarked - WRITERS;
+        let lamps = self.size - WRITERS;
         let cheap = self.cheap().lamp_actions(random, FIRST, lamps);
         let given = fact(LATE, 1);
         let late = self
@@ -84,14 +86,14 @@ impl Shape {
         let best = (0..WRITERS).min_by_key(|&writer| (late[writer].cost, Reverse(writer)));
         let is_kept = |step| best.is_some_and(|best| step == lamps + best);
         Part {
-            kept: Some((0..self.unmarked).map(is_kept).collect()),
+            kept: Some((0..self.size).map(is_kept).collect()),
             ..self.with_late(cheap, late, given)
         }
     }
 
     /// Each door needs half of the keys or more.
     pub(super) fn keys(&self, random: &mut Random) -> Part {
-        let keys = self.unmarked - WRITERS;
+        let keys = self.size - WRITERS;
         let cheap = self.cheap().lamp_actions(random, FIRST, keys);
         let given = fact(LATE, 1);
         let different = keys.min(MOST_LAMPS);
@@ -105,28 +107,33 @@ impl Shape {
         self.with_late(cheap, doors.to_vec(), given)
     }
 
-    /// All is kept: each key has one step, unless there are too many for an exact reduction.
+    /// All is kept: each key has one step, unless there are too many for an exact reduction. The door
+    /// is marked, since the chain has opened what it shuts, and so is each key that has one step.
     pub(super) fn vault(&self, random: &mut Random) -> Part {
-        let keys = self.unmarked - 1;
+        let keys = self.size - 1;
         let cheap = self.cheap().lamp_actions(random, FIRST, keys);
         let needed = (0..keys.min(MOST_LAMPS)).map(own_fact).collect();
         let [shut, open] = [0, 1].map(|value| fact(LATE, value));
         let door = action(self.dearest().cost(random), needed, vec![shut]);
+        let shared = keys.saturating_sub(MOST_LAMPS).min(MOST_LAMPS);
         Part {
-            kept: Some(vec![true; self.unmarked]),
+            kept: Some(vec![true; self.size]),
+            marked: WITH_OPENED + keys.min(MOST_LAMPS) - shared,
             opened: vec![open],
             ..self.with_late(cheap, vec![door], shut)
         }
     }
 
-    /// Only the late step is kept: what the decoys set is set again anyway.
+    /// Only the late step is kept, and it is marked, since the chain has opened what it shuts: what the
+    /// decoys set is set again anyway.
     pub(super) fn decoys(&self, random: &mut Random) -> Part {
-        let decoys = self.unmarked - 1;
+        let decoys = self.size - 1;
         let cheap = self.cheap().lamp_actions(random, FIRST, decoys);
         let [shut, open] = [0, 1].map(|value| fact(LATE, value));
         let late = action(self.dearest().cost(random), vec![], vec![shut]);
         Part {
-            kept: Some((0..self.unmarked).map(|step| step == decoys).collect()),
+            kept: Some((0..self.size).map(|step| step == decoys).collect()),
+            marked: WITH_OPENED,
             opened: vec![open],
             set_again: (0..decoys.min(MOST_LAMPS)).map(own_fact).collect(),
             ..self.with_late(cheap, vec![late], shut)
@@ -139,7 +146,7 @@ impl Shape {
         let mut part = self.decoys(random);
         let first = part.sizes.len();
         let room = MAX_VARIABLES - COUNTERS - first;
-        let count = room.min(WORDS_FOR_LOADS / (2 * self.unmarked));
+        let count = room.min(WORDS_FOR_LOADS / (2 * self.size));
         part.sizes.resize(first + count, 2);
         let loads = |value| (first..first + count).map(move |load| fact(load, value));
         let decoys = part.actions.len() - part.late;

@@ -1,7 +1,7 @@
-//! Plans that are hard for the exact reduction: a chain of marked steps, each of which makes the
-//! next one possible and the last one the goal, and in front of them, behind them or between them
-//! steps that are not marked. Some families have a late step or two that stand behind the chain in
-//! any case.
+//! Plans that are hard for the exact reduction, or were before the marks of document 02: a chain of
+//! marked steps, each of which makes the next one possible and the last one the goal, and in front of
+//! them, behind them or between them steps of which most are not marked. Some families have a late
+//! step or two that stand behind the chain in any case.
 
 mod late;
 mod part;
@@ -68,26 +68,28 @@ const MOST_GOALS: usize = 10;
 const MOST_GATES: usize = 8;
 /// The goal facts that one cover gives.
 const MOST_IN_COVER: usize = 4;
-/// The unmarked steps of a gate: all but the drain.
+/// The unmarked steps of a gate: all but the drain, since the first lift and drop go before it.
 const GATE_STEPS: usize = 4;
 /// A gate is lifted and dropped once before it is lifted and drained.
 const GATE_TURNS: [usize; 2] = [1, 0];
 
-/// The steps of the plan and how many of them are not marked; what the costs are taken from.
+/// The steps of the plan; how many of them the family brings, not counting the drains of gates; what
+/// the costs are taken from.
 #[derive(Clone)]
 pub struct Shape {
     pub family: Family,
     pub placement: Placement,
     pub steps: usize,
-    pub unmarked: usize,
+    pub size: usize,
     pub costs: RangeInclusive<u32>,
 }
 
-/// A plan with the indices of the steps that the exact reduction keeps, where the way that the plan
-/// is made says so.
+/// A plan with the number of its unmarked steps and, where the way that the plan is made says so, the
+/// indices of the steps that the exact reduction keeps.
 pub struct Made {
     pub task: Task,
     pub plan: Vec<u32>,
+    pub unmarked: usize,
     pub kept: Option<Vec<usize>>,
 }
 
@@ -108,11 +110,11 @@ impl Shape {
     /// A family that has no room is lamps.
     fn part(&self, random: &mut Random) -> Part {
         match self.family {
-            Writers if self.unmarked >= 2 => self.writers(random),
-            Covers if self.unmarked >= 2 => self.covers(random),
+            Writers if self.size >= 2 => self.writers(random),
+            Covers if self.size >= 2 => self.covers(random),
             Gates => self.gates(random),
-            Dear if self.unmarked >= 2 => self.dear(random),
-            Keys if self.unmarked >= 2 => self.keys(random),
+            Dear if self.size >= 2 => self.dear(random),
+            Keys if self.size >= 2 => self.keys(random),
             Vault if self.has_room_for_late() => self.vault(random),
             Decoys if self.has_room_for_late() => self.decoys(random),
             Laden if self.has_room_for_late() => self.laden(random),
@@ -155,24 +157,24 @@ impl Shape {
 
     fn lamps(&self, random: &mut Random) -> Part {
         Part {
-            sizes: vec![2; self.unmarked.min(MOST_LAMPS)],
+            sizes: vec![2; self.size.min(MOST_LAMPS)],
             goal: Vec::new(),
-            actions: self.lamp_actions(random, 0, self.unmarked),
-            steps: (0..self.unmarked as u32).collect(),
-            kept: Some(vec![false; self.unmarked]),
+            actions: self.lamp_actions(random, 0, self.size),
+            steps: (0..self.size as u32).collect(),
+            kept: Some(vec![false; self.size]),
             ..Part::default()
         }
     }
 
     /// Of the writers of a goal fact the cheapest is kept, of those the last.
     fn writers(&self, random: &mut Random) -> Part {
-        let goals = (self.unmarked / 2).min(MOST_GOALS);
-        let mut written: Vec<usize> = (0..self.unmarked).map(|step| step % goals).collect();
+        let goals = (self.size / 2).min(MOST_GOALS);
+        let mut written: Vec<usize> = (0..self.size).map(|step| step % goals).collect();
         random.shuffle(&mut written);
         let actions = self.setters(random, written.iter().map(|&goal| vec![fact(goal, 1)]));
-        let mut kept = vec![false; self.unmarked];
+        let mut kept = vec![false; self.size];
         for goal in 0..goals {
-            let writers = (0..self.unmarked).filter(|&step| written[step] == goal);
+            let writers = (0..self.size).filter(|&step| written[step] == goal);
             let best = writers.min_by_key(|&step| (actions[step].cost, Reverse(step)));
             kept[best.expect("every goal fact has writers")] = true;
         }
@@ -181,8 +183,8 @@ impl Shape {
 
     /// Each goal fact has two writers or more, so that none is marked.
     fn covers(&self, random: &mut Random) -> Part {
-        let goals = (self.unmarked / 2).min(MOST_GOALS);
-        let mut covered: Vec<Vec<bool>> = (0..self.unmarked)
+        let goals = (self.size / 2).min(MOST_GOALS);
+        let mut covered: Vec<Vec<bool>> = (0..self.size)
             .map(|_| {
                 let given = random.size(2.min(goals)..=MOST_IN_COVER.min(goals));
                 random.choose(given, goals)
@@ -190,7 +192,7 @@ impl Shape {
             .collect();
         for goal in 0..goals {
             for step in 0..2 {
-                let step = (step + goal) % self.unmarked;
+                let step = (step + goal) % self.size;
                 covered[step][goal] |= covered.iter().filter(|cover| cover[goal]).count() < 2;
             }
         }
@@ -204,8 +206,8 @@ impl Shape {
 
     /// Steps that are left over are lamps.
     fn gates(&self, random: &mut Random) -> Part {
-        let gates = (self.unmarked / GATE_STEPS).min(MOST_GATES);
-        let lamps = self.unmarked - GATE_STEPS * gates;
+        let gates = (self.size / GATE_STEPS).min(MOST_GATES);
+        let lamps = self.size - GATE_STEPS * gates;
         let first_lamp = GATE_ACTIONS * gates;
         let gate_lanes = (0..gates).map(|gate| gate_lane(gate, GATE_TURNS));
         let lamp_lanes = (0..lamps).map(|lamp| vec![(first_lamp + lamp) as u32]);
@@ -227,6 +229,7 @@ impl Shape {
             goal: (0..gates).flat_map(gate_goal).collect(),
             actions,
             steps,
+            marked: gates,
             kept: Some(kept),
             ..Part::default()
         }

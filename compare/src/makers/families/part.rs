@@ -11,6 +11,8 @@ pub struct Part {
     pub actions: Vec<Action>,
     /// The action of each step.
     pub steps: Vec<u32>,
+    /// How many of the steps are marked.
+    pub marked: usize,
     /// Whether each step is kept.
     pub kept: Option<Vec<bool>>,
     /// How many of the last steps stand behind the chain in any case.
@@ -50,6 +52,7 @@ impl Part {
     /// The steps of the family at their turns and, between them, those of the chain, whose actions
     /// are the last ones.
     pub fn laid_into(self, first_of_chain: u32, turns: &[bool]) -> Made {
+        let unmarked = self.steps.len() - self.marked;
         let is_known = self.kept.is_some();
         let flags = self.kept.unwrap_or(vec![false; self.steps.len()]);
         let mut own = self.steps.into_iter().zip(flags);
@@ -66,6 +69,7 @@ impl Part {
         Made {
             task: Task::from_zero(self.sizes, self.goal, self.actions),
             plan,
+            unmarked,
             kept: is_known.then_some(kept),
         }
     }

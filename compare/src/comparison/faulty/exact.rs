@@ -1,12 +1,10 @@
-//! Exact reductions that each have one fault, to show that the comparison finds it.
+//! Exact reductions with one fault each.
 
-use super::by_rules::{exact_by, Way};
+use super::Faulty;
 use crate::cases::{Answer, Memory, Service};
+use crate::comparison::by_rules::{exact_by, Way};
 use crate::rules::{self, steps_of, Cause, Kept, Lodged, Refusal, MAX_UNMARKED};
 use std::cmp::Reverse;
-
-/// Answers in a copy of what is lent.
-type Faulty = fn(&Memory) -> Memory;
 
 /// Each with its name.
 pub const FAULTS: [(&str, Faulty); 12] = [
