@@ -1,9 +1,10 @@
 //! Measures that are taken of whole processes from outside, on each family's longest plan with its
-//! unmarked steps in front: instructions, and the least stack. Of texts for the translator the
+//! own steps in front: instructions, and the least stack. Of texts for the translator the
 //! instructions are counted too.
 
 use super::plans::{name, HardPlan};
 use super::texts::LongText;
+use super::timed::unmarked;
 use super::{table, Measured, Side, SIDES};
 use crate::cases::Service;
 use crate::comparison::inputs::input_bytes;
@@ -20,12 +21,19 @@ type Cells = Result<Vec<String>, String>;
 
 /// Prints a table with a row for each family, and answers whether everything could be measured.
 fn print_table(measure: &str, columns: &[&str], cells: impl Fn(HardPlan) -> Cells) -> bool {
-    println!("{measure} at {MAX_STEPS} steps, {MAX_UNMARKED} of them unmarked and in front:\n");
-    table::print_head(&[&["Family", "Library", "Rust"], columns].concat());
+    println!(
+        "{measure} at {MAX_STEPS} steps, with the {MAX_UNMARKED} beside the chain in front:\n"
+    );
+    table::print_head(&[&["Family", "Unmarked", "Library", "Rust"], columns].concat());
     FAMILIES.into_iter().all(|family| {
-        let cells = cells(HardPlan::longest_in_front(family));
+        let plan = HardPlan::longest_in_front(family);
+        let cells = cells(plan);
         match &cells {
-            Ok(cells) => table::print_row(&[&[name(family)], &cells[..]].concat()),
+            Ok(cells) => {
+                let Made { task, plan, .. } = plan.make();
+                let told = [name(family), unmarked(&task.words(), &plan)];
+                table::print_row(&[&told, &cells[..]].concat());
+            }
             Err(error) => println!("{}: {error}", name(family)),
         }
         cells.is_ok()

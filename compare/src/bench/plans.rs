@@ -1,7 +1,9 @@
 //! The plans that are measured.
 
 use crate::cases::{Answer, Case, Service};
+use crate::makers::answered::{self, Answered};
 use crate::makers::families::{Family, Made, Placement, Shape};
+use crate::makers::restores::Restores;
 use crate::makers::{action, fact, Action, Random, Task, Walk};
 use crate::rules::{Kept, MAX_STEPS, MAX_UNMARKED, MAX_VARIABLES};
 use std::fmt::Debug;
@@ -15,7 +17,8 @@ const LEVELS: usize = 3;
 /// The facts that a large action has among its preconditions, and as many among its effects.
 const LARGE_GROUP: usize = MAX_VARIABLES / 2;
 
-/// A plan of a hard family, with as many unmarked steps as there may be.
+/// A plan of a hard family, of the size that had as many unmarked steps as there may be by the older
+/// rule of marks.
 #[derive(Clone, Copy)]
 pub struct HardPlan {
     pub family: Family,
@@ -29,7 +32,7 @@ pub fn name(it: impl Debug) -> String {
 }
 
 impl HardPlan {
-    /// As long as a plan may be, with its unmarked steps in front.
+    /// As long as a plan may be, with the family's steps in front.
     pub fn longest_in_front(family: Family) -> Self {
         HardPlan {
             family,
@@ -68,9 +71,10 @@ impl HardPlan {
     }
 }
 
-/// The case of the family that has the most turns of 2,000, with its steps in front of 235 marked
-/// ones. The first four were chosen by the turns of an earlier search, and stay as they are so that
-/// their rows can be compared with earlier ones. Lamps, the vault and decoys have the same in each.
+/// The case of the family that had the most turns of 2,000, with its steps in front of 235 marked
+/// ones. They were chosen by the turns of earlier searches and by the older rule of marks, and stay as
+/// they are so that their rows can be compared with earlier ones. Lamps, the vault and decoys have the
+/// same in each.
 fn hardest(family: Family) -> u64 {
     match family {
         Family::Lamps => 1,
@@ -131,4 +135,32 @@ pub fn with_large_actions(task: &Task) -> Task {
         }
     }
     task
+}
+
+/// How many facts an action has, from the fewest to the most.
+pub fn facts_of(task: &Task) -> String {
+    let sizes = task.actions.iter();
+    let sizes = sizes.map(|action| action.preconditions.len() + action.effects.len());
+    match (sizes.clone().min(), sizes.max()) {
+        (Some(fewest), Some(most)) if fewest < most => format!("{fewest} to {most}"),
+        (fewest, _) => fewest.unwrap_or(0).to_string(),
+    }
+}
+
+/// As many needed steps as there may be, each of which makes the next one possible: each is marked
+/// by the one behind it, a round later.
+pub fn chain_of_needs() -> Answered {
+    answered::with_lamps(&mut Random::of_case(SEED, 0), MAX_STEPS, 0)
+}
+
+/// As many restores as there may be: each is marked by the one before it, a pass later.
+pub fn chain_of_earlier_steps() -> Answered {
+    let links = MAX_STEPS / 2;
+    let restores = Restores {
+        links,
+        marked: links,
+        width: 2,
+        lamps: MAX_STEPS % 2,
+    };
+    restores.make(&mut Random::of_case(SEED, 0))
 }

@@ -3,7 +3,7 @@
 use super::{table, Side, SIDES};
 use crate::cases::{Case, Memory};
 use crate::comparison::by_rules;
-use crate::rules::search;
+use crate::rules::{search, Lodged};
 use std::hint::black_box;
 use std::time::{Duration, Instant};
 
@@ -50,6 +50,18 @@ impl Timed {
         search::turns(words, plan).unwrap_or(0).to_string()
     }
 
+    /// The cell under "Unmarked": how many steps the rule doesn't mark.
+    pub fn unmarked(&self) -> String {
+        let Memory { words, plan, .. } = &self.case.lent;
+        unmarked(words, plan)
+    }
+
+    /// The cell of something that the right answer tells, if both sides gave it.
+    pub fn told(&self, tell: impl Fn(&Memory) -> String) -> String {
+        let told = self.answer().map(|memory| tell(&memory));
+        told.unwrap_or_else(|| "**the answers differ**".to_string())
+    }
+
     pub fn library(&self) -> f64 {
         self.best[0]
     }
@@ -72,6 +84,17 @@ impl Timed {
         let alike = self.sides.iter().all(|(_, memory)| *memory == right);
         (alike && is_accepted(&right)).then_some(right)
     }
+}
+
+pub fn unmarked(words: &[u32], plan: &[u32]) -> String {
+    let lodged = Lodged::check(words, plan, &[]);
+    lodged.map_or(0, |lodged| lodged.unmarked()).to_string()
+}
+
+/// How many steps the mask has.
+pub fn steps_in_mask(memory: &Memory) -> String {
+    let steps = memory.mask.iter().map(|word| word.count_ones());
+    steps.sum::<u32>().to_string()
 }
 
 /// A refusal has its number in the first word of `out`.

@@ -1,15 +1,15 @@
-//! The tables of times: of the services, of the exact reduction on the hard families, of texts for
-//! the translator, and of the built programs.
+//! The tables of times: of the services, of marks on plans of many rounds, of the exact reduction on
+//! the hard families, of texts for the translator, and of the built programs.
 
-use super::plans::{case_of, gates_walk, with_large_actions, HardPlan, LENGTHS};
+use super::marks;
+use super::plans::{case_of, facts_of, gates_walk, with_large_actions, HardPlan, LENGTHS};
 use super::table;
 use super::texts::{self, LongText, SIZES};
-use super::timed::{times_of, Timed, RUNS};
+use super::timed::{steps_in_mask, times_of, Timed, RUNS};
 use crate::cases::{Memory, Service};
 use crate::comparison::inputs::{closed, input_bytes, of_text, Form, Input};
 use crate::comparison::programs::{written, Built};
 use crate::makers::families::{Family, Made, Placement, FAMILIES, PLACEMENTS};
-use crate::makers::Task;
 use crate::rules::{MAX_STEPS, MAX_UNMARKED};
 use std::fs;
 use std::thread;
@@ -19,10 +19,12 @@ use std::time::Instant;
 pub fn run(built: &[Built]) -> bool {
     print_machine();
     let services_are_right = services();
+    let marks_are_right = marks::run();
     let families_are_right = families();
     let texts_are_right = texts::run();
     let programs_are_right = programs(built);
-    services_are_right && families_are_right && texts_are_right && programs_are_right
+    let all_are_right = services_are_right && marks_are_right && families_are_right;
+    all_are_right && texts_are_right && programs_are_right
 }
 
 /// How busy the machine was tells how far times can be trusted.
@@ -74,8 +76,7 @@ fn services() -> bool {
     let columns = ["Service", "Facts of an action", "Steps", "Marked or kept"];
     table::print_head(&[&columns[..], &["Library", "Rust", "Ratio"]].concat());
     for (((_, name), task, plan), timed) in rows.iter().zip(&times) {
-        let told = timed.answer().map(|memory| told_steps(timed, &memory));
-        let told = told.unwrap_or_else(|| "**the answers differ**".to_string());
+        let told = timed.told(|memory| told_steps(timed, memory));
         let cells = [
             name.to_string(),
             facts_of(task),
@@ -87,22 +88,11 @@ fn services() -> bool {
     times.iter().all(|timed| timed.answer().is_some())
 }
 
-/// How many facts an action has, from the fewest to the most.
-fn facts_of(task: &Task) -> String {
-    let sizes = task.actions.iter();
-    let sizes = sizes.map(|action| action.preconditions.len() + action.effects.len());
-    match (sizes.clone().min(), sizes.max()) {
-        (Some(fewest), Some(most)) if fewest < most => format!("{fewest} to {most}"),
-        (fewest, _) => fewest.unwrap_or(0).to_string(),
-    }
-}
-
 /// How many steps the answer marks or keeps.
 fn told_steps(timed: &Timed, answer: &Memory) -> String {
-    let marked = answer.mask.iter().map(|word| word.count_ones());
     match timed.case.call.service {
         Service::CheckPlan => "–".to_string(),
-        _ => marked.sum::<u32>().to_string(),
+        _ => steps_in_mask(answer),
     }
 }
 
@@ -111,14 +101,14 @@ fn told_steps(timed: &Timed, answer: &Memory) -> String {
 fn families() -> bool {
     let plans = hard_plans();
     let times = times_of(plans.iter().map(|plan| plan.case()));
-    println!("\nExact reduction, {MAX_UNMARKED} steps unmarked, best of {RUNS} runs:\n");
-    let columns = ["Family", "Unmarked", "Steps", "Turns"];
+    println!("\nExact reduction, {MAX_UNMARKED} steps beside the chain, best of {RUNS} runs:\n");
+    let columns = ["Family", "They stand", "Steps", "Unmarked", "Turns"];
     table::print_head(&[&columns[..], &["Library", "Rust", "Ratio", "Growth"]].concat());
     for (index, (plan, timed)) in plans.iter().zip(&times).enumerate() {
         let shortest = &times[index - index % LENGTHS.len()];
         let growth = format!("{:.2}", timed.library() / shortest.library());
-        let (plan, turns) = (plan.arguments(), timed.turns());
-        table::print_row(&[&plan[..], &[turns], &timed.cells(), &[growth]].concat());
+        let counts = [timed.unmarked(), timed.turns()];
+        table::print_row(&[&plan.arguments()[..], &counts, &timed.cells(), &[growth]].concat());
     }
     let wrong = |(_, timed): &(_, &Timed)| timed.answer().is_none();
     let mut all_right = true;

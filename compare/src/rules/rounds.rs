@@ -6,7 +6,6 @@ use super::passes::repeated;
 use super::{Lodged, Mask, Refusal};
 
 /// Refusals 1 to 9 and 11.
-#[allow(dead_code)]
 pub fn marks(words: &[u32], plan: &[u32]) -> Result<Mask, Refusal> {
     let (marked, _) = Lodged::check(words, plan, &[])?.marked_by_rounds();
     Ok(marked)
