@@ -1,12 +1,12 @@
 //! The marks by passes like the library's, so that the two can be timed against each other: a walk
-//! from the first step to the last finds the supporter of each need, and a walk back marks the
-//! supporters of what is marked. A chain of needs takes one pass, however long it is; a chain of
-//! earlier steps takes one for each link.
+//! from the first step to the last finds the supporter of each fact that is written, and a walk back
+//! marks the supporters of what the marked steps need. A chain of needs takes one pass, however long
+//! it is; a chain of earlier steps takes one for each link.
 //!
-//! Who writes a fact last is the same in each pass, and is looked up once.
+//! Which step has written a fact last is the same in each pass, and is looked up once.
 
 use super::{mask_of, split, Lodged, Mask, Refusal, State, FACT_BASE, MAX_STEPS, MAX_VARIABLES};
-use std::ops::Range;
+use std::mem::replace;
 
 /// Refusals 1 to 9 and 11.
 pub fn marks(words: &[u32], plan: &[u32]) -> Result<Mask, Refusal> {
@@ -17,15 +17,11 @@ pub fn marks(words: &[u32], plan: &[u32]) -> Result<Mask, Refusal> {
 impl Lodged<'_> {
     /// The marks, and how many passes have marked something: one more finds nothing.
     pub fn marked_by_passes(&self) -> (Mask, usize) {
-        repeated(self, |steps, supporters, marked| {
-            for step in &steps.all {
-                supporters.note(steps, step, marked);
-            }
+        repeated(self, |needs, supporters, marked| {
             let mut next = *marked;
-            supporters.mark(steps, &steps.goal, &mut next);
-            for step in steps.all.iter().rev() {
-                if next[step.position] {
-                    supporters.mark(steps, &step.needs, &mut next);
+            for (position, needed) in needs.by_position().rev() {
+                if next[position] {
+                    mark(needed, supporters, &mut next);
                 }
             }
             next
@@ -33,32 +29,33 @@ impl Lodged<'_> {
     }
 }
 
-/// By the position. The end step is always marked, and has none.
-pub type Marked = [bool; MAX_STEPS + 1];
+/// By the position, the end step's too.
+pub type Marked = [bool; MAX_STEPS + 2];
 
 /// The position of the start step.
-const START: usize = 0;
+const START: u8 = 0;
 
-/// Walks along the steps until nothing more is marked. Answers with the marks, and with how many
-/// walks have marked something.
+/// Finds supporters and has them marked by needs until nothing changes. Answers with the marks, and
+/// with how often something was marked.
 pub fn repeated(
     lodged: &Lodged,
-    walk: impl Fn(&Steps, &mut Supporters, &Marked) -> Marked,
+    mark_by_needs: impl Fn(&Needs, &[u8], &Marked) -> Marked,
 ) -> (Mask, usize) {
-    let steps = Steps::of(lodged);
-    let mut supporters = Supporters::of(&steps);
-    let mut marked = [false; MAX_STEPS + 1];
-    marked[START] = true;
-    let mut walks = 0;
+    let (needs, writes) = needs_and_writes(lodged);
+    let mut supporters = vec![START; 1 + writes.len()];
+    let steps = lodged.actions.len();
+    let mut marked = [false; MAX_STEPS + 2];
+    marked[usize::from(START)] = true;
+    marked[steps + 1] = true;
+    let mut times = 0;
     loop {
-        supporters.begin(&steps);
-        let next = walk(&steps, &mut supporters, &marked);
+        find_supporters(lodged.task.start(), &writes, &marked, &mut supporters[1..]);
+        let next = mark_by_needs(&needs, &supporters, &marked);
         if next == marked {
-            let indices = 0..steps.all.len();
-            return (mask_of(indices.filter(|index| marked[index + 1])), walks);
+            return (mask_of((0..steps).filter(|step| marked[step + 1])), times);
         }
         marked = next;
-        walks += 1;
+        times += 1;
     }
 }
 
@@ -72,87 +69,61 @@ struct Write {
     before: u8,
 }
 
-/// Stands for the write of a fact that no step has written yet.
-const NO_WRITE: Write = Write {
-    variable: 0,
-    value: 0,
-    at: START as u8,
-    before: START as u8,
-};
-
-pub struct Step {
-    pub position: usize,
-    /// Which of all needs and of all writes are its own.
-    pub needs: Range<usize>,
-    writes: Range<usize>,
+/// For each fact that a step or the goal needs, the number of the write that it rests on: from 1, in
+/// the order of the steps, and 0 for a fact that holds from the start on.
+pub struct Needs {
+    writes: Vec<u16>,
+    /// The needs of a step, and at last of the end step, begin at its bound and end at the next one.
+    bounds: Vec<u16>,
 }
 
-/// What the steps of a plan need and write.
-pub struct Steps {
-    start: State,
-    pub all: Vec<Step>,
-    /// Which of all needs are the end step's.
-    pub goal: Range<usize>,
-    /// The number of the last write of each fact that is needed; one that holds from the start on
-    /// has none, and no supporter.
-    needs: Vec<u16>,
-    /// By their numbers.
-    writes: Vec<Write>,
-}
-
-impl Steps {
-    fn of(lodged: &Lodged) -> Self {
-        let count = lodged.actions.len();
-        let mut steps = Steps {
-            start: lodged.task.start(),
-            all: Vec::with_capacity(count),
-            goal: 0..0,
-            needs: Vec::with_capacity(4 * count),
-            writes: Vec::with_capacity(4 * count),
-        };
-        steps.writes.push(NO_WRITE);
-        let mut last_writes = vec![0; lodged.task.sizes().len() * FACT_BASE];
-        for (index, action) in lodged.actions.iter().enumerate() {
-            let position = index + 1;
-            let needs = steps.put_needs(action.preconditions, &last_writes);
-            let writes = steps.put_writes(action.effects, position, &mut last_writes);
-            steps.all.push(Step {
-                position,
-                needs,
-                writes,
-            });
+impl Needs {
+    fn none() -> Self {
+        Needs {
+            writes: Vec::new(),
+            bounds: vec![0],
         }
-        steps.goal = steps.put_needs(lodged.task.goal(), &last_writes);
-        steps
     }
 
-    fn put_needs(&mut self, facts: &[u32], last_writes: &[u16]) -> Range<usize> {
-        let first = self.needs.len();
-        let writes = facts.iter().map(|&fact| last_writes[fact as usize]);
-        self.needs.extend(writes.filter(|&write| write > 0));
-        first..self.needs.len()
+    fn put(&mut self, facts: &[u32], last: &[Last]) {
+        let numbers = facts.iter().map(|&fact| last[fact as usize].0);
+        self.writes.extend(numbers);
+        self.bounds.push(self.writes.len() as u16);
     }
 
-    fn put_writes(
-        &mut self,
-        facts: &[u32],
-        position: usize,
-        last_writes: &mut [u16],
-    ) -> Range<usize> {
-        let first = self.writes.len();
-        for &fact in facts {
+    /// The positions in their order, each with the writes that its needs rest on.
+    pub fn by_position(&self) -> impl DoubleEndedIterator<Item = (usize, &[u16])> {
+        let steps = self.bounds.windows(2).enumerate();
+        steps.map(|(step, bounds)| {
+            let [begin, end] = [bounds[0], bounds[1]].map(usize::from);
+            (step + 1, &self.writes[begin..end])
+        })
+    }
+}
+
+/// The number of the last write of a fact, and its step. Nobody has written it where both are zero.
+type Last = (u16, u8);
+
+fn needs_and_writes(lodged: &Lodged) -> (Needs, Vec<Write>) {
+    let mut needs = Needs::none();
+    let mut writes = Vec::new();
+    let mut last: Vec<Last> = vec![(0, START); lodged.task.sizes().len() * FACT_BASE];
+    for (action, at) in lodged.actions.iter().zip(1..) {
+        needs.put(action.preconditions, &last);
+        let numbers = writes.len() as u16 + 1..;
+        writes.extend(action.effects.iter().zip(numbers).map(|(&fact, number)| {
             let (variable, value) = split(fact);
-            let number = self.writes.len() as u16;
-            let before = std::mem::replace(&mut last_writes[fact as usize], number);
-            self.writes.push(Write {
+            let (_, before) = replace(&mut last[fact as usize], (number, at));
+            Write {
                 variable: variable as u8,
                 value: value as u8,
-                at: position as u8,
-                before: self.writes[usize::from(before)].at,
-            });
-        }
-        first..self.writes.len()
+                at,
+                before,
+            }
+        }));
     }
+    needs.put(lodged.task.goal(), &last);
+    (needs, writes)
 }
 
 /// The last marked writers of a variable. Positions are told with 1 added, and 0 is none.
@@ -165,64 +136,38 @@ struct Writers {
     other: u16,
 }
 
-/// The step that each write makes a supporter of those who need it: the step itself if a marked one
-/// writes another value behind the write before, else the start step, which needs no mark.
-pub struct Supporters {
-    writers: [Writers; MAX_VARIABLES],
-    /// By the numbers of the writes.
-    of_writes: Vec<u8>,
-}
-
-impl Supporters {
-    fn of(steps: &Steps) -> Self {
-        Supporters {
-            writers: writers_at_start(steps),
-            of_writes: vec![START as u8; steps.writes.len()],
-        }
-    }
-
-    fn begin(&mut self, steps: &Steps) {
-        self.writers = writers_at_start(steps);
-    }
-
-    /// Passes a step by the marks that there are.
-    pub fn note(&mut self, steps: &Steps, step: &Step, marked: &Marked) {
-        let is_marked = marked[step.position];
-        let writes = &steps.writes[step.writes.clone()];
-        let of_writes = &mut self.of_writes[step.writes.clone()];
-        for (write, supporter) in writes.iter().zip(of_writes) {
-            let writers = &mut self.writers[usize::from(write.variable) % MAX_VARIABLES];
-            let is_other = writers.value != write.value;
-            let other = if is_other {
-                writers.last
-            } else {
-                writers.other
-            };
-            let is_supporter = other > u16::from(write.before);
-            *supporter = if is_supporter { write.at } else { START as u8 };
-            if is_marked {
-                *writers = Writers {
-                    value: write.value,
-                    last: u16::from(write.at) + 1,
-                    other,
-                };
-            }
-        }
-    }
-
-    /// Marks the supporters of these needs.
-    pub fn mark(&self, steps: &Steps, needs: &Range<usize>, marked: &mut Marked) {
-        for &write in &steps.needs[needs.clone()] {
-            marked[usize::from(self.of_writes[usize::from(write)])] = true;
-        }
-    }
-}
-
-/// The start step writes every variable.
-fn writers_at_start(steps: &Steps) -> [Writers; MAX_VARIABLES] {
-    steps.start.map(|value| Writers {
+/// Finds the supporter of those who need a write, for each write: its own step if that is not marked
+/// yet and a marked one writes another value behind the write before. At first it is the start step,
+/// which needs no mark; once found it stays, since marks do.
+fn find_supporters(start: State, writes: &[Write], marked: &Marked, supporters: &mut [u8]) {
+    let mut writers = start.map(|value| Writers {
         value: value as u8,
-        last: START as u16 + 1,
+        last: u16::from(START) + 1,
         other: 0,
-    })
+    });
+    for (write, supporter) in writes.iter().zip(supporters) {
+        let writers = &mut writers[usize::from(write.variable) % MAX_VARIABLES];
+        let is_other = writers.value != write.value;
+        let other = if is_other {
+            writers.last
+        } else {
+            writers.other
+        };
+        if marked[usize::from(write.at)] {
+            *writers = Writers {
+                value: write.value,
+                last: u16::from(write.at) + 1,
+                other,
+            };
+        } else if other > u16::from(write.before) {
+            *supporter = write.at;
+        }
+    }
+}
+
+/// Marks the supporters of these needs.
+pub fn mark(needed: &[u16], supporters: &[u8], marked: &mut Marked) {
+    for &write in needed {
+        marked[usize::from(supporters[usize::from(write)])] = true;
+    }
 }

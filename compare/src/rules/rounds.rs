@@ -1,8 +1,7 @@
-//! The marks round by round, each with one walk: a round marks the steps that the rule marks by the
-//! steps of earlier rounds alone. It tells how many rounds a plan has, and what they would cost one
-//! by one.
+//! The marks round by round: a round marks the steps that the rule marks by the steps of earlier
+//! rounds alone. It tells how many rounds a plan has, and what they cost one by one.
 
-use super::passes::repeated;
+use super::passes::{mark, repeated};
 use super::{Lodged, Mask, Refusal};
 
 /// Refusals 1 to 9 and 11.
@@ -14,15 +13,13 @@ pub fn marks(words: &[u32], plan: &[u32]) -> Result<Mask, Refusal> {
 impl Lodged<'_> {
     /// The marks, and how many rounds have marked something.
     pub fn marked_by_rounds(&self) -> (Mask, usize) {
-        repeated(self, |steps, supporters, marked| {
+        repeated(self, |needs, supporters, marked| {
             let mut next = *marked;
-            for step in &steps.all {
-                if marked[step.position] {
-                    supporters.mark(steps, &step.needs, &mut next);
+            for (position, needed) in needs.by_position() {
+                if marked[position] {
+                    mark(needed, supporters, &mut next);
                 }
-                supporters.note(steps, step, marked);
             }
-            supporters.mark(steps, &steps.goal, &mut next);
             next
         })
     }
