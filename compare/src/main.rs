@@ -1,9 +1,10 @@
 //! Compares the library of services with an independent version of document 01's rules, and of
-//! document 02's for the texts of a translator, on seeded random cases, on the documents' own worked
-//! lists and on texts that are damaged everywhere. A case compares the answer and every word of
-//! memory that is lent. What the built programs write is compared byte for byte.
+//! document 02's for marks and for the texts of a translator, on seeded random cases, on the
+//! documents' own worked lists and on texts that are damaged everywhere. A case compares the answer
+//! and every word of memory that is lent. What the built programs write is compared byte for byte.
 //!
-//! - `rules`: the services by the documents, and the search that the library is timed against;
+//! - `rules`: the services by the documents, and the passes and the search that the library is timed
+//!   against;
 //! - `makers`: tasks, sheets, faults of sheets, plans and texts, from a seeded generator;
 //! - `cases`: what is called with what, in kinds of random cases and in the worked lists;
 //! - `comparison`: the library, the programs and the rules against each other, and its own test;

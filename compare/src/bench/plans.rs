@@ -72,9 +72,9 @@ impl HardPlan {
 }
 
 /// The case of the family that had the most turns of 2,000, with its steps in front of 235 marked
-/// ones. They were chosen by the turns of earlier searches and by the older rule of marks, and stay as
-/// they are so that their rows can be compared with earlier ones. Lamps, the vault and decoys have the
-/// same in each.
+/// ones. They were chosen by the turns of earlier searches and by the older rule of marks, and stay
+/// so that their rows can be compared with earlier ones. Lamps, the vault and decoys have the same
+/// in each.
 fn hardest(family: Family) -> u64 {
     match family {
         Family::Lamps => 1,

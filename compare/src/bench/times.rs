@@ -102,7 +102,7 @@ fn families() -> bool {
     let plans = hard_plans();
     let times = times_of(plans.iter().map(|plan| plan.case()));
     println!("\nExact reduction, {MAX_UNMARKED} steps beside the chain, best of {RUNS} runs:\n");
-    let columns = ["Family", "They stand", "Steps", "Unmarked", "Turns"];
+    let columns = ["Family", "Placement", "Steps", "Unmarked", "Turns"];
     table::print_head(&[&columns[..], &["Library", "Rust", "Ratio", "Growth"]].concat());
     for (index, (plan, timed)) in plans.iter().zip(&times).enumerate() {
         let shortest = &times[index - index % LENGTHS.len()];

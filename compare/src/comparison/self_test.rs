@@ -2,7 +2,7 @@
 //! held to each other, and so are the ways of finding marks; services with a fault must be found
 //! out, and the text of a case must read back as its words.
 
-use super::faulty::FAULTS;
+use super::faulty::{Faulty, FAULTS};
 use super::inputs::input_bytes;
 use super::record::print_count;
 use super::{by_rules, text};
@@ -131,11 +131,7 @@ fn faults_are_found(seed: u64) -> bool {
         .all(|&(service, faults)| faults_of_service_are_found(seed, service, faults))
 }
 
-fn faults_of_service_are_found(
-    seed: u64,
-    service: Service,
-    faults: &[(&str, fn(&Memory) -> Memory)],
-) -> bool {
+fn faults_of_service_are_found(seed: u64, service: Service, faults: &[(&str, Faulty)]) -> bool {
     let worked = worked::cases().into_iter().map(|(_, case)| case);
     let random = numbered_cases(seed, CASES_FOR_FAULTS).map(|(_, case)| case);
     let with_answer = |Case { call, lent, .. }| {

@@ -132,8 +132,8 @@ pub fn with_gates(random: &mut Random) -> Answered {
     Answered::alike(task, plan, marked, kept)
 }
 
-/// Needed steps, and gates that are lifted and dropped again for nothing. The goal has all gates shut,
-/// as they are at the start, so that each lift and each drop would be marked if the others were.
+/// Needed steps, and gates that are lifted and dropped again for nothing. The goal has all gates
+/// shut, as they are at the start: so each lift and each drop would be marked if the others were.
 pub fn with_idle_gates(random: &mut Random, needed: usize) -> Answered {
     let gates = random.size(1..=4);
     let counter = 2 * gates;

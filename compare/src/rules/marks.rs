@@ -4,6 +4,7 @@
 //! each other get none.
 
 use super::{mask_of, split, Lodged, Mask, Refusal, MASK_WORDS, MAX_VARIABLES, WORD_BITS};
+use std::mem::replace;
 
 /// Refusals 1 to 9 and 11.
 pub fn marks(words: &[u32], plan: &[u32]) -> Result<Mask, Refusal> {
@@ -86,16 +87,15 @@ impl Positions {
 
     /// All that may mark a step.
     pub fn links(&self) -> Vec<Link> {
-        self.links_between(|effect, position| self.writes(position, effect))
+        self.links_by(|effect, position| self.writes(position, effect))
     }
 
-    /// The same where something else than that a position writes the effect keeps those before it
-    /// and those behind it apart.
-    pub fn links_between(&self, parts: impl Fn(Effect, usize) -> bool) -> Vec<Link> {
+    /// The same, where it is told which positions count as writers of an effect.
+    pub fn links_by(&self, is_writer: impl Fn(Effect, usize) -> bool) -> Vec<Link> {
         let [start, end] = self.start_and_end();
         let effects = (start + 1..end).flat_map(|step| self.effects(step));
-        let links = effects.map(|effect| self.link(effect, |position| parts(effect, position)));
-        links.collect()
+        let link = |effect| self.link(effect, |position| is_writer(effect, position));
+        effects.map(link).collect()
     }
 
     fn effects(&self, step: usize) -> impl Iterator<Item = Effect> + '_ {
@@ -109,10 +109,10 @@ impl Positions {
         })
     }
 
-    fn link(&self, effect: Effect, parts: impl Fn(usize) -> bool) -> Link {
+    fn link(&self, effect: Effect, is_writer: impl Fn(usize) -> bool) -> Link {
         let step = effect.step;
-        let earlier = up_to_first((0..step).rev(), &parts);
-        let later = up_to_first(step + 1..self.0.len(), &parts);
+        let earlier = up_to_first((0..step).rev(), &is_writer);
+        let later = up_to_first(step + 1..self.0.len(), &is_writer);
         Link {
             step,
             earlier: Set::of(earlier.filter(|&i| self.writes_other(i, effect))),
@@ -157,13 +157,13 @@ impl Positions {
     }
 }
 
-/// The positions up to the first that parts them from those behind it; that one is the last.
+/// The positions that have no writer before them: those up to the first one, and that one too.
 fn up_to_first(
     positions: impl Iterator<Item = usize>,
-    parts: impl Fn(usize) -> bool,
+    is_writer: impl Fn(usize) -> bool,
 ) -> impl Iterator<Item = usize> {
     let mut is_behind = false;
-    positions.take_while(move |&position| !std::mem::replace(&mut is_behind, parts(position)))
+    positions.take_while(move |&position| !replace(&mut is_behind, is_writer(position)))
 }
 
 /// A set of positions, one bit for each. A plan has no more than 257 of them.

@@ -1,6 +1,6 @@
-//! The services of document 01, and the reading of translator texts of document 02, written from
-//! their words alone. Checks stand in the order of the table of refusals, and each runs over the
-//! whole input before the next.
+//! The services of document 01, with the marks of document 02 and its reading of translator texts,
+//! written from their words alone. Checks stand in the order of the table of refusals, and each runs
+//! over the whole input before the next.
 
 mod blocks;
 mod elimination;

@@ -29,7 +29,7 @@ pub const KINDS: &[(&str, Make)] = kinds! { random:
         answered::with_lamps(random, needed, lamps).case(random)
     },
     "reduction: needed steps, few lamps" => {
-        let lamps = random.size(0..=3);
+        let lamps = random.size(0..=FEW_LAMPS);
         let steps = random.pick(&EDGE_LENGTHS).min(MAX_STEPS);
         answered::with_lamps(random, steps - lamps, lamps).case(random)
     },
@@ -41,7 +41,7 @@ pub const KINDS: &[(&str, Make)] = kinds! { random:
         answered::with_idle_gates(random, needed).case_of_marks(random)
     },
     "marks: long chain of needs" => {
-        let lamps = random.size(0..=3);
+        let lamps = random.size(0..=FEW_LAMPS);
         let steps = random.size(LONG..=MAX_STEPS);
         answered::with_lamps(random, steps - lamps, lamps).case_of_marks(random)
     },
@@ -62,6 +62,7 @@ pub const KINDS: &[(&str, Make)] = kinds! { random:
 const EDGE_LENGTHS: [usize; 9] = [63, 64, 65, 127, 128, 129, 254, MAX_STEPS, MAX_STEPS + 1];
 const SHORT: usize = 14;
 const LONG: usize = 200;
+const FEW_LAMPS: usize = 3;
 /// The restores that a plan has room for, each with the step that needs it.
 const MOST_LINKS: usize = MAX_STEPS / 2;
 
@@ -115,7 +116,7 @@ fn of_restores(random: &mut Random, links: RangeInclusive<usize>) -> Option<Case
         links,
         marked: random.pick(&[links, nearly_all, some]),
         width: random.size(2..=4),
-        lamps: random.size(0..=3.min(MAX_STEPS - 2 * links)),
+        lamps: random.size(0..=FEW_LAMPS.min(MAX_STEPS - 2 * links)),
     };
     restores.make(random).case_of_marks(random)
 }

@@ -10,7 +10,7 @@ pub const FAULTS: [(&str, Faulty); 9] = [
     ("marks nothing", |lent| {
         marking(lent, |_, positions| Set::of(positions.start_and_end()))
     }),
-    ("marks what supports each other", |lent| {
+    ("marks mutual support", |lent| {
         marking(lent, |_, positions| greatest(positions))
     }),
     ("takes unmarked earlier steps", |lent| {
@@ -43,10 +43,10 @@ pub const FAULTS: [(&str, Faulty); 9] = [
     }),
     ("overlooks writers between", |lent| {
         marking(lent, |_, positions| {
-            positions.least(&positions.links_between(|_, _| false))
+            positions.least(&positions.links_by(|_, _| false))
         })
     }),
-    ("takes an action's steps for one", |lent| {
+    ("takes an action for a step", |lent| {
         marking(lent, by_actions)
     }),
     ("looks at every step once", |lent| {
@@ -106,7 +106,7 @@ fn only(set: Set, position: usize) -> Set {
 /// Another step of the same action is not another writer.
 fn by_actions(lodged: &Lodged, positions: &Positions) -> Set {
     let action = |step: usize| lodged.plan.get(step.wrapping_sub(1));
-    let links = positions.links_between(|effect, position| {
+    let links = positions.links_by(|effect, position| {
         positions.writes(position, effect) && action(position) != action(effect.step)
     });
     positions.least(&links)

@@ -6,7 +6,7 @@ mod marks;
 use crate::cases::{Memory, Service};
 
 /// Answers in a copy of what is lent.
-type Faulty = fn(&Memory) -> Memory;
+pub type Faulty = fn(&Memory) -> Memory;
 
 /// The faulty services in the place of each service, with what is wrong with them.
 pub const FAULTS: [(Service, &[(&str, Faulty)]); 2] = [

@@ -107,8 +107,8 @@ impl Shape {
         self.with_late(cheap, doors.to_vec(), given)
     }
 
-    /// All is kept: each key has one step, unless there are too many for an exact reduction. The door
-    /// is marked, since the chain has opened what it shuts, and so is each key that has one step.
+    /// All is kept where each key has one step. The door is marked, since the chain has opened what it
+    /// shuts, and so is each key that has one step.
     pub(super) fn vault(&self, random: &mut Random) -> Part {
         let keys = self.size - 1;
         let cheap = self.cheap().lamp_actions(random, FIRST, keys);
@@ -117,15 +117,15 @@ impl Shape {
         let door = action(self.dearest().cost(random), needed, vec![shut]);
         let shared = keys.saturating_sub(MOST_LAMPS).min(MOST_LAMPS);
         Part {
-            kept: Some(vec![true; self.size]),
+            kept: (shared == 0).then(|| vec![true; self.size]),
             marked: WITH_OPENED + keys.min(MOST_LAMPS) - shared,
             opened: vec![open],
             ..self.with_late(cheap, vec![door], shut)
         }
     }
 
-    /// Only the late step is kept, and it is marked, since the chain has opened what it shuts: what the
-    /// decoys set is set again anyway.
+    /// Only the late step is kept: what the decoys set is set again anyway. It is marked, since the
+    /// chain has opened what it shuts.
     pub(super) fn decoys(&self, random: &mut Random) -> Part {
         let decoys = self.size - 1;
         let cheap = self.cheap().lamp_actions(random, FIRST, decoys);

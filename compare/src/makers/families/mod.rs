@@ -47,7 +47,7 @@ impl Family {
     /// Whether the exact reduction takes a turn or two for each choice of the unmarked steps, at some
     /// placement at least: nothing tells early that a choice comes to nothing.
     pub fn defeats_cuts(self) -> bool {
-        matches!(self, Keys | Vault | Decoys | Laden)
+        matches!(self, Keys)
     }
 }
 
