@@ -3,7 +3,7 @@
 use crate::cases::{Answer, Case, Service};
 use crate::makers::answered::{self, Answered};
 use crate::makers::families::{Family, Made, Placement, Shape};
-use crate::makers::restores::Restores;
+use crate::makers::restores::{Asker, Restores, MOST_LINKS};
 use crate::makers::{action, fact, Action, Random, Task, Walk};
 use crate::rules::{Kept, MAX_STEPS, MAX_UNMARKED, MAX_VARIABLES};
 use std::fmt::Debug;
@@ -155,12 +155,11 @@ pub fn chain_of_needs() -> Answered {
 
 /// As many restores as there may be: each is marked by the one before it, a pass later.
 pub fn chain_of_earlier_steps() -> Answered {
-    let links = MAX_STEPS / 2;
     let restores = Restores {
-        links,
-        marked: links,
-        width: 2,
-        lamps: MAX_STEPS % 2,
+        links: MOST_LINKS,
+        marked: MOST_LINKS,
+        asker: Asker::NextStep(2),
+        lamps: MAX_STEPS - 2 * MOST_LINKS,
     };
     restores.make(&mut Random::of_case(SEED, 0))
 }

@@ -5,7 +5,7 @@ use super::{case_with, kept, plan_case, service_for_valid, Make, QUICK_STEPS};
 use crate::cases::{Answer, Case, Service, REDUCING};
 use crate::makers::answered::{self, Answered};
 use crate::makers::cycles::{self, Shape};
-use crate::makers::restores::Restores;
+use crate::makers::restores::{Asker, Restores, MOST_FOR_GOAL, MOST_LINKS};
 use crate::makers::{Random, Walk};
 use crate::rules::{mask_of, Cause, Refusal, MAX_STEPS, MAX_UNMARKED};
 use std::ops::RangeInclusive;
@@ -45,8 +45,11 @@ pub const KINDS: &[(&str, Make)] = kinds! { random:
         let steps = random.size(LONG..=MAX_STEPS);
         answered::with_lamps(random, steps - lamps, lamps).case_of_marks(random)
     },
-    "marks: chain of earlier steps" => of_restores(random, 0..=SHORT),
-    "marks: long chain of earlier steps" => of_restores(random, LONG / 2..=MOST_LINKS),
+    "marks: chain of earlier steps" => of_restores(random, SEVERAL, 0..=SHORT),
+    "marks: long chain of earlier steps" => of_restores(random, SEVERAL, LONG / 2..=MOST_LINKS),
+    "marks: earlier steps, for the goal" => {
+        of_restores(random, &[Asker::Goal], 1..=MOST_FOR_GOAL)
+    },
     "reduction: output short" => with_short_output(random, |walk, _| short_output(walk)),
     "reduction: output short, plan not valid" => with_short_output(random, |walk, random| {
         walk.spoil(random)?;
@@ -63,8 +66,7 @@ const EDGE_LENGTHS: [usize; 9] = [63, 64, 65, 127, 128, 129, 254, MAX_STEPS, MAX
 const SHORT: usize = 14;
 const LONG: usize = 200;
 const FEW_LAMPS: usize = 3;
-/// The restores that a plan has room for, each with the step that needs it.
-const MOST_LINKS: usize = MAX_STEPS / 2;
+const SEVERAL: &[Asker] = &[Asker::NextStep(2), Asker::NextStep(3), Asker::NextStep(4)];
 
 fn walk_case(random: &mut Random, walk: &Walk) -> Case {
     let service = service_for_valid(random, walk.plan.len());
@@ -108,14 +110,18 @@ fn marks_of_cycles(random: &mut Random) -> Option<Case> {
 }
 
 /// Most often all restores are marked, or nearly all, so that the exact reduction takes the plan.
-fn of_restores(random: &mut Random, links: RangeInclusive<usize>) -> Option<Case> {
+fn of_restores(
+    random: &mut Random,
+    askers: &[Asker],
+    links: RangeInclusive<usize>,
+) -> Option<Case> {
     let links = random.size(links);
     let nearly_all = random.size(links.saturating_sub(SHORT)..=links);
     let some = random.size(0..=links);
     let restores = Restores {
         links,
         marked: random.pick(&[links, nearly_all, some]),
-        width: random.size(2..=4),
+        asker: random.pick(askers),
         lamps: random.size(0..=FEW_LAMPS.min(MAX_STEPS - 2 * links)),
     };
     restores.make(random).case_of_marks(random)
