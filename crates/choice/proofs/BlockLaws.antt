@@ -7,7 +7,7 @@ use native.Mathlib.Omega.{arith}
 use mathlib.Core.Path.{_≡_, refl, sym, _∙_, ap}
 use mathlib.Core.Logic.{_≢_}
 use mathlib.Core.Bool.{Bool, true, false, true≢false}
-use mathlib.Core.List.{List, [], _∷_}
+use mathlib.Core.List.{List}
 use lib.ListN.{length, getD, replicate, length-map, length-replicate}
 use lib.Dec.{ltb}
 use borrow.Author.Tests.{ltb-true, ltb-false, lt-ltb, le-ltb}
@@ -17,15 +17,13 @@ use Rattle.sas.specs.between.WellFormed.{Known, Action-formed}
 use Rattle.sas.proofs.ActionLaws.{applicable-needed}
 use Rattle.sas.proofs.WellFormedLaws.{rising-few}
 use Rattle.reduction.specs.Reduction.{Reduction}
-use Rattle.reduction.specs.Landmark.{step}
 use Rattle.reduction.specs.between.Course.{held-after}
 use Rattle.reduction.proofs.HeldLaws.{step-formed}
 use Rattle.sheet.specs.Decode.{domains, action}
 use Rattle.sheet.proofs.Parts.{accepted-measured}
 use Rattle.sheet.proofs.Accepted.{domains-length}
-use Rattle.plan.specs.Valid.{steps}
 use Rattle.plan.specs.Readable.{Readable}
-use Rattle.plan.proofs.PlanLaws.{steps-formed}
+use Rattle.plan.proofs.PlanLaws.{steps-at, steps-formed}
 use Rattle.cuts.specs.between.Bits.{bits-hold}
 use Rattle.choice.specs.between.Chosen.{most-choices, open-before}
 use Rattle.choice.specs.between.Packed.{state-bytes, row-bytes, most-rows, has-all, written-over}
@@ -33,12 +31,6 @@ use Rattle.choice.specs.between.Rows.{strike-row, keep-row, use-row, str
 use Rattle.choice.proofs.ChosenLaws.{open-flagged, open-unflagged, open-rises}
 use Rattle.choice.proofs.RowWriteLaws.{has-byte, Same-row, same-through, Blank-from, stamped-row-length, stamped-row-other}
 use Rattle.choice.proofs.RowWriteLaws.{same-asked, stamped-asked, all-bits-hold, same-written, blank-written, stamped-held}
-
--- the step at an index is the action that stands there
-pub step-there : (w l : List ℕ) (i : ℕ) → i < length l → step (steps w l) i ≡ action w (getD l i 0)
-step-there w [] i h = absurd (omega arith)
-step-there w (a ∷ l) zero h = refl
-step-there w (a ∷ l) (suc i) h = step-there w l i (omega arith)
 
 -- an unflagged step of a list with few of them has room
 pub open-room : (flags : Reduction) (i n : ℕ) → open-before flags n ≤ most-choices → i < n → getD flags i false ≡ false → open-before flags i < most-choices
@@ -230,7 +222,7 @@ module _ (w l : List ℕ) (flags : Reduction) (wanted used : List ℕ) (readable
   module _ (i : ℕ) (inside : i < length l) where
     -- the step there is over the domains
     formed-at : Action-formed (domains w) (action w (getD l i 0))
-    formed-at = rw (step-there w l i inside) at (step-formed (steps-formed w l (readable .accepted) (readable .known)) i (rw (length-map l (action w)) inside))
+    formed-at = rw (steps-at w l i inside) at (step-formed (steps-formed w l (readable .accepted) (readable .known)) i (rw (length-map l (action w)) inside))
 
     sized-there : length (rows-at i) ≡ most-rows * row-bytes
     sized-there = rows-sized i (omega arith)

@@ -25,6 +25,7 @@ use Rattle.sheet.specs.Layout.{cost-word}
 use Rattle.sheet.specs.Decode.{domains, initial, goal, action, task}
 use Rattle.sheet.proofs.Accepted.{domains-length, domain-limits, accepted-well-formed}
 use Rattle.plan.specs.Valid.{steps}
+use Rattle.plan.proofs.PlanLaws.{steps-at}
 use Rattle.plan.specs.Readable.{Readable}
 use Rattle.step.specs.State.{in-array}
 use Rattle.step.proofs.StateLaws.{array-parts, few-variables}
@@ -34,7 +35,7 @@ use Rattle.choice.specs.between.Packed.{has-all, written-over, packed-st
 use Rattle.choice.specs.between.Rows.{strike-row, keep-row, use-row, struck-row, kept-row, noted-cost, rows-before, costs-before}
 use Rattle.choice.proofs.ChosenLaws.{open-unflagged, open-rises, open-stays, Next-open}
 use Rattle.choice.proofs.RowWriteLaws.{has-byte, over-length, same-written, blank-written}
-use Rattle.choice.proofs.BlockLaws.{step-there, open-room, no-rows, no-rows-blank, rows-done}
+use Rattle.choice.proofs.BlockLaws.{open-room, no-rows, no-rows-blank, rows-done}
 use Rattle.choice.proofs.BlockLaws.{struck-grows, kept-grows, struck-starts, kept-starts, strike-asked, keep-asked, use-asked}
 
 -- bytes tell of each known fact whether it holds
@@ -86,17 +87,17 @@ module _ (w l : List ℕ) (flags : Reduction) (wanted used : List ℕ) (readable
     pub strike-row-tells : has-all (rows-before w l flags wanted used no-rows (length l)) (strike-row (open-before flags (v .index) + 1)) b
         ≡ bits-hold (v .state) (getD wanted (v .index) 0) (written (step (steps w l) (v .index)))
     strike-row-tells =
-        strike-asked w l flags wanted used readable few (v .index) inside down b (v .state) told-there ∙ rw (step-there w l (v .index) inside)
+        strike-asked w l flags wanted used readable few (v .index) inside down b (v .state) told-there ∙ rw (steps-at w l (v .index) inside)
 
     -- that of a keep tells whether the step can be done
     pub keep-row-tells : has-all (rows-before w l flags wanted used no-rows (length l)) (keep-row (open-before flags (v .index) + 1)) b
         ≡ applicable (v .state) (step (steps w l) (v .index))
-    keep-row-tells = keep-asked w l flags wanted used readable few (v .index) inside down b (v .state) told-there ∙ rw (step-there w l (v .index) inside)
+    keep-row-tells = keep-asked w l flags wanted used readable few (v .index) inside down b (v .state) told-there ∙ rw (steps-at w l (v .index) inside)
 
     -- and that of its use whether what of use it may write holds
     pub use-row-tells : has-all (rows-before w l flags wanted used no-rows (length l)) (use-row (open-before flags (v .index) + 1)) b
         ≡ bits-hold (v .state) (getD used (v .index) 0) (written (step (steps w l) (v .index)))
-    use-row-tells = use-asked w l flags wanted used readable few (v .index) inside down b (v .state) told-there ∙ rw (step-there w l (v .index) inside)
+    use-row-tells = use-asked w l flags wanted used readable few (v .index) inside down b (v .state) told-there ∙ rw (steps-at w l (v .index) inside)
 
   -- row r of the block before index i grows by the flagged steps from there on, which n keeps
   module _ (n : Reduction) (i j : ℕ) (next : Next-open flags i (length l) j) (keeps : (k : ℕ) → i ≤ k → k < j → getD n k false ≡ true) (b : List ℕ) where
@@ -109,7 +110,7 @@ module _ (w l : List ℕ) (flags : Reduction) (wanted used : List ℕ) (readable
         (λ k later so-far h f known.
         let inside : k < length l = omega (arith, next .within) in
         grows k later h f known
-        ∙ rw (so-far (omega arith) f known, ← step-there w l k inside) (sym (held-kept (initial w) (steps w l) n f k (keeps k later h))))
+        ∙ rw (so-far (omega arith) f known, ← steps-at w l k inside) (sym (held-kept (initial w) (steps w l) n f k (keeps k later h))))
         j (next .later) (omega arith)
 
     -- from the next unflagged step on it stays
@@ -171,7 +172,7 @@ module _ (w l : List ℕ) (flags : Reduction) (wanted used : List ℕ) (readable
         (rw open-next
         (λ f known.
         kept-starts w l flags wanted used readable few i inside down b (told .sized) f known
-        ∙ rw (told-alike f known, ← step-there w l i inside) (sym (held-kept (initial w) (steps w l) n f i up)))))
+        ∙ rw (told-alike f known, ← steps-at w l i inside) (sym (held-kept (initial w) (steps w l) n f i up)))))
 
   -- the state before the first unflagged step
   pub start-row-writes : (n : Reduction) (j : ℕ) → Next-open flags 0 (length l) j → ((k : ℕ) → k < j → getD n k false ≡ true)

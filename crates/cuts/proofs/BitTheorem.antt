@@ -1,6 +1,6 @@
 -- The test of a step's words in a state is that of the cuts: at each known fact the tables behind the step tell whether it is wanted and whether it is needed,
 -- and each fact that an action of an accepted sheet may write has a bit, since there are no more of them than variables. Assumes nothing.
-use Prim.Native.Nat.{ℕ, zero, suc, _+_, _≤_, _<_}
+use Prim.Native.Nat.{ℕ, _+_, _≤_, _<_}
 use native.Mathlib.Omega.{arith}
 use mathlib.Core.Path.{_≡_, refl, _∙_}
 use mathlib.Core.Bool.{Bool, true, false, cond, not, _&&_, _||_}
@@ -27,7 +27,7 @@ use Rattle.plan.specs.Limits.{most-steps}
 use Rattle.plan.specs.Readable.{Readable}
 use Rattle.plan.specs.Valid.{steps}
 use Rattle.plan.proofs.FaultLaws.{steps-drop, drop-next}
-use Rattle.plan.proofs.PlanLaws.{rest-formed}
+use Rattle.plan.proofs.PlanLaws.{steps-at, rest-formed}
 use Rattle.fact_table.specs.between.Tables.{most-facts, is-wanted, has-wanted}
 use Rattle.fact_table.proofs.StampLaws.{stamped-length}
 use Rattle.fact_table.proofs.WantsLaws.{before-length, wants-next, goal-length, goal-wants, stamped-known}
@@ -38,12 +38,6 @@ use Rattle.cuts.proofs.HoldLaws.{bits-tell}
 one-stamp : (x : Bool) (n : ℕ) → eqb (cond x is-wanted n) is-wanted ≡ (x || eqb n is-wanted)
 one-stamp true n = refl
 one-stamp false n = refl
-
--- the step at index i is the action that the entry there names
-step-of-entry : (w l : List ℕ) (i : ℕ) → i < length l → step (steps w l) i ≡ action w (getD l i 0)
-step-of-entry w [] i h = absurd (omega arith)
-step-of-entry w (a ∷ l) zero h = refl
-step-of-entry w (a ∷ l) (suc i) h = step-of-entry w l i (omega arith)
 
 module _ (w : List ℕ) (accepted : Accepted w) where
   table-before-length : (l : List ℕ) (flags : Reduction) → length (table-before w l flags) ≡ most-facts
@@ -113,7 +107,7 @@ module _ (w l : List ℕ) (flags : Reduction) (wanted-words needed-words : List 
   pub wanted-told : bits-hold (v .state) (getD wanted-words (v .index) 0) (written (step (steps w l) (v .index))) ≡ wanted-held (goal w) (steps w l) flags v
   unfolding wanted-held step-bits
   wanted-told =
-      rw (told .wants (v .index) inside within unflagged, step-of-entry w l (v .index) inside, ← steps-drop w l (v .index + 1))
+      rw (told .wants (v .index) inside within unflagged, steps-at w l (v .index) inside, ← steps-drop w l (v .index + 1))
       (packed-tells w (readable .accepted) here here-formed _ _
       (wanted-tells w (readable .accepted) (drop (v .index + 1) l) (drop (v .index + 1) flags) (formed-from (v .index + 1))) (v .state))
 
@@ -121,6 +115,6 @@ module _ (w l : List ℕ) (flags : Reduction) (wanted-words needed-words : List 
   pub useful-told : bits-hold (v .state) (getD needed-words (v .index) 0) (written (step (steps w l) (v .index))) ≡ not (useful (goal w) (steps w l) v)
   unfolding useful needed-bits
   useful-told =
-      rw (told .needs (v .index) inside within unflagged, step-of-entry w l (v .index) inside, ← steps-drop w l (v .index + 1))
+      rw (told .needs (v .index) inside within unflagged, steps-at w l (v .index) inside, ← steps-drop w l (v .index + 1))
       (packed-tells w (readable .accepted) here here-formed _ _
       (needed-tells w (readable .accepted) (drop (v .index + 1) l) (formed-from (v .index + 1))) (v .state))

@@ -1,12 +1,12 @@
 -- A trial from the state before its step, on the flags that the code holds, is the trial of the definitions, by `trial-from-before`; and elimination's
 -- turn follows from its outcome. Assumes nothing.
-use Prim.Native.Nat.{ℕ, zero, suc, _+_, _-_, _<_}
+use Prim.Native.Nat.{ℕ, suc, _+_, _-_, _<_}
 use native.Mathlib.Numerals.{add-one}
 use native.Mathlib.Omega.{arith}
-use mathlib.Core.Path.{_≡_, refl, sym, _∙_, ap}
+use mathlib.Core.Path.{_≡_, sym, _∙_, ap}
 use mathlib.Core.Bool.{Bool, true, false, and-false}
 use mathlib.Core.Option.{none, some, Option·some-injective}
-use mathlib.Core.List.{List, [], _∷_, _++_, append-assoc}
+use mathlib.Core.List.{List, _∷_, _++_, append-assoc}
 use lib.ListN.{length, getD, set, take, drop, replicate, length-drop, length-map, length-append, length-replicate, length-set}
 use lib.Seq.{length-take-le, take-take, getD-take, take-at, getD-at, drop-append-le}
 use Rattle.sas.specs.Plan.{satisfies, applicable}
@@ -15,9 +15,9 @@ use Rattle.step.specs.between.Advance.{Advances}
 use Rattle.sheet.specs.Decode.{initial, goal, action}
 use Rattle.plan.specs.Limits.{most-steps}
 use Rattle.plan.specs.Valid.{steps}
+use Rattle.plan.proofs.PlanLaws.{steps-at}
 use Rattle.plan.proofs.FaultLaws.{steps-drop}
 use Rattle.reduction.specs.Reduction.{Reduction, Before}
-use Rattle.reduction.specs.Landmark.{step}
 use Rattle.reduction.specs.between.Elimination.{trial}
 use Rattle.reduction.specs.Trials.{walk, after}
 use Rattle.reduction.proofs.TrialLaws.{From-before, trial-from-before, trial-succeeds, success-valid, walk-length, unkept-fails}
@@ -25,12 +25,6 @@ use Rattle.reduction.proofs.BeforeLaws.{Passes, before-next, walk-past}
 use Rattle.elimination.specs.between.Trial.{Tries}
 use Rattle.service.specs.between.Held.{mask}
 use Rattle.elimination.specs.between.Current.{Current, Eliminates}
-
--- the step at index i is the action that the entry there names
-pub steps-at : (w l : List ℕ) (i : ℕ) → i < length l → step (steps w l) i ≡ action w (getD l i 0)
-steps-at w [] i h = absurd (omega arith)
-steps-at w (a ∷ l) zero h = refl
-steps-at w (a ∷ l) (suc i) h = steps-at w l i (omega arith)
 
 module _ (w l : List ℕ) (flags : Reduction) (current : Current w l flags) where
   pub mask-length : length (mask l flags) ≡ length l

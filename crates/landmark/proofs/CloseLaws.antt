@@ -1,44 +1,38 @@
 -- The walk back along a list's positions: what each position needs, by list induction, and the supports raised from the end step on, by the cases of the loop
 -- that does so. What is left of the walk makes of the flags what all of it makes of the first. It ends before the start step, which needs nothing.
 -- What the code calls is a variable here, with what is known of it as a premise. Assumes nothing.
-use Prim.Native.Nat.{ℕ, zero, suc, _+_, _-_, _≤_, _<_}
+use Prim.Native.Nat.{ℕ, suc, _+_, _-_, _≤_, _<_}
 use native.Mathlib.Numerals.{add-one}
 use native.Mathlib.Omega.{arith}
 use mathlib.Core.Path.{_≡_, refl, _∙_}
 use mathlib.Core.Bool.{Bool, true, false, cond}
-use mathlib.Core.List.{List, [], _∷_, _++_}
+use mathlib.Core.List.{List}
 use lib.ListN.{length, getD, length-map}
-use lib.Seq.{getD-at}
-use Rattle.sas.specs.Task.{Action, idle}
 use Rattle.sas.specs.Plan.{needed}
 use Rattle.reduction.specs.Reduction.{Reduction}
-use Rattle.reduction.specs.Landmark.{step, framed, end-step}
+use Rattle.reduction.specs.Landmark.{step, framed}
+use Rattle.reduction.proofs.FrameLaws.{framed-step, framed-end}
 use Rattle.sheet.specs.declared.group.Group.{Group}
-use Rattle.sheet.specs.Decode.{goal, action}
+use Rattle.sheet.specs.Decode.{initial, goal, action}
 use Rattle.sheet.specs.between.Group.{goal-group, needed-group, facts-in}
 use Rattle.sheet.proofs.GroupLaws.{goal-facts, needed-facts}
 use Rattle.plan.specs.Valid.{steps}
+use Rattle.plan.proofs.PlanLaws.{steps-at}
 use Rattle.landmark.specs.between.Rows.{row-start, row-raised}
 use Rattle.landmark.specs.between.Passes.{framed-list, closed}
-
--- before the step e, which stands behind a list's steps, the step at index i is the action that the entry there names
-step-before : (w l : List ℕ) (e : Action) (i : ℕ) → i < length l → step (steps w l ++ (e ∷ [])) i ≡ action w (getD l i 0)
-step-before w [] e i h = absurd (omega arith)
-step-before w (a ∷ l) e zero h = refl
-step-before w (a ∷ l) e (suc i) h = step-before w l e i (omega arith)
 
 module _ (w l : List ℕ) (i : ℕ) (g : Group) where
   -- the position behind index i needs the facts of the step there
   pub needs-of-step : i < length l → g ≡ needed-group w (getD l i 0) → facts-in w g ≡ needed (step (framed-list w l) (suc i))
-  unfolding framed
-  needs-of-step h group = rw (group, step-before w l (end-step (goal w)) i h) (needed-facts w (getD l i 0))
+  needs-of-step h group =
+      rw (group, framed-step (initial w) (goal w) (steps w l) i (rw length-map h), steps-at w l i h) (needed-facts w (getD l i 0))
 
   -- and the one behind the last step those of the goal
   pub needs-of-goal : i ≤ length l → length l ≤ i → g ≡ goal-group w → facts-in w g ≡ needed (step (framed-list w l) (suc i))
-  unfolding framed needed
+  unfolding needed
   needs-of-goal h h′ group =
-      let last : length (steps w l) ≡ i = length-map l (action w) ∙ omega arith in
-      rw (group, getD-at (steps w l) (end-step (goal w)) [] idle i last) (goal-facts w)
+      let last : i ≡ length (steps w l) = omega (arith, length-map l (action w)) in
+      rw (group, last, framed-end (initial w) (goal w) (steps w l)) (goal-facts w)
 
 module _ (w l rows : List ℕ) (first : Reduction) where
   -- where the walk stands before position i, with the flags that it has there

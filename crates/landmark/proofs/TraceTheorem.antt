@@ -18,7 +18,7 @@ use Rattle.sas.specs.between.WellFormed.{Known, Rising, Action-formed}
 use Rattle.sas.specs.between.WellFormed.Rising.{fact}
 use Rattle.sas.proofs.WellFormedLaws.{rising-above}
 use Rattle.reduction.specs.between.Wanted.{some-fact, same-fact, has}
-use Rattle.reduction.specs.between.Landmarks.{sets-other, Trace, passed}
+use Rattle.reduction.specs.between.Landmarks.{other-value, sets-other, Trace, passed}
 use Rattle.reduction.proofs.MemberLaws.{same-fact-true, same-fact-refl, found-passes, no-member-has}
 use Rattle.reduction.proofs.LinkLaws.{either}
 use Rattle.sheet.specs.Limits.{limits}
@@ -44,9 +44,6 @@ pub record Sized (t : Tables) : Type 0 where
   pub latest : length (t .latest) ≡ latest-start (limits .variables)
 
 -- the trace of g behind a step at position j that writes the facts of e
-abbrev other-value : Fact → Fact → Bool
-other-value g f = eqb (f .variable) (g .variable) && not (eqb (f .value) (g .value))
-
 abbrev passed-if : Bool → Bool → ℕ → Trace → Trace
 passed-if writes other j t =
     record {

@@ -1,5 +1,5 @@
--- The marks of a list, and what the service answers (document 01, "Marks"). That they are those of the rule is
--- `marks-theorem` of proofs/MarkTheorem. Assumes nothing.
+-- The marks of a list (document 02, C-12), and what the service answers (document 01, "Marks"). That they are those of
+-- the rule is `marks-theorem` of proofs/MarkTheorem. Assumes nothing.
 use Prim.Native.Nat.{ℕ, _-_}
 use mathlib.Core.Path.{_≡_}
 use mathlib.Core.List.{List}

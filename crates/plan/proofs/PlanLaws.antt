@@ -13,7 +13,7 @@ use Rattle.refusal.specs.Refusal.{Told, told-refusal}
 use Rattle.refusal.specs.Check.{Check, answer}
 use Rattle.refusal.proofs.PlaceLaws.{first-of-none, when-nowhere, first-of-nowhere}
 use Rattle.refusal.proofs.CheckLaws.{none-fires, answer-fires, answer-passes, answer-nothing, answer-first, answer-second, first-none}
-use Rattle.sas.specs.Task.{Action}
+use Rattle.sas.specs.Task.{Action, idle}
 use Rattle.sas.specs.Plan.{cost}
 use Rattle.sas.specs.between.WellFormed.{Rising}
 use Rattle.sas.proofs.WellFormedLaws.{Actions-formed}
@@ -60,6 +60,12 @@ module _ (w : List ℕ) (accepted : Accepted w) where
   pub goal-rising : Rising (domains w) 0 (goal w)
   unfolding task
   goal-rising = accepted-well-formed w accepted .goal
+
+-- the step at an index is the action that the entry there names
+pub steps-at : (w l : List ℕ) (i : ℕ) → i < length l → getD (steps w l) i idle ≡ action w (getD l i 0)
+steps-at w [] i h = absurd (omega arith)
+steps-at w (a ∷ l) zero h = refl
+steps-at w (a ∷ l) (suc i) h = steps-at w l i (omega arith)
 
 dropped-formed : {domains : List ℕ} (i : ℕ) (p : List Action) → Actions-formed domains p → Actions-formed domains (drop i p)
 dropped-formed zero p formed = formed

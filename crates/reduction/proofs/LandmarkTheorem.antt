@@ -87,7 +87,7 @@ module _ (s : State) (goal : Assignment) (p : List Action) where
   end-up (suc r) = flags-more r (suc (length p)) (end-up r)
 
   -- what a round flags the rounds' rule has
-  flagged-in-round : (r k : ℕ) → keeps (flags r) k → (a : ℕ) × (a ≤ r) × In-round s goal p a k
+  pub flagged-in-round : (r k : ℕ) → keeps (flags r) k → (a : ℕ) × (a ≤ r) × In-round s goal p a k
   unfolding rounds
   flagged-in-round zero k up =
       ⊎-elim
@@ -104,7 +104,7 @@ module _ (s : State) (goal : Assignment) (p : List Action) where
       (round-why (framed s goal p) (flags r) k (start-up r) up)
 
   -- and what it has is flagged then, and from then on
-  in-round-flagged : {a k : ℕ} (r : ℕ) → a ≤ r → In-round s goal p a k → keeps (flags r) k
+  pub in-round-flagged : {a k : ℕ} (r : ℕ) → a ≤ r → In-round s goal p a k → keeps (flags r) k
   unfolding rounds
   in-round-flagged r few start-first = start-up r
   in-round-flagged r few end-first = end-up r

@@ -6,12 +6,13 @@ use native.Mathlib.Omega.{arith}
 use mathlib.Core.Path.{_≡_, refl, sym, _∙_, ap}
 use mathlib.Core.Logic.{⊎-elim, _≢_}
 use mathlib.Core.Bool.{true, false, true≢false}
-use mathlib.Core.List.{List, []}
+use mathlib.Core.List.{List, [], List·Memᴰ}
 use lib.ListN.{length, getD, drop, drop-of-length-le}
 use lib.Dec.{ltb}
 use borrow.Author.Tests.{ltb-true, ltb-false}
 use Rattle.sas.specs.Task.{Fact, Assignment, State, Action}
 use Rattle.sas.specs.Plan.{holds, applicable, apply, may-write, needs}
+use Rattle.sas.specs.between.WellFormed.{Action-formed}
 use Rattle.sas.proofs.FactLaws.{satisfied-holds}
 use Rattle.sas.proofs.WellFormedLaws.{Actions-formed}
 use Rattle.sas.proofs.ActionLaws.{result-applied, needed-holds, idle-needs-nothing, other-fails, stays-false}
@@ -132,8 +133,8 @@ module _ {domains : List ℕ} (s : State) (goal : Assignment) (p : List Action) 
       (either (getD m y false))
 
 -- every valid reduction keeps every marked step
-pub landmark-kept : {domains : List ℕ} {s : State} {goal : Assignment} {p : List Action} {m : Reduction} {i : ℕ} → Actions-formed domains p
-    → Valid-reduction s goal p m → Landmark s goal p i → keeps m i
+pub landmark-kept : {domains : List ℕ} {s : State} {goal : Assignment} {p : List Action} {m : Reduction} {i : ℕ}
+    → ((a : Action) → List·Memᴰ a p → Action-formed domains a) → Valid-reduction s goal p m → Landmark s goal p i → keeps m i
 landmark-kept {s = s} {goal = goal} {p = p} {m = m} {i = i} formed v (inside, marked) = marked-kept s goal p formed m v marked i refl inside
 
 -- and so the flagged ones

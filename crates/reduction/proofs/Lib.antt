@@ -14,10 +14,6 @@ pub mod LinkLaws
 pub mod RoundLaws
 -- LandmarkTheorem: the steps flagged are the landmarks, and as many rounds as there are steps reach them.
 pub mod LandmarkTheorem
--- LandmarksKept: every valid reduction keeps every marked step.
-pub mod LandmarksKept
--- OlderTheorem: every step that document 01's rule marks is still marked.
-pub mod OlderTheorem
 -- TrialLaws: what a walk and a successful trial leave, and that a trial walks along the rest from the state before its step.
 pub mod TrialLaws
 -- PartWalk: a walk in the first values of a state is the walk in the state.
@@ -48,6 +44,10 @@ pub mod CutLaws
 pub mod SearchTheorem
 -- HeldLaws: which facts hold after an action and before an index, by what was done before.
 pub mod HeldLaws
+-- LandmarksKept: every valid reduction keeps every marked step.
+pub mod LandmarksKept
+-- OlderTheorem: every step that document 01's rule marks is still marked.
+pub mod OlderTheorem
 -- UseLaws: a step that sets nothing of use is never kept, and all that the search is told is sound.
 pub mod UseLaws
 -- CourseLaws: the search stays on course, and passes flagged steps without a test.

@@ -14,7 +14,7 @@ use Rattle.sas.specs.Plan.{written, may-write, needs}
 use Rattle.reduction.specs.Reduction.{Reduction, keeps}
 use Rattle.reduction.specs.Landmark.{step, Writes-other, Link}
 use Rattle.reduction.specs.between.Wanted.{has}
-use Rattle.reduction.specs.between.Landmarks.{sets-other, passed, trace, support}
+use Rattle.reduction.specs.between.Landmarks.{other-value, sets-other, passed, trace, support}
 use Rattle.reduction.proofs.MemberLaws.{found, found-passes, has-member, member-has, has-no-member, no-member-has}
 
 pub either : (b : Bool) → (b ≡ true) ⊎ (b ≡ false)
@@ -24,10 +24,7 @@ either false = inr refl
 pub before-or-at : (i k : ℕ) → i < suc k → (i < k) ⊎ (i ≡ k)
 before-or-at i k h = ⊎-elim (λ e. inl (ltb-true i k e)) (λ e. inr (omega (arith, ltb-false i k e))) (either (ltb i k))
 
--- whether a step writes another value
-abbrev other-value : Fact → Fact → Bool
-other-value f g = eqb (g .variable) (f .variable) && not (eqb (g .value) (f .value))
-
+-- a step sets another value just where it writes one
 pub sets-writes : (a : Action) (f : Fact) → sets-other a f ≡ true → Writes-other a f
 unfolding sets-other
 sets-writes a f h =

@@ -8,3 +8,5 @@ pub mod Starred
 pub mod DemandMet
 -- SheetP: sheet P and its task, computed.
 pub mod SheetP
+-- RoundTheorem: the rounds of the worked list 3.
+pub mod RoundTheorem

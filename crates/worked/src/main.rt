@@ -1,5 +1,5 @@
-// The program that runs those of document 01's worked lists that show its limits, 10 and 11, and prints a line for
-// each. Every one is sheet P with some lamps, then lift, drain and drop.
+// The program that runs those of document 01's worked lists that show its limits, 10 and 11, with the marks of document
+// 02, and prints a line for each. Every one is sheet P with some lamps, then lift, drain and drop.
 // lists: the sheet and the lists. found: what the services find of a list.
 mod found;
 mod lists;
@@ -43,11 +43,12 @@ fn with_price(price: u32) {
     run(b"list 11, price", price as u64, price, 0);
 }
 
-// Each pair is the last that passes and the first that does not. Drop is unmarked too, so one lamp fewer than the limit
-// makes it full.
+// Of each two the first is the last that passes and the second the first that does not; of list 10 the one before that
+// stands in front.
 fn main() {
     with_lamps(UNMARKED - 1);
     with_lamps(UNMARKED);
+    with_lamps(UNMARKED + 1);
     with_steps(Plan::STEPS - BEHIND);
     with_steps(Plan::STEPS - BEHIND + 1);
     with_price(Sheet::COST);

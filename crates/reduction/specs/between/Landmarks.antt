@@ -12,9 +12,13 @@ use Rattle.reduction.specs.Reduction.{Reduction}
 use Rattle.reduction.specs.Landmark.{step, framed}
 use Rattle.reduction.specs.between.Wanted.{some-fact, has}
 
+-- of two facts the second gives the first one's variable another value
+abbrev pub other-value : Fact → Fact → Bool
+other-value f g = eqb (g .variable) (f .variable) && not (eqb (g .value) (f .value))
+
 -- a step writes another value to the variable of f
 unfoldable pub sets-other : Action → Fact → Bool
-sets-other a f = some-fact (λ g. eqb (g .variable) (f .variable) && not (eqb (g .value) (f .value))) (written a)
+sets-other a f = some-fact (other-value f) (written a)
 
 -- what is known of a fact before a position: the position of its last writer; one more than that of the last marked
 -- step that wrote another value to its variable; and its support, which is its last writer, if such a marked step
