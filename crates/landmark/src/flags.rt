@@ -82,7 +82,8 @@ fn of_steps(flags: &[bool; POSITIONS], n: usize) -> [bool; Plan::STEPS]
     steps
 }
 
-// The landmarks of a plan that can be read. The index of a step fits a byte, and so does their limit, for no step.
+// The landmarks of a plan that can be read. Each pass finds at least what one round of the rule does, so that as many
+// as there are steps are enough; as a rule the second one changes nothing.
 pub(crate) fn landmarks(words: &[u32], plan: &[u32]) -> [bool; Plan::STEPS]
     ensures { λ r. ⌜ (Readable (now (words .entry)) (now (plan .entry))
         → r ≡ held (now (plan .entry)) (marks (now (words .entry)) (now (plan .entry)))) ⌝ }

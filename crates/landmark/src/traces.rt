@@ -15,18 +15,18 @@ ghost use Rattle.step.specs.State.{in-array};
 ghost use Rattle.landmark.specs.between.Traces.{until-at, supporting, tables, wrote, wrote-each, started};
 
 // The bytes of a fact: the position of its last writer, and its support, which is that writer where a marked step wrote
-// another value since the writer before; 0 for none.
+// another value since the writer before; 0 for none. A position fits a byte, since a plan has at most 255 steps.
 pub(crate) const TRACE: usize = 2;
-
+// Where the support stands.
 pub(crate) const SUPPORT: usize = 1;
 // The bytes of all facts.
 pub(crate) const TRACES: usize = TRACE * FACTS;
 // The words of a variable: the fact that its last marked writer wrote, one more than that writer's position, and one
 // more than that of the last marked step which wrote another value than that; 0 for none.
 const VARIABLE: usize = 3;
-
+// Where the last marked writer's place stands.
 const AT: usize = 1;
-
+// Where that of the last one with another value stands.
 const OTHER: usize = 2;
 // The words of all variables.
 pub(crate) const LATEST: usize = VARIABLE * Sheet::VARIABLES;

@@ -53,11 +53,11 @@ unfoldable pub raised : (Fact → ℕ) → Assignment → Reduction → Reductio
 raised at [] m = m
 raised at (f ∷ e) m = raised at e (set m (at f) true)
 
--- m with the supports of all that position j needs
+-- the flags n with the supports of all that position j needs, where the marks are those of m
 abbrev pub supported : List Action → Reduction → ℕ → Reduction → Reduction
 supported q m j n = raised (support q m j) (needed (step q j)) n
 
--- m with the supports of what the marked positions before j need
+-- m with the supports of what its positions before j need
 unfoldable pub round-to : List Action → Reduction → ℕ → Reduction
 round-to q m zero = m
 round-to q m (suc j) = cond (getD m j false) (supported q m j (round-to q m j)) (round-to q m j)
