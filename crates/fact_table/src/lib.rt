@@ -1,5 +1,5 @@
-// Tables with a byte for each fact, at the index that is the fact's word: the search's cuts are told by them. An entry is
-// a byte, since to fill tables of words costs more than the walks along a plan of small actions.
+// Tables with a byte for each fact, at the index that is the fact's word: the search's cuts are told by them. An entry
+// is a byte, since to fill tables of words costs more than the walks along a plan of small actions.
 use access::byte;
 use access::put8;
 use sheet::group::ActionFacts;

@@ -83,7 +83,7 @@ fn of_steps(flags: &[bool; POSITIONS], n: usize) -> [bool; Plan::STEPS]
 }
 
 // The landmarks of a plan that can be read. Each pass finds at least what one round of the rule does, so that as many
-// as there are steps are enough; as a rule the second one changes nothing.
+// as there are steps are enough; the first that changes nothing is the last.
 pub(crate) fn landmarks(words: &[u32], plan: &[u32]) -> [bool; Plan::STEPS]
     ensures { λ r. ⌜ (Readable (now (words .entry)) (now (plan .entry))
         → r ≡ held (now (plan .entry)) (marks (now (words .entry)) (now (plan .entry)))) ⌝ }

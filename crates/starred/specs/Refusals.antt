@@ -1,5 +1,5 @@
--- Each cause of refusal of document 01, met by words: sheet P with one word changed, or a list of P; and the worked list
--- 10, by document 02 (C-12). Assumes nothing.
+-- Each cause of refusal of document 01, met by words: sheet P with one word changed, or a list of P; and what document
+-- 02 (C-12) says of the worked list 10. Assumes nothing.
 use Prim.Native.Nat.{ℕ, _+_}
 use mathlib.Core.Path.{_≡_}
 use mathlib.Core.Option.{none, some}
@@ -75,7 +75,8 @@ causes =
 -- the worked list 10, by document 02: "has 19 and then 20 unmarked, both answered"
 abbrev pub Lamps-answered : ℕ → Type 0
 Lamps-answered n =
-    (unmarked sheet-p (lamps-first n) ≡ n) × (answer (minimal-checks most-unmarked sheet-p (lamps-first n) (n + 3)) ≡ none)
+    (unmarked sheet-p (lamps-first n) ≡ n)
+    × (answer (minimal-checks most-unmarked sheet-p (lamps-first n) (n + 3)) ≡ none)
 
 abbrev pub List-ten : Type 0
 List-ten = Lamps-answered 19 × Lamps-answered 20
