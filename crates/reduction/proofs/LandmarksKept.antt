@@ -4,10 +4,10 @@
 use Prim.Native.Nat.{ℕ, zero, suc, _≤_, _<_}
 use native.Mathlib.Omega.{arith}
 use mathlib.Core.Path.{_≡_, refl, sym, _∙_, ap}
-use mathlib.Core.Logic.{⊎-elim, _≢_}
+use mathlib.Core.Logic.{⊎-elim, _≢_, _↔_}
 use mathlib.Core.Bool.{true, false, true≢false}
 use mathlib.Core.List.{List, [], List·Memᴰ}
-use lib.ListN.{length, getD, drop, drop-of-length-le}
+use lib.ListN.{length, getD, drop, drop-of-length-le, length-replicate}
 use lib.Dec.{ltb}
 use borrow.Author.Tests.{ltb-true, ltb-false}
 use Rattle.sas.specs.Task.{Fact, Assignment, State, Action}
@@ -16,12 +16,15 @@ use Rattle.sas.specs.between.WellFormed.{Action-formed}
 use Rattle.sas.proofs.FactLaws.{satisfied-holds}
 use Rattle.sas.proofs.WellFormedLaws.{Actions-formed}
 use Rattle.sas.proofs.ActionLaws.{result-applied, needed-holds, idle-needs-nothing, other-fails, stays-false}
-use Rattle.reduction.specs.Reduction.{Reduction, keeps, kept, Before, Valid-for, meets, Valid-reduction}
+use Rattle.reduction.specs.Reduction.{Reduction, keeps, kept, whole, Before, Valid-for, meets, valid, Valid-reduction}
 use Rattle.reduction.specs.Landmark.{step, end-step, framed, Writes-other, Link, Marked, Landmark}
 use Rattle.reduction.specs.Landmark.Marked.{start-marked, end-marked, linked}
 use Rattle.reduction.specs.between.Landmarks.{landmarks}
+use Rattle.reduction.specs.between.Order.{Contains}
 use Rattle.reduction.specs.between.Sound.{Flags-kept}
 use Rattle.reduction.proofs.ValidLaws.{valid-end}
+use Rattle.reduction.proofs.ReductionLaws.{whole-valid, count-whole, strike-count, kept-inside}
+use Rattle.reduction.proofs.WinsLaws.{full-whole}
 use Rattle.reduction.proofs.BeforeLaws.{before-first, rest-valid, Passes, before-next}
 use Rattle.reduction.proofs.HeldLaws.{step-formed}
 use Rattle.reduction.proofs.FrameLaws.{framed-start, framed-step, framed-end, framed-past, start-other-false, end-needs-goal}
@@ -140,3 +143,16 @@ landmark-kept {s = s} {goal = goal} {p = p} {m = m} {i = i} formed v (inside, ma
 -- and so the flagged ones
 pub landmarks-kept : {domains : List ℕ} (s : State) (goal : Assignment) (p : List Action) → Actions-formed domains p → Flags-kept (meets goal) s p (landmarks s goal p)
 landmarks-kept s goal p formed m v i up = landmark-kept formed v (flagged-just-marked s goal p i .0 up)
+
+-- so a valid list whose steps are all marked has no valid reduction but the whole
+pub all-marked-whole : {domains : List ℕ} (s : State) (goal : Assignment) (p : List Action) → Actions-formed domains p → valid s goal p ≡ true
+    → ((i : ℕ) → i < length p → Landmark s goal p i) → (m : Reduction) → Valid-reduction s goal p m ↔ (m ≡ whole p)
+all-marked-whole s goal p formed v marked m = (keeps-all, λ same. rw same (whole-valid p v))
+  where
+    inside : (i : ℕ) → keeps (whole p) i → i < length p
+    inside i up = omega (arith, kept-inside (whole p) i up, length-replicate (length p) true)
+
+    keeps-all : Valid-reduction s goal p m → m ≡ whole p
+    keeps-all left =
+        let contains : Contains m (whole p) = λ i up. landmark-kept formed left (marked i (inside i up)) in
+        full-whole p m (left .fits) (omega (arith, strike-count m (whole p) contains, count-whole p))

@@ -44,7 +44,7 @@ pub mod CutLaws
 pub mod SearchTheorem
 -- HeldLaws: which facts hold after an action and before an index, by what was done before.
 pub mod HeldLaws
--- LandmarksKept: every valid reduction keeps every marked step.
+-- LandmarksKept: every valid reduction keeps every marked step, and where all are marked it is the whole.
 pub mod LandmarksKept
 -- OlderTheorem: every step that document 01's rule marks is still marked.
 pub mod OlderTheorem

@@ -12,11 +12,11 @@ use Rattle.sas.specs.Task.{State, Action}
 use Rattle.sas.specs.Plan.{applicable, apply, cost}
 use Rattle.sas.proofs.ActionLaws.{result-applicable, result-assigned}
 use Rattle.sas.proofs.RunLaws.{run-nothing, run-applied}
-use Rattle.reduction.specs.Reduction.{Reduction, keeps, kept, count, whole, valid-for, Valid-for}
+use Rattle.reduction.specs.Reduction.{Reduction, keeps, kept, count, whole, compose, valid-for, Valid-for}
 use Rattle.reduction.specs.between.Order.{lower}
 use Rattle.reduction.specs.between.Elimination.{better}
 use Rattle.reduction.proofs.ValidLaws.{runs-valid, valid-end, valid-first}
-use Rattle.reduction.proofs.ReductionLaws.{whole-valid, kept-length, compose, kept-compose, compose-valid, left-cost}
+use Rattle.reduction.proofs.ReductionLaws.{whole-valid, kept-length, kept-compose, compose-valid, left-cost}
 use Rattle.reduction.proofs.LowerLaws.{lower-through}
 use Rattle.reduction.specs.Minimal.{First-difference, Wins, Minimal}
 use Rattle.reduction.specs.between.Found.{begun-with, found, minimal}

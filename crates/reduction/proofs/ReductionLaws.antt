@@ -11,7 +11,7 @@ use lib.Dec.{ltb}
 use borrow.Author.Tests.{ltb-true, ltb-false}
 use Rattle.sas.specs.Task.{State, Action, Task}
 use Rattle.sas.specs.Plan.{cost, Plan}
-use Rattle.reduction.specs.Reduction.{Reduction, keeps, kept, count, whole, valid-for, Valid-for, Valid-reduction}
+use Rattle.reduction.specs.Reduction.{Reduction, keeps, kept, count, whole, compose, valid-for, Valid-for, Valid-reduction}
 use Rattle.reduction.specs.between.Order.{Contains}
 use Rattle.reduction.proofs.ValidLaws.{valid-plan}
 
@@ -54,13 +54,6 @@ kept-lodged (true ∷ m) (b ∷ p) (List·Memᴰ·tail later) = List·Memᴰ·ta
 -- a valid reduction of a plan leaves a plan
 pub reduced-plan : (T : Task) (p : List Action) (m : Reduction) → Plan T p → Valid-reduction (T .initial) (T .goal) p m → Plan T (kept m p)
 reduced-plan T p m plan v = valid-plan T (kept m p) (λ a left. plan .known a (kept-lodged m p left)) (v .valid-left)
-
--- of what a reduction leaves, a further one strikes: the two as one
-unfoldable pub compose : Reduction → Reduction → Reduction
-compose [] m = []
-compose (false ∷ r) m = false ∷ compose r m
-compose (true ∷ r) [] = false ∷ compose r []
-compose (true ∷ r) (b ∷ m) = b ∷ compose r m
 
 pub compose-length : (r m : Reduction) → length (compose r m) ≡ length r
 unfolding compose

@@ -35,6 +35,13 @@ count (false ∷ m) = count m
 abbrev pub whole : {A : Type 0} → List A → Reduction
 whole p = replicate (length p) true
 
+-- of what a first reduction leaves, a second one strikes: both as one reduction of the lodged list
+unfoldable pub compose : Reduction → Reduction → Reduction
+compose [] m = []
+compose (false ∷ r) m = false ∷ compose r m
+compose (true ∷ r) [] = false ∷ compose r []
+compose (true ∷ r) (b ∷ m) = b ∷ compose r m
+
 -- a list is valid for a test at the end: each step can be done in turn from s, and the state after the last passes
 unfoldable pub valid-for : (State → Bool) → State → List Action → Bool
 valid-for ends s p = elim (run s p) [ none ↦ false | some t ↦ ends t ]
