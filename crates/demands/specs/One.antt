@@ -22,7 +22,7 @@ use Rattle.service.specs.Reduced.{reduction-checks, Reduces}
 use Rattle.landmark.specs.Marks.{Masks}
 use Rattle.elimination.specs.declared.single.Elimination.{Elimination}
 use Rattle.elimination.specs.Eliminations.{elimination-of, greedy-elimination-of, left-by, Reduces-both, cheaper-part}
-use Rattle.minimal.specs.declared.within.Minimised.{Minimised}
+use Rattle.minimal.specs.declared.within.Shortened.{Shortened}
 use Rattle.minimal.specs.Minimised.{most-unmarked, minimal-checks, minimal-of, Minimises}
 use Rattle.translation.specs.declared.translate.Translated.{Translated}
 use Rattle.translation.specs.Translation.{translation-checks, told-translated, Translates}
@@ -110,7 +110,7 @@ pub record Demand-one : Type 0 where
       → part ≡ cheaper-part first second of-first of-second
       → (part ≡ take (of-first .steps) first) ⊎ (part ≡ take (of-second .steps) second)
   -- the exact reduction
-  pub exact-reduction : (w l before : List ℕ) (r : Minimised) (after : List ℕ)
+  pub exact-reduction : (w l before : List ℕ) (r : Shortened) (after : List ℕ)
       → Minimises most-unmarked w l before r after
       → Refuses-just exact-numbers (minimal-checks most-unmarked w l (length before)) (told-answer (r .answer))
       × Output-lent (told-answer (r .answer)) l (minimal-of w l) before after

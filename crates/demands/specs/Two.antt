@@ -33,7 +33,7 @@ use Rattle.landmark.specs.Marks.{Masks}
 use Rattle.elimination.specs.declared.single.Elimination.{Elimination}
 use Rattle.elimination.specs.declared.single.Elimination.the-variants.{Plain, Greedy}
 use Rattle.elimination.specs.Eliminations.{elimination-of, greedy-elimination-of, left-by, Reduces-both, cheaper-part}
-use Rattle.minimal.specs.declared.within.Minimised.{Minimised}
+use Rattle.minimal.specs.declared.within.Shortened.{Shortened}
 use Rattle.minimal.specs.Minimised.{most-unmarked, minimal-of, Minimises}
 use Rattle.minimal.specs.Statement.{Is-marked}
 
@@ -147,7 +147,7 @@ pub record Demand-two : Type 0 where
       → part ≡ cheaper-part after after′ first second → Shown-truly w l (told verdict) part
   -- the exact reduction, of which demand 3 says what it leaves; it also tells the tally of the lodged list and how many
   -- of its steps are marked
-  pub exact-reduction : (w l before : List ℕ) (r : Minimised) (after : List ℕ)
+  pub exact-reduction : (w l before : List ℕ) (r : Shortened) (after : List ℕ)
       → Minimises most-unmarked w l before r after
       → Tally-truly w l (minimal-of w l) (told-answer (r .answer)) (told-tally (r .answer))
       × Mask-truly (minimal-of w l) (told-answer (r .answer)) (r .mask .words)

@@ -28,7 +28,7 @@ use Rattle.plan.specs.Valid.{steps}
 use Rattle.plan.specs.Checked.{plan-checks, told-answer}
 use Rattle.plan.proofs.PlanTheorem.{plan-theorem}
 use Rattle.service.specs.Reduced.{room-checks, reduction-checks, Answers}
-use Rattle.minimal.specs.declared.within.Minimised.{Minimised}
+use Rattle.minimal.specs.declared.within.Shortened.{Shortened}
 use Rattle.minimal.specs.Minimised.{unmarked-checks, minimal-checks, minimal-of, Minimises}
 use Rattle.minimal.specs.Statement.{Answered, Refused-unmarked, Demand-three}
 use Rattle.plan.specs.Readable.{Readable}
@@ -37,7 +37,7 @@ use Rattle.landmark.specs.Marks.{unmarked}
 use Rattle.landmark.proofs.MarkTheorem.{marks-theorem, marks-length}
 
 module _ (w l : List ℕ) (readable : Readable w l) (plan : Plan (task w) (steps w l)) where
-  valid-list : valid (initial w) (goal w) (steps w l) ≡ true
+  pub valid-list : valid (initial w) (goal w) (steps w l) ≡ true
   unfolding task
   valid-list = plan-valid (task w) (steps w l) plan
 
@@ -52,7 +52,7 @@ module _ (w l : List ℕ) (readable : Readable w l) (plan : Plan (task w) (steps
   plan-left = reduced-plan (task w) (steps w l) (minimal-of w l) plan (is-minimal .valid)
 
   -- the checks 1 to 11 pass
-  checks-pass : (room : ℕ) → length l ≤ room → answer (reduction-checks w l room) ≡ none
+  pub checks-pass : (room : ℕ) → length l ≤ room → answer (reduction-checks w l room) ≡ none
   unfolding room-checks
   checks-pass room roomy =
       let passes : answer (plan-checks w l) ≡ none = plan-theorem w l readable .plan-passes plan in
@@ -72,6 +72,21 @@ module _ (w l : List ℕ) (readable : Readable w l) (plan : Plan (task w) (steps
     pub many-refused : limit < unmarked w l → answer (minimal-checks limit w l room) ≡ some (record { number = 12; place = unmarked w l })
     unfolding unmarked-checks
     many-refused h = only-unmarked ∙ answer-fires _ [] (unmarked w l) (rw (lt-ltb limit (unmarked w l) h))
+
+    -- and tells by its outcome how many there are
+    pub refused-many : (t : Told) → answer (minimal-checks limit w l room) ≡ some t → limit < unmarked w l
+    refused-many t h = by-case (ltb limit (unmarked w l)) refl
+      where
+        by-case : (b : Bool) → ltb limit (unmarked w l) ≡ b → limit < unmarked w l
+        by-case true e = ltb-true limit (unmarked w l) e
+        by-case false e = absurd (Option·some-ne-none t (sym h ∙ few-pass (ltb-false limit (unmarked w l) e)))
+
+    pub passed-few : answer (minimal-checks limit w l room) ≡ none → unmarked w l ≤ limit
+    passed-few h = by-case (ltb limit (unmarked w l)) refl
+      where
+        by-case : (b : Bool) → ltb limit (unmarked w l) ≡ b → unmarked w l ≤ limit
+        by-case true e = absurd (Option·some-ne-none _ (sym (many-refused (ltb-true limit (unmarked w l) e)) ∙ h))
+        by-case false e = ltb-false limit (unmarked w l) e
 
   module _ (limit : ℕ) (before : List ℕ) (roomy : length l ≤ length before) (given : Answer) (mask after : List ℕ)
       (answers : Answers (minimal-checks limit w l (length before)) w l (minimal-of w l) before given mask after) where
@@ -101,13 +116,9 @@ module _ (w l : List ℕ) (readable : Readable w l) (plan : Plan (task w) (steps
         }
 
     only-then : (t : Told) → told-answer given ≡ some t → limit < unmarked w l
-    only-then t h = by-case (ltb limit (unmarked w l)) refl
-      where
-        by-case : (b : Bool) → ltb limit (unmarked w l) ≡ b → limit < unmarked w l
-        by-case true e = ltb-true limit (unmarked w l) e
-        by-case false e = absurd (Option·some-ne-none t (sym h ∙ answers .refusal ∙ few-pass limit (length before) roomy (ltb-false limit (unmarked w l) e)))
+    only-then t h = refused-many limit (length before) roomy t (sym (answers .refusal) ∙ h)
 
-pub demand-three : (limit : ℕ) (w l before : List ℕ) (r : Minimised) (after : List ℕ) → Minimises limit w l before r after
+pub demand-three : (limit : ℕ) (w l before : List ℕ) (r : Shortened) (after : List ℕ) → Minimises limit w l before r after
     → Demand-three limit w l before (r .answer) (r .mask .words) after
 demand-three limit w l before r after minimises readable plan roomy =
     record {

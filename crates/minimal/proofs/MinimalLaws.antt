@@ -43,7 +43,7 @@ use Rattle.service.proofs.AnswerLaws.{answers-refused, answers-kept}
 use Rattle.choice.specs.between.Chosen.{most-choices, open-before}
 use Rattle.choice.proofs.ChosenLaws.{open-counted}
 use Rattle.search.specs.between.Told.{Tells, Finds}
-use Rattle.minimal.specs.declared.within.Minimised.{Minimised}
+use Rattle.minimal.specs.declared.within.Shortened.{Shortened}
 use Rattle.minimal.specs.Minimised.{unmarked-checks, minimal-checks, minimal-of, Minimises}
 use Rattle.minimal.specs.between.Written.{Writes, Refuses}
 
@@ -52,7 +52,7 @@ unfolding marks
 marks-kept w l readable = landmarks-kept (initial w) (goal w) (steps w l) (steps-formed w l (readable .accepted) (readable .known))
 
 -- a refusal, by the check that fires
-refuses-all : (limit : ℕ) (w l before : List ℕ) (refusal : Refusal) (r : Minimised) → answer (minimal-checks limit w l (length before)) ≡ some (told-refusal refusal)
+refuses-all : (limit : ℕ) (w l before : List ℕ) (refusal : Refusal) (r : Shortened) → answer (minimal-checks limit w l (length before)) ≡ some (told-refusal refusal)
     → Refuses refusal r → Minimises limit w l before r before
 refuses-all limit w l before refusal r fires refuses =
     record {
@@ -67,7 +67,7 @@ module _ (limit : ℕ) (w l before : List ℕ) (v : Verdict) (given : Answer) (f
   checked = lodges .checked (room-checks (length l) (length before)) asked
 
   -- one of the checks 1 to 11 refuses
-  pub first-refuses : (refusal : Refusal) (r : Minimised) → given ≡ Refused refusal → Refuses refusal r → Minimises limit w l before r before
+  pub first-refuses : (refusal : Refusal) (r : Shortened) → given ≡ Refused refusal → Refuses refusal r → Minimises limit w l before r before
   unfolding minimal-checks
   first-refuses refusal r is refuses =
       refuses-all limit w l before refusal r (answer-first (reduction-checks w l (length before)) _ (sym (checked .refusal) ∙ ap told-answer is)) refuses
@@ -120,7 +120,7 @@ module _ (limit : ℕ) (w l before : List ℕ) (v : Verdict) (given : Answer) (f
       others = rw ones-marked
 
       -- too many steps are unmarked
-      pub last-refuses : (r : Minimised) → limit < length l - ones → Refuses (Unmarked (length l - ones)) r → Minimises limit w l before r before
+      pub last-refuses : (r : Shortened) → limit < length l - ones → Refuses (Unmarked (length l - ones)) r → Minimises limit w l before r before
       unfolding unmarked-checks
       last-refuses r h refuses =
           let fires : answer (unmarked-checks limit w l) ≡ some (told-refusal (Unmarked (length l - ones))) =

@@ -16,7 +16,7 @@ use Rattle.plan.specs.Valid.{steps}
 use Rattle.plan.specs.Checked.{lodged-tally}
 use Rattle.service.specs.Reduced.{reduction-checks, Answers}
 use Rattle.landmark.specs.Marks.{marked, unmarked}
-use Rattle.minimal.specs.declared.within.Minimised.{Minimised}
+use Rattle.minimal.specs.declared.within.Shortened.{Shortened}
 
 -- the most steps that may be unmarked, stated here and nowhere else in the definitions
 abbrev pub most-unmarked : ℕ
@@ -41,7 +41,7 @@ module _ (limit : ℕ) (w l before : List ℕ) where
 
   -- the service: it answers with the minimal reduction of the list l over a lent output, and tells the tally of the
   -- lodged list and the number of its marked steps besides, zero on a refusal
-  pub record Minimises (r : Minimised) (after : List ℕ) : Type 0 where
+  pub record Minimises (r : Shortened) (after : List ℕ) : Type 0 where
     pub answers : Answers (minimal-checks limit w l (length before)) w l (minimal-of w l) before
         (r .answer) (r .mask .words) after
     pub lodged : r .lodged ≡ unless-refused minimal-refusal (lodged-tally w l) nothing

@@ -16,7 +16,7 @@ ghost use Rattle.minimal.specs.between.Written.{Writes, Refuses};
 
 // The tally of the list left or a refusal, the mask of the steps kept, and of the lodged list its tally and the number
 // of its marked steps: all zero on a refusal.
-pub struct Minimised {
+pub struct Shortened {
     pub answer: Answer,
     pub mask: Mask,
     pub lodged: Tally,
@@ -24,10 +24,10 @@ pub struct Minimised {
 }
 
 // A refusal, with its zeros.
-pub fn refused(refusal: Refusal) -> Minimised
+pub fn refused(refusal: Refusal) -> Shortened
     ensures { λ r. ⌜ Refuses refusal r ⌝ }
 {
-    Minimised {
+    Shortened {
         answer: Answer::Refused(refusal),
         mask: Mask {
             words: [0u64; Mask::WORDS],
@@ -54,7 +54,7 @@ fn write_out(plan: &[u32], kept: Kept, out: &mut [u32]) -> Kept
 
 // Writes what the minimal reduction leaves of a plan to the front of `out`; refuses where more than `limit` steps are
 // unmarked. The search has room for so many.
-pub(crate) fn reduce_within(words: &[u32], plan: &[u32], out: &mut [u32], limit: usize) -> Minimised
+pub(crate) fn reduce_within(words: &[u32], plan: &[u32], out: &mut [u32], limit: usize) -> Shortened
     requires { ⌜ limit ≤ most-choices ⌝ }
     ensures { λ r. ⌜ Minimises limit (now (words .entry)) (now (plan .entry)) (now (out .entry)) r (now (out .exit)) ⌝ }
 {
@@ -73,7 +73,7 @@ pub(crate) fn reduce_within(words: &[u32], plan: &[u32], out: &mut [u32], limit:
             let left = write_out(plan, minimal(words, plan, &flags[..n], lodged), out);
             let tally = left.tally;
             let mask = left.mask;
-            Minimised {
+            Shortened {
                 answer: Answer::Valid(tally),
                 mask,
                 lodged,

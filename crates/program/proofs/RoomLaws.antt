@@ -24,6 +24,9 @@ module _ (word : List ℕ) where
   line-length : (numbers : List ℕ) → length (line word numbers) ≤ length word + length (spaced numbers) + 1
   line-length numbers = rw (length-append, length-append) (omega arith)
 
+  pub none-fit : Short-line word []
+  none-fit short = omega (arith, line-length [], spaced-nothing-length)
+
   pub one-fits : (a : ℕ) → a < 2 ^ 64 → Short-line word (a ∷ [])
   one-fits a h short = omega (arith, line-length (a ∷ []), spaced-length a [] h, spaced-nothing-length)
 

@@ -18,6 +18,14 @@ ghost use Rattle.program.specs.between.Room.{word-room, line-room, Short
 // The most bytes of a line of a short word and two numbers, or of three numbers.
 pub const LINE: usize = 64;
 
+// Puts a line of a word alone.
+pub fn put_alone(out: &mut [u8], at: usize, word: &[u8]) -> usize
+    ensures { λ r. ⌜ Prints (line (now (word .entry)) []) at (now (out .entry)) (now (out .exit)) r ⌝ }
+    ensures { λ _. ⌜ Short-line (now (word .entry)) [] ⌝ }
+{
+    put_line(out, at, word, &[])
+}
+
 // Puts a line of a word and a number.
 pub fn put_one(out: &mut [u8], at: usize, word: &[u8], number: u64) -> usize
     ensures { λ r. ⌜ Prints (line (now (word .entry)) (number ∷ [])) at (now (out .entry)) (now (out .exit)) r ⌝ }

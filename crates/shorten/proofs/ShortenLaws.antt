@@ -1,7 +1,7 @@
 -- What the service of the minimal reduction tells of a list is what the program prints for it: the report of the reduction, or the line of the refusal. Assumes nothing.
 use Prim.Native.Nat.{ℕ, _+_, _≤_}
 use native.Mathlib.Omega.{arith}
-use mathlib.Core.Path.{_≡_, refl, sym, _∙_, ap, subst}
+use mathlib.Core.Path.{_≡_, refl, sym, _∙_, ap}
 use mathlib.Core.Bool.{Bool, true}
 use mathlib.Core.Option.{Option, none, some, Option·getD}
 use mathlib.Core.List.{List}
@@ -16,21 +16,22 @@ use Rattle.tally.specs.declared.Tally.{Tally}
 use Rattle.reduction.specs.Reduction.{Reduction, whole, meets}
 use Rattle.reduction.specs.between.Found.{found, minimal}
 use Rattle.reduction.proofs.MinimalTheorem.{found-minimal}
-use Rattle.mask.specs.Mask.{mask-bits}
 use Rattle.sheet.specs.Decode.{initial, goal, action}
 use Rattle.plan.specs.Limits.{most-steps}
 use Rattle.plan.specs.Valid.{steps}
 use Rattle.plan.specs.Readable.{Readable}
 use Rattle.plan.specs.declared.check.Answer.the-variants.{Valid, Refused}
-use Rattle.plan.specs.Checked.{told-answer, told-tally}
+use Rattle.plan.specs.Checked.{told-answer}
 use Rattle.plan.proofs.PlanLaws.{passed-readable}
 use Rattle.service.specs.Reduced.{room-checks, reduction-checks}
-use Rattle.minimal.specs.declared.within.Minimised.{Minimised}
+use Rattle.minimal.specs.declared.within.Shortened.{Shortened}
 use Rattle.minimal.specs.Minimised.{most-unmarked, unmarked-checks, minimal-checks, minimal-of, Minimises}
 use Rattle.program.specs.Printed.{refusal-line}
 use Rattle.program.specs.between.Room.{line-room}
-use Rattle.shorten.specs.Shorten.{report, shortened}
-use Rattle.shorten.specs.between.Reported.{report-room, Reports, Puts-lines}
+use Rattle.report.specs.Report.{report}
+use Rattle.report.specs.between.Reported.{report-room, Reports, Puts-lines}
+use Rattle.report.proofs.ToldLaws.{nothing-fires, told-reported}
+use Rattle.shorten.specs.Shorten.{shortened}
 
 -- the minimal reduction has a flag for each step
 minimal-length : (ends : State → Bool) (s : State) (p : List Action) → length (minimal ends s p) ≡ length p
@@ -41,11 +42,11 @@ minimal-length ends s p = by-case (found ends s p) refl
     by-case none e = rw e (length-replicate (length p) true)
     by-case (some m) e = rw e (found-minimal ends s p e .valid .fits)
 
-module _ (w l before : List ℕ) (r : Minimised) (after : List ℕ) (room : length before ≡ most-steps) (minimises : Minimises most-unmarked w l before r after) where
+module _ (w l before : List ℕ) (r : Shortened) (after : List ℕ) (room : length before ≡ most-steps) (minimises : Minimises most-unmarked w l before r after) where
   -- the list is shortened
   module _ (kept : Tally) (is : r .answer ≡ Valid kept) where
     passes : answer (minimal-checks most-unmarked w l (length before)) ≡ none
-    passes = sym (minimises .answers .refusal) ∙ ap told-answer is
+    passes = nothing-fires _ w l _ before r after (minimises .answers) kept is
 
     readable : Readable w l
     unfolding minimal-checks
@@ -54,12 +55,7 @@ module _ (w l before : List ℕ) (r : Minimised) (after : List ℕ) (room : leng
     pub reports-minimal : Reports w l (minimal-of w l) r kept
     reports-minimal =
         let fits : length (minimal-of w l) ≡ length l = minimal-length (meets (goal w)) (initial w) (steps w l) ∙ length-map l (action w) in
-        record {
-          lodged = rw passes at (minimises .lodged);
-          marks = rw passes at (minimises .marks);
-          left = rw (is, passes) at (minimises .answers .tally);
-          steps = record { fits = fits; few = omega (arith, readable .few); told-by = rw passes at (minimises .answers .told-by) };
-        }
+        told-reported _ w l _ before r after (minimises .answers) kept is (minimises .lodged) (minimises .marks) fits (readable .few)
 
     pub shortened-report : {out out′ : List ℕ} {end : ℕ} → Puts-lines (3 + length l) (report w l (minimal-of w l)) 0 out out′ end
         → Prints (shortened w l) 0 out out′ end × (length (shortened w l) ≤ report-room)

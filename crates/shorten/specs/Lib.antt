@@ -2,5 +2,3 @@
 pub mod Shorten
 -- Statement: demand 3 of what is printed, as one statement.
 pub mod Statement
--- between: what functions hand to each other, which need not be believed.
-pub mod between

@@ -14,7 +14,8 @@ use Rattle.minimal.specs.Minimised.{most-unmarked}
 use Rattle.minimal.specs.Statement.{Is-marked, Valid-striking}
 use Rattle.program.specs.Bytes.{input-of, Word-sized}
 use Rattle.program.specs.Printed.{refusal-line}
-use Rattle.shorten.specs.Shorten.{report, printed}
+use Rattle.report.specs.Report.{report}
+use Rattle.shorten.specs.Shorten.{printed}
 
 module _ (w l : List ℕ) where
   -- what is printed is the report of the minimal reduction, which leaves a plan

@@ -1,5 +1,4 @@
 // What the program prints for the bytes of its input, put into lent bytes.
-use crate::report::put_report;
 use access::front;
 use minimal::reduce::minimal_reduction;
 use plan::check::Answer;
@@ -12,12 +11,13 @@ use program::opened::Opened;
 use program::opened::open_input;
 use program::output::put_refusal;
 use program::parts::plan_part;
+use report::put_report;
 ghost use Prim.Native.Nat.{_≤_};
 ghost use lib.ListN.{length};
 ghost use Rattle.program.specs.Printed.{Has-done};
 ghost use Rattle.program.specs.between.Room.{Text-put};
+ghost use Rattle.report.specs.between.Reported.{report-room};
 ghost use Rattle.shorten.specs.Shorten.{shortened, printed};
-ghost use Rattle.shorten.specs.between.Reported.{report-room};
 
 // Shortens a plan. The list left has room for the longest that is read.
 fn shorten(words: &[u32], plan: &[u32], out: &mut [u8]) -> usize
@@ -28,7 +28,7 @@ fn shorten(words: &[u32], plan: &[u32], out: &mut [u8]) -> usize
     let reduced = minimal_reduction(words, plan, &mut left);
     let answer = reduced.answer;
     match answer {
-        Answer::Valid(kept) => put_report(words, plan, reduced, kept, out),
+        Answer::Valid(kept) => put_report(words, plan, reduced, kept, out, 0),
         Answer::Refused(refusal) => put_refusal(out, 0, refusal),
     }
 }

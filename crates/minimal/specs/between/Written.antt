@@ -11,7 +11,7 @@ use Rattle.mask.specs.Mask.{mask-length, ones-of}
 use Rattle.mask.specs.between.Places.{kept-by-words}
 use Rattle.plan.specs.declared.check.Answer.the-variants.{Refused}
 use Rattle.service.specs.declared.finish.Kept.{Kept}
-use Rattle.minimal.specs.declared.within.Minimised.{Minimised}
+use Rattle.minimal.specs.declared.within.Shortened.{Shortened}
 
 -- the plan's words at the ones of the mask go over the output, and the ones are the steps
 pub record Writes (l : List ℕ) (k : Kept) (before : List ℕ) (r : Kept) (after : List ℕ) : Type 0 where
@@ -20,7 +20,7 @@ pub record Writes (l : List ℕ) (k : Kept) (before : List ℕ) (r : Kept) (afte
   pub told-by : r .mask .words ≡ k .mask .words
   pub written : after ≡ sets before 0 (kept-by-words (k .mask .words) l)
 
-pub record Refuses (refusal : Refusal) (r : Minimised) : Type 0 where
+pub record Refuses (refusal : Refusal) (r : Shortened) : Type 0 where
   pub answer : r .answer ≡ Refused refusal
   pub mask : r .mask .words ≡ replicate mask-length 0
   pub lodged : r .lodged ≡ nothing

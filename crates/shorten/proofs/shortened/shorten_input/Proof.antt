@@ -2,7 +2,7 @@
 use native.Mathlib.Omega.{arith}
 use mathlib.Core.Path.{refl}
 use Rattle.program.specs.between.Room.{Text-put}
-use Rattle.shorten.specs.between.Reported.{report-room}
+use Rattle.report.specs.between.Reported.{report-room}
 use Rattle.program.proofs.ReplyLaws.{reply-refused, reply-lodged}
 use borrow.Author.Needs.{needs}
 use Rattle.shorten.proofs.shortened.shorten_input.Statement.{statement}

@@ -1,5 +1,5 @@
 -- The lines of the kept steps, put one by one, and the whole report, line by line. By walking along the list. Assumes nothing.
-use Prim.Native.Nat.{ℕ, zero, suc, _+_, _≤_, _<_, min}
+use Prim.Native.Nat.{ℕ, zero, suc, _+_, _≤_, _<_}
 use native.Mathlib.Omega.{arith}
 use native.Mathlib.Numerals.{add-one}
 use mathlib.Core.Path.{_≡_, refl, sym, _∙_, ap, subst}
@@ -14,17 +14,17 @@ use Rattle.lines.proofs.PrintLaws.{prints-nothing, prints-both, prints-within}
 use Rattle.reduction.specs.Reduction.{Reduction}
 use Rattle.tally.specs.declared.Tally.{Tally}
 use Rattle.mask.specs.declared.Mask.{Mask}
-use Rattle.mask.specs.Mask.{mask-bits, mask-words, bit-up}
+use Rattle.mask.specs.Mask.{bit-up}
 use Rattle.mask.proofs.MaskTheorem.{up-is-flag}
 use Rattle.sheet.specs.Layout.{cost-word}
 use Rattle.plan.specs.Checked.{lodged-tally}
 use Rattle.landmark.specs.Marks.{marked}
 use Rattle.service.specs.Reduced.{tally-left}
-use Rattle.minimal.specs.declared.within.Minimised.{Minimised}
+use Rattle.minimal.specs.declared.within.Shortened.{Shortened}
 use Rattle.program.specs.Printed.{tally-line}
 use Rattle.program.specs.between.Room.{word-room, line-room, Short-line}
-use Rattle.shorten.specs.Shorten.{step-lines, report}
-use Rattle.shorten.specs.between.Reported.{Masks-steps, Reports, Puts-lines, Puts-step}
+use Rattle.report.specs.Report.{step-lines, report}
+use Rattle.report.specs.between.Reported.{Masks-steps, Reports, Puts-lines, Puts-step}
 
 -- the line of a step at position i
 abbrev step-line : List ℕ → ℕ → ℕ → List ℕ
@@ -97,19 +97,19 @@ steps-all w l mask at before i after end all put m told low =
     rw (← all) (rw (whole, listed) at (put m told low))
 
 -- the report, line by line
-pub reports : (w l : List ℕ) (r : Minimised) (kept : Tally) {before first second third after : List ℕ} {marks left steps end : ℕ}
-    → Prints (tally-line (ascii "lodged") (r .lodged)) 0 before first marks → length (tally-line (ascii "lodged") (r .lodged)) ≤ line-room
-    → Prints (line (ascii "marked") (r .marked ∷ [])) marks first second left → length (line (ascii "marked") (r .marked ∷ [])) ≤ line-room
+pub reports : (w l : List ℕ) (told : Shortened) (kept : Tally) {at : ℕ} {before first second third after : List ℕ} {marks left steps end : ℕ}
+    → Prints (tally-line (ascii "lodged") (told .lodged)) at before first marks → length (tally-line (ascii "lodged") (told .lodged)) ≤ line-room
+    → Prints (line (ascii "marked") (told .marked ∷ [])) marks first second left → length (line (ascii "marked") (told .marked ∷ [])) ≤ line-room
     → Prints (tally-line (ascii "kept") kept) left second third steps → length (tally-line (ascii "kept") kept) ≤ line-room
-    → ((m : Reduction) → Masks-steps l m (r .mask) → steps ≤ length third → Puts-lines (length l) (step-lines w 1 l m) steps third after end)
-    → (m : Reduction) → Reports w l m r kept → Puts-lines (3 + length l) (report w l m) 0 before after end
-reports w l r kept lodged short-lodged marks short-marks left short-left steps m told =
-    let rest : Puts-lines (length l) (step-lines w 1 l m) _ _ _ _ = steps m (told .steps) (prints-within left) in
-    let first-line : length (tally-line (ascii "lodged") (lodged-tally w l)) ≤ line-room = rw (told .lodged) at short-lodged in
-    let second-line : length (line (ascii "marked") (marked w l ∷ [])) ≤ line-room = rw (told .marks) at short-marks in
-    let third-line : length (tally-line (ascii "kept") (tally-left w l m)) ≤ line-room = rw (told .left) at short-left in
+    → ((m : Reduction) → Masks-steps l m (told .mask) → steps ≤ length third → Puts-lines (length l) (step-lines w 1 l m) steps third after end)
+    → (m : Reduction) → Reports w l m told kept → Puts-lines (3 + length l) (report w l m) at before after end
+reports w l told kept lodged short-lodged marks short-marks left short-left steps m reported =
+    let rest : Puts-lines (length l) (step-lines w 1 l m) _ _ _ _ = steps m (reported .steps) (prints-within left) in
+    let first-line : length (tally-line (ascii "lodged") (lodged-tally w l)) ≤ line-room = rw (reported .lodged) at short-lodged in
+    let second-line : length (line (ascii "marked") (marked w l ∷ [])) ≤ line-room = rw (reported .marks) at short-marks in
+    let third-line : length (tally-line (ascii "kept") (tally-left w l m)) ≤ line-room = rw (reported .left) at short-left in
     record {
-      prints = prints-both (rw (told .lodged) at lodged) (prints-both (rw (told .marks) at marks) (prints-both (rw (told .left) at left) (rest .prints)));
+      prints = prints-both (rw (reported .lodged) at lodged) (prints-both (rw (reported .marks) at marks) (prints-both (rw (reported .left) at left) (rest .prints)));
       short =
           let from-third = length-append (tally-line (ascii "kept") (tally-left w l m)) (step-lines w 1 l m) in
           let from-second = length-append (line (ascii "marked") (marked w l ∷ [])) (tally-line (ascii "kept") (tally-left w l m) ++ step-lines w 1 l m) in

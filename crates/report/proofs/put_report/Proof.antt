@@ -1,9 +1,9 @@
 -- `put_report` meets its contract: the lines, one behind the other. Assumes nothing.
 use lib.Dec.{lit≤}
-use Rattle.shorten.proofs.ReportLaws.{reports}
+use Rattle.report.proofs.ReportLaws.{reports}
 use borrow.Author.Needs.{needs}
-use Rattle.shorten.proofs.report.put_report.Statement.{statement}
-use Rattle.shorten.proofs.report.put_report.Tie as tie
+use Rattle.report.proofs.put_report.Statement.{statement}
+use Rattle.report.proofs.put_report.Tie as tie
 
 slice-aggregate-put-tally : tie.Need-slice-aggregate-put-tally
 slice-aggregate-put-tally c = search needs

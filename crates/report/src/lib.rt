@@ -1,7 +1,7 @@
-// The lines that are printed of a plan that is shortened.
+// The lines that programs print of a plan that is shortened.
 use access::word;
 use mask::Mask;
-use minimal::within::Minimised;
+use minimal::within::Shortened;
 use program::output::put_one;
 use program::output::put_tally;
 use program::output::put_three;
@@ -10,8 +10,8 @@ use tally::Tally;
 ghost use Prim.Native.Nat.{_+_, _≤_, _<_};
 ghost use lib.ListN.{length};
 ghost use Rattle.reduction.specs.Reduction.{Reduction};
-ghost use Rattle.shorten.specs.Shorten.{step-lines, report};
-ghost use Rattle.shorten.specs.between.Reported.{Masks-steps, Reports, Puts-step, Puts-lines};
+ghost use Rattle.report.specs.Report.{step-lines, report};
+ghost use Rattle.report.specs.between.Reported.{Masks-steps, Reports, Puts-step, Puts-lines};
 
 // Puts the line of the step at index i: its position, its action and its cost.
 fn put_step(words: &[u32], plan: &[u32], i: usize, out: &mut [u8], at: usize) -> usize
@@ -48,21 +48,22 @@ fn put_steps(words: &[u32], plan: &[u32], mask: Mask, out: &mut [u8], at: usize)
 }
 
 // Puts all lines of a plan, of which `kept` is the tally left.
-pub(crate) fn put_report(
+pub fn put_report(
     words: &[u32],
     plan: &[u32],
-    shortened: Minimised,
+    told: Shortened,
     kept: Tally,
     out: &mut [u8],
+    at: usize,
 ) -> usize
-    ensures { λ r. ⌜ ((m : Reduction) → Reports (now (words .entry)) (now (plan .entry)) m shortened kept
-        → Puts-lines (3 + length (now (plan .entry))) (report (now (words .entry)) (now (plan .entry)) m) 0
+    ensures { λ r. ⌜ ((m : Reduction) → Reports (now (words .entry)) (now (plan .entry)) m told kept
+        → Puts-lines (3 + length (now (plan .entry))) (report (now (words .entry)) (now (plan .entry)) m) at
         (now (out .entry)) (now (out .exit)) r) ⌝ }
 {
-    let lodged = shortened.lodged;
-    let mask = shortened.mask;
-    let marks = put_tally(out, 0, b"lodged", lodged);
-    let left = put_one(out, marks, b"marked", shortened.marked as u64);
+    let lodged = told.lodged;
+    let mask = told.mask;
+    let marks = put_tally(out, at, b"lodged", lodged);
+    let left = put_one(out, marks, b"marked", told.marked as u64);
     let steps = put_tally(out, left, b"kept", kept);
     put_steps(words, plan, mask, out, steps)
 }

@@ -1,4 +1,4 @@
--- A reduction as the service of the minimal reduction tells it, and how many bytes are printed of one. Assumes nothing.
+-- A reduction as a service tells it, and how many bytes are printed of one. Assumes nothing.
 use Prim.Native.Nat.{ℕ, _+_, _*_, _≤_}
 use mathlib.Core.Path.{_≡_}
 use mathlib.Core.List.{List, [], _∷_}
@@ -15,7 +15,7 @@ use Rattle.plan.specs.Checked.{lodged-tally}
 use Rattle.landmark.specs.Marks.{marked}
 use Rattle.service.specs.Reduced.{tally-left}
 use Rattle.program.specs.between.Room.{line-room}
-use Rattle.minimal.specs.declared.within.Minimised.{Minimised}
+use Rattle.minimal.specs.declared.within.Shortened.{Shortened}
 
 -- the most bytes that are printed: three lines, and one for each step
 abbrev pub report-room : ℕ
@@ -28,7 +28,7 @@ pub record Masks-steps (l : List ℕ) (m : Reduction) (mask : Mask) : Type 0 whe
   pub told-by : mask .words ≡ mask-words m
 
 -- what is told of the list l of the sheet w and of its reduction m
-pub record Reports (w l : List ℕ) (m : Reduction) (r : Minimised) (kept : Tally) : Type 0 where
+pub record Reports (w l : List ℕ) (m : Reduction) (r : Shortened) (kept : Tally) : Type 0 where
   pub lodged : r .lodged ≡ lodged-tally w l
   pub marks : r .marked ≡ marked w l
   pub left : kept ≡ tally-left w l m
