@@ -14,10 +14,12 @@ use Rattle.plan.proofs.PlanLaws.{passed-readable}
 use Rattle.reduction.specs.Reduction.{Reduction, meets}
 use Rattle.reduction.proofs.MinimalTheorem.{minimal-found}
 use Rattle.service.specs.Reduced.{reduction-checks}
-use Rattle.service.proofs.LodgedLaws.{lodged-valid, roomy}
+use Rattle.service.proofs.LodgedLaws.{lodged-plan, lodged-valid, roomy}
 use Rattle.elimination.specs.declared.single.Elimination.{Elimination}
 use Rattle.elimination.specs.Eliminations.{left-by}
 use Rattle.elimination.proofs.LeavesLaws.{left-fits}
+use Rattle.claim.specs.Licensed.{licensed-of}
+use Rattle.claim.proofs.LicenceTheorem.{licence-of}
 use Rattle.minimal.specs.Minimised.{most-unmarked, unmarked-checks, minimal-checks, minimal-of}
 
 -- a reduction with a flag for each step of a list, for which there is room
@@ -32,7 +34,7 @@ module _ (w l : List ℕ) (room : ℕ) where
       record { fits = fits ∙ length-map l (action w); few = passed-readable _ w l passed .few; roomy = roomy w l room passed }
 
   pub elimination-flags : (by : Elimination) → answer (reduction-checks w l room) ≡ none → Flags-each l (left-by by w l) room
-  elimination-flags by passed = passed-flags (left-by by w l) passed (left-fits _ w l passed by)
+  elimination-flags by passed = passed-flags (left-by by w l) passed (left-fits w l (passed-readable _ w l passed) (lodged-valid _ w l passed) by)
 
   -- what passes all the checks of the minimal reduction passes those of every reduction
   pub first-pass : answer (minimal-checks most-unmarked w l room) ≡ none → answer (reduction-checks w l room) ≡ none
@@ -43,3 +45,6 @@ module _ (w l : List ℕ) (room : ℕ) where
   minimal-flags passes =
       let passed : answer (reduction-checks w l room) ≡ none = first-pass passes in
       passed-flags (minimal-of w l) passed (minimal-found (meets (goal w)) (initial w) (steps w l) (lodged-valid _ w l passed) .valid .fits)
+
+  pub licensed-flags : answer (reduction-checks w l room) ≡ none → Flags-each l (licensed-of w l) room
+  licensed-flags passed = passed-flags (licensed-of w l) passed (licence-of w l (passed-readable _ w l passed) (lodged-plan _ w l passed) .valid-left .fits)

@@ -26,6 +26,7 @@ use Rattle.service.specs.Reduced.{room-checks, reduction-checks, output-left}
 use Rattle.elimination.specs.declared.single.Elimination.the-variants.{Plain, Greedy}
 use Rattle.elimination.specs.Eliminations.{elimination-of, greedy-elimination-of, left-by, cheaper-part}
 use Rattle.minimal.specs.Minimised.{most-unmarked, unmarked-checks, minimal-checks, minimal-of}
+use Rattle.claim.specs.Licensed.{licensed-of}
 use Rattle.sas.specs.Task.{Task}
 use Rattle.translation.specs.declared.translate.Translated.{Translated}
 use Rattle.translation.specs.declared.translate.Translated.the-variants.{Refused, Written}
@@ -33,7 +34,7 @@ use Rattle.translation.specs.Translation.{text-task, task-checks, translation-c
 use Rattle.demands.specs.One.{Output-lent, Demand-one}
 use Rattle.demands.specs.One.{sheet-numbers, step-numbers, list-numbers, greedy-numbers, exact-numbers, text-numbers}
 use Rattle.demands.proofs.FireLaws.{refuses-just}
-use Rattle.demands.proofs.FitLaws.{Flags-each, elimination-flags, minimal-flags}
+use Rattle.demands.proofs.FitLaws.{Flags-each, elimination-flags, minimal-flags, licensed-flags}
 
 abbrev number-of : Check → ℕ
 number-of c = c .number
@@ -121,6 +122,11 @@ demand-one =
         refuses-just _ _ _ (exact-numbered most-unmarked w l (length before)) (minimises .answers .refusal),
         output-lent _ l (minimal-of w l) before after (rw (← minimises .answers .refusal) at (minimises .answers .output))
             (λ h. (length before, omega arith, minimal-flags w l (length before) (sym (minimises .answers .refusal) ∙ h))),
+      );
+      licence = λ w l before r after licenses. (
+        refuses-just _ _ _ (greedy-numbered w l (length before)) (licenses .answers .refusal),
+        output-lent _ l (licensed-of w l) before after (rw (← licenses .answers .refusal) at (licenses .answers .output))
+            (λ h. (length before, omega arith, licensed-flags w l (length before) (sym (licenses .answers .refusal) ∙ h))),
       );
       planner-text = λ text before r after translates. (
         refuses-just _ _ _ (text-numbered text (length before)) (translates .answers),

@@ -31,17 +31,19 @@ use Rattle.plan.proofs.PlanLaws.{passed-readable}
 use Rattle.plan.proofs.PlanTheorem.{plan-theorem, passes-exactly}
 use Rattle.service.specs.Reduced.{reduction-checks, tally-left, Answers}
 use Rattle.service.proofs.LodgedLaws.{lodged-valid}
-use Rattle.landmark.specs.Marks.{marks, Masks}
+use Rattle.landmark.specs.Marks.{marks, marked, Masks}
 use Rattle.landmark.proofs.MarkTheorem.{marks-theorem, marks-length, bits-just-marked}
 use Rattle.elimination.specs.declared.single.Elimination.{Elimination}
 use Rattle.elimination.specs.declared.single.Elimination.the-variants.{Plain, Greedy}
 use Rattle.elimination.specs.Eliminations.{elimination-of, greedy-elimination-of, left-by, Reduces-both, cheaper-part}
 use Rattle.elimination.proofs.CheaperTheorem.{greedy-shown, elimination-shown, nothing-shown}
-use Rattle.minimal.specs.Minimised.{most-unmarked, minimal-checks, minimal-of}
+use Rattle.minimal.specs.declared.within.Shortened.{Shortened}
+use Rattle.minimal.specs.Minimised.{minimal-of}
+use Rattle.claim.specs.Licensed.{licensed-of}
 use Rattle.demands.specs.Two.{Checked-truly, Marks-truly, Marked-number, Rule-leaves, Tally-truly, Cheaper, Shown-truly}
-use Rattle.demands.specs.Two.{Mask-truly, Demand-two}
+use Rattle.demands.specs.Two.{Mask-truly, Shortened-truly, Demand-two}
 use Rattle.demands.proofs.OrderLaws.{compared-truly}
-use Rattle.demands.proofs.FitLaws.{Flags-each, elimination-flags, minimal-flags}
+use Rattle.demands.proofs.FitLaws.{Flags-each, elimination-flags, minimal-flags, licensed-flags}
 
 -- a verdict that tells nothing passes, and one that tells something refuses
 none-passed : (v : Verdict) → told v ≡ none → v ≡ Passed
@@ -146,6 +148,19 @@ module _ (w l : List ℕ) where
   marked-number : (n : ℕ) → n ≡ count (marks w l) → Marked-number w l n
   marked-number n is = record { flags = marks w l; each-step = marks-length w l; marked = marks-theorem w l; number = is }
 
+  -- what is told of a list that is shortened to such a reduction
+  shortened-truly : (checks : List Check) (m : Reduction) (before : List ℕ) (r : Shortened) (after : List ℕ) → Answers checks w l m before (r .answer) (r .mask .words) after
+      → (answer checks ≡ none → Flags-each l m (length before)) → r .lodged ≡ unless-refused (answer checks) (lodged-tally w l) nothing
+      → r .marked ≡ unless-refused (answer checks) (marked w l) 0 → Shortened-truly w l m r
+  shortened-truly checks m before r after answers each lodged marks =
+      record {
+        tally = tallied-truly checks m before (r .answer) (r .mask .words) after answers;
+        mask = masked-truly checks m before (r .answer) (r .mask .words) after answers each;
+        lodged = tally-truly (whole l) (told-answer (r .answer)) (r .lodged) (rw (← lodged-whole, answers .refusal) lodged);
+        marks = λ h. marked-number (r .marked) (rw (sym (answers .refusal) ∙ h) at marks);
+        no-marks = λ t h. rw (sym (answers .refusal) ∙ h) at marks;
+      }
+
 pub demand-two : Demand-two
 demand-two =
     record {
@@ -165,13 +180,9 @@ demand-two =
       cheaper-shown = λ w l before before′ verdict first second after after′ part both is.
           rw is (shown-truly w l before before′ verdict first second after after′ both);
       exact-reduction = λ w l before r after minimises.
-          let refuses : told-answer (r .answer) ≡ answer (minimal-checks most-unmarked w l (length before)) = minimises .answers .refusal in (
-            tallied-truly w l _ (minimal-of w l) before (r .answer) (r .mask .words) after (minimises .answers),
-            masked-truly w l _ (minimal-of w l) before (r .answer) (r .mask .words) after (minimises .answers) (minimal-flags w l (length before)),
-            tally-truly w l (whole l) (told-answer (r .answer)) (r .lodged) (rw (← lodged-whole w l, refuses) (minimises .lodged)),
-            λ h. marked-number w l (r .marked) (rw (sym refuses ∙ h) at (minimises .marks)),
-            λ t h. rw (sym refuses ∙ h) at (minimises .marks),
-          );
+          shortened-truly w l _ (minimal-of w l) before r after (minimises .answers) (minimal-flags w l (length before)) (minimises .lodged) (minimises .marks);
+      licence = λ w l before r after licenses.
+          shortened-truly w l _ (licensed-of w l) before (r .told) after (licenses .answers) (licensed-flags w l (length before)) (licenses .lodged) (licenses .marks);
       tally-compare = λ t u r is. rw is (compared-truly t u);
       tally-add = λ t price r is.
           record {

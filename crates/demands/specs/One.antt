@@ -24,6 +24,8 @@ use Rattle.elimination.specs.declared.single.Elimination.{Elimination}
 use Rattle.elimination.specs.Eliminations.{elimination-of, greedy-elimination-of, left-by, Reduces-both, cheaper-part}
 use Rattle.minimal.specs.declared.within.Shortened.{Shortened}
 use Rattle.minimal.specs.Minimised.{most-unmarked, minimal-checks, minimal-of, Minimises}
+use Rattle.claim.specs.declared.answer.Licensed.{Licensed}
+use Rattle.claim.specs.Licensed.{licensed-of, Licenses}
 use Rattle.translation.specs.declared.translate.Translated.{Translated}
 use Rattle.translation.specs.Translation.{translation-checks, told-translated, Translates}
 
@@ -114,6 +116,10 @@ pub record Demand-one : Type 0 where
       → Minimises most-unmarked w l before r after
       → Refuses-just exact-numbers (minimal-checks most-unmarked w l (length before)) (told-answer (r .answer))
       × Output-lent (told-answer (r .answer)) l (minimal-of w l) before after
+  -- the licence, "refusals 1 to 11 as the eliminations have them"
+  pub licence : (w l before : List ℕ) (r : Licensed) (after : List ℕ) → Licenses w l before r after
+      → Refuses-just greedy-numbers (reduction-checks w l (length before)) (told-answer (r .told .answer))
+      × Output-lent (told-answer (r .told .answer)) l (licensed-of w l) before after
   -- a planner's text read into a sheet; what an answer writes is `Writes-sheet`
   pub planner-text : (text before : List ℕ) (r : Translated) (after : List ℕ) → Translates text before r after
       → Refuses-just text-numbers (translation-checks text (length before)) (told-translated r)

@@ -36,6 +36,8 @@ use Rattle.elimination.specs.Eliminations.{elimination-of, greedy-elimination-o
 use Rattle.minimal.specs.declared.within.Shortened.{Shortened}
 use Rattle.minimal.specs.Minimised.{most-unmarked, minimal-of, Minimises}
 use Rattle.minimal.specs.Statement.{Is-marked}
+use Rattle.claim.specs.declared.answer.Licensed.{Licensed}
+use Rattle.claim.specs.Licensed.{licensed-of, Licenses}
 
 -- a mask tells the reduction m: bit i is one exactly where step i + 1 is kept, and the number of ones is that of the
 -- kept steps; in a refusal it is zero
@@ -78,6 +80,15 @@ module _ (w l : List ℕ) where
     pub each-step : length flags ≡ length l
     pub marked : (i : ℕ) → keeps flags i ↔ Is-marked w l i
     pub number : n ≡ count flags
+
+  -- what is told of the list that is shortened to the reduction m: its tally and its mask, the tally of the lodged list
+  -- and how many of its steps are marked
+  pub record Shortened-truly (m : Reduction) (r : Shortened) : Type 0 where
+    pub tally : Tally-truly m (told-answer (r .answer)) (told-tally (r .answer))
+    pub mask : Mask-truly m (told-answer (r .answer)) (r .mask .words)
+    pub lodged : Tally-truly (whole l) (told-answer (r .answer)) (r .lodged)
+    pub marks : told-answer (r .answer) ≡ none → Marked-number (r .marked)
+    pub no-marks : (t : Told) → told-answer (r .answer) ≡ some t → r .marked ≡ 0
 
   -- an elimination leaves the reduction m by its written rule, trial by trial or round by round
   abbrev pub Left-by-rule : Elimination → Reduction → Type 0
@@ -145,15 +156,12 @@ pub record Demand-two : Type 0 where
   pub cheaper-shown : (w l before before′ : List ℕ) (verdict : Verdict) (first second : Tally)
       (after after′ part : List ℕ) → Reduces-both w l before before′ verdict first second after after′
       → part ≡ cheaper-part after after′ first second → Shown-truly w l (told verdict) part
-  -- the exact reduction, of which demand 3 says what it leaves; it also tells the tally of the lodged list and how many
-  -- of its steps are marked
+  -- the exact reduction, of which demand 3 says what it leaves
   pub exact-reduction : (w l before : List ℕ) (r : Shortened) (after : List ℕ)
-      → Minimises most-unmarked w l before r after
-      → Tally-truly w l (minimal-of w l) (told-answer (r .answer)) (told-tally (r .answer))
-      × Mask-truly (minimal-of w l) (told-answer (r .answer)) (r .mask .words)
-      × Tally-truly w l (whole l) (told-answer (r .answer)) (r .lodged)
-      × (told-answer (r .answer) ≡ none → Marked-number w l (r .marked))
-      × ((t : Told) → told-answer (r .answer) ≡ some t → r .marked ≡ 0)
+      → Minimises most-unmarked w l before r after → Shortened-truly w l (minimal-of w l) r
+  -- the licence, of which `May-be-lodged` says what it leaves
+  pub licence : (w l before : List ℕ) (r : Licensed) (after : List ℕ) → Licenses w l before r after
+      → Shortened-truly w l (licensed-of w l) (r .told)
   -- a tally with one step more, and which of two tallies is the lower
   pub tally-add : (t : Tally) (price : ℕ) (r : Tally) → r ≡ one-more t price → Added-truly t price r
   pub tally-compare : (t u : Tally) (r : Order) → r ≡ comparison t u → Compared-truly t u r

@@ -5,6 +5,7 @@ use Prim.Native.Nat.{ℕ, min, _≤_}
 use native.Mathlib.Nat.{min-le-left, min-le-right}
 use native.Mathlib.Omega.{arith}
 use mathlib.Core.Path.{_≡_, refl, sym, _∙_, ap}
+use mathlib.Core.Logic.{⊎-elim}
 use mathlib.Core.Bool.{true, false, true≢false, false≢true}
 use mathlib.Core.Option.{none}
 use mathlib.Core.List.{List, []}
@@ -17,19 +18,24 @@ use Rattle.tally.specs.declared.Tally.{Tally}
 use Rattle.tally.specs.declared.Order.{Order}
 use Rattle.tally.specs.declared.Order.the-variants.{Less, Equal, Greater}
 use Rattle.tally.specs.Tally.{comparison}
-use Rattle.sheet.specs.Decode.{action}
+use Rattle.sas.specs.Plan.{cost}
+use Rattle.sheet.specs.Decode.{initial, goal, action}
 use Rattle.plan.specs.Valid.{steps}
-use Rattle.reduction.specs.Reduction.{Reduction, kept, count}
+use Rattle.plan.specs.Readable.{Readable}
+use Rattle.plan.proofs.PlanLaws.{passed-readable}
+use Rattle.reduction.specs.Reduction.{Reduction, kept, count, valid}
 use Rattle.reduction.specs.between.Order.{lower}
 use Rattle.reduction.proofs.ReductionLaws.{kept-length, left-length}
+use Rattle.reduction.proofs.LowerLaws.{lower-true, lower-false}
 use Rattle.service.specs.Reduced.{reduction-checks, tally-left, output-left}
 use Rattle.refusal.specs.Refusal.{told}
 use Rattle.refusal.specs.Check.{answer}
 use Rattle.service.specs.between.Tallied.{is-less}
-use Rattle.service.proofs.LodgedLaws.{roomy}
+use Rattle.service.proofs.LodgedLaws.{roomy, lodged-valid}
 use Rattle.service.proofs.LessLaws.{less-lower}
-use Rattle.elimination.specs.Eliminations.{elimination-of, greedy-elimination-of, Reduces-both, cheaper-part}
-use Rattle.elimination.proofs.LeavesLaws.{left-fits}
+use Rattle.elimination.specs.Eliminations.{elimination-of, greedy-elimination-of, left-by, cheaper-of, Reduces-both, cheaper-part}
+use Rattle.elimination.proofs.LeavesLaws.{left-fits, cheaper-taken}
+use Rattle.elimination.specs.declared.single.Elimination.{Elimination}
 use Rattle.elimination.specs.declared.single.Elimination.the-variants.{Plain, Greedy}
 
 -- an output with room for the list begins with the list left
@@ -45,6 +51,34 @@ unfolding lower
 tally-less w l m n fits fits′ =
     let all : (k : Reduction) → length k ≡ length l → length (kept k (steps w l)) ≡ count k = λ k e. kept-length k (steps w l) (e ∙ sym (length-map l (action w))) in
     rw (less-lower, all m fits, all n fits′)
+
+-- the cheaper costs no more than either
+module _ (w l : List ℕ) (readable : Readable w l) (valid-list : valid (initial w) (goal w) (steps w l) ≡ true) where
+  pub fits-both : (by : Elimination) → length (left-by by w l) ≡ length l
+  fits-both by = left-fits w l readable valid-list by ∙ length-map l (action w)
+
+  both-less : is-less (comparison (tally-left w l (left-by Greedy w l)) (tally-left w l (left-by Plain w l)))
+      ≡ lower (kept (left-by Greedy w l) (steps w l)) (kept (left-by Plain w l) (steps w l))
+  both-less = tally-less w l (left-by Greedy w l) (left-by Plain w l) (fits-both Greedy) (fits-both Plain)
+
+  pub cheaper-no-dearer : (by : Elimination) → cost (kept (cheaper-of w l) (steps w l)) ≤ cost (kept (left-by by w l) (steps w l))
+  cheaper-no-dearer by = by-order (comparison (tally-left w l (left-by Greedy w l)) (tally-left w l (left-by Plain w l))) refl by
+    where
+      not-less : lower (kept (left-by Greedy w l) (steps w l)) (kept (left-by Plain w l) (steps w l)) ≡ false
+          → (by : Elimination) → cost (kept (left-by Plain w l) (steps w l)) ≤ cost (kept (left-by by w l) (steps w l))
+      not-less h Plain = omega arith
+      not-less h Greedy = ⊎-elim (λ dearer. omega arith) (λ same. omega (arith, same .0)) (lower-false (kept (left-by Greedy w l) (steps w l)) (kept (left-by Plain w l) (steps w l)) h)
+
+      less : lower (kept (left-by Greedy w l) (steps w l)) (kept (left-by Plain w l) (steps w l)) ≡ true
+          → (by : Elimination) → cost (kept (left-by Greedy w l) (steps w l)) ≤ cost (kept (left-by by w l) (steps w l))
+      less h Plain = ⊎-elim (λ cheaper. omega arith) (λ same. omega (arith, same .0)) (lower-true (kept (left-by Greedy w l) (steps w l)) (kept (left-by Plain w l) (steps w l)) h)
+      less h Greedy = omega arith
+
+      by-order : (o : Order) → comparison (tally-left w l (left-by Greedy w l)) (tally-left w l (left-by Plain w l)) ≡ o
+          → (by : Elimination) → cost (kept (cheaper-of w l) (steps w l)) ≤ cost (kept (left-by by w l) (steps w l))
+      by-order Less e by = rw (cheaper-taken w l readable valid-list Less e) (less (sym both-less ∙ ap is-less e) by)
+      by-order Equal e by = rw (cheaper-taken w l readable valid-list Equal e) (not-less (sym both-less ∙ ap is-less e) by)
+      by-order Greater e by = rw (cheaper-taken w l readable valid-list Greater e) (not-less (sym both-less ∙ ap is-less e) by)
 
 -- which part is shown, by whether the second tally is the lower
 shown-second : (first second : List ℕ) (t u : Tally) → is-less (comparison u t) ≡ true → cheaper-part first second t u ≡ take (u .steps) second
@@ -72,10 +106,10 @@ module _ (w l before before′ : List ℕ) (v : Verdict) (first second : Tally) 
     nothing-refused = sym (both .refusal) ∙ ap told passed
 
     fits-first : length (elimination-of w l) ≡ length l
-    fits-first = left-fits _ w l nothing-refused Plain ∙ length-map l (action w)
+    fits-first = fits-both w l (passed-readable _ w l nothing-refused) (lodged-valid _ w l nothing-refused) Plain
 
     fits-second : length (greedy-elimination-of w l) ≡ length l
-    fits-second = left-fits _ w l nothing-refused Greedy ∙ length-map l (action w)
+    fits-second = fits-both w l (passed-readable _ w l nothing-refused) (lodged-valid _ w l nothing-refused) Greedy
 
     room : length l ≤ min (length before) (length before′)
     room = roomy w l (min (length before) (length before′)) nothing-refused

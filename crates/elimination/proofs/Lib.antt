@@ -14,7 +14,7 @@ pub mod RoundLaws
 pub mod PickLaws
 -- GreedyLaws: greedy elimination, round by round.
 pub mod GreedyLaws
--- LeavesLaws: what each elimination leaves of a list that passes the checks.
+-- LeavesLaws: what each elimination leaves of a valid list, and the cheaper.
 pub mod LeavesLaws
 -- ServiceLaws: what the service of both answers, and the part that is shown.
 pub mod ServiceLaws

@@ -29,6 +29,15 @@ abbrev pub left-by : Elimination → List ℕ → List ℕ → Reduction
 left-by Plain w l = elimination-of w l
 left-by Greedy w l = greedy-elimination-of w l
 
+-- what the cheaper of the two leaves: "lower price, then fewer steps, then elimination's"
+unfoldable pub cheaper-of : List ℕ → List ℕ → Reduction
+cheaper-of w l =
+    elim (comparison (tally-left w l (greedy-elimination-of w l)) (tally-left w l (elimination-of w l))) [
+      | Less ↦ greedy-elimination-of w l
+      | Equal ↦ elimination-of w l
+      | Greater ↦ elimination-of w l
+    ]
+
 -- "The cheaper-of-both service fills two lent outputs, elimination's first, and returns both tallies or a refusal";
 -- both outputs must have room
 pub record Reduces-both (w l before before′ : List ℕ) (verdict : Verdict) (first second : Tally)

@@ -4,14 +4,22 @@ use crate::single::flags_left;
 use access::front;
 use plan::check::Answer;
 use plan::check::check_lodged;
+use plan::limits::Plan;
 use refusal::Verdict;
 use service::finish::finish;
 use service::room::check_room;
 use service::room::shorter;
+use service::tallied::tally_of;
 use tally::Order;
 use tally::Tally;
 ghost use mathlib.Core.Path.{_≡_};
-ghost use Rattle.elimination.specs.Eliminations.{Reduces-both, cheaper-part};
+ghost use mathlib.Core.Bool.{true};
+ghost use Rattle.reduction.specs.Reduction.{valid};
+ghost use Rattle.sheet.specs.Decode.{goal, initial};
+ghost use Rattle.plan.specs.Valid.{steps};
+ghost use Rattle.plan.specs.Readable.{Readable};
+ghost use Rattle.service.specs.between.Held.{held};
+ghost use Rattle.elimination.specs.Eliminations.{Reduces-both, cheaper-of, cheaper-part};
 
 // Both tallies, elimination's first, or a refusal, with its tallies zero.
 pub struct Both {
@@ -46,6 +54,25 @@ pub fn cheaper(words: &[u32], plan: &[u32], first: &mut [u32], second: &mut [u32
         verdict: Verdict::Passed,
         first: of_first,
         second: of_second,
+    }
+}
+
+// The flags that the cheaper elimination leaves of a valid plan: lower cost, then fewer steps, then elimination's.
+pub fn flags_of_cheaper(words: &[u32], plan: &[u32]) -> [bool; Plan::STEPS]
+    requires { ⌜ Readable (now words) (now plan) ⌝ }
+    requires { ⌜ valid (initial (now words)) (goal (now words)) (steps (now words) (now plan)) ≡ true ⌝ }
+    ensures { λ r. ⌜ r ≡ held (now (plan .entry)) (cheaper-of (now (words .entry)) (now (plan .entry))) ⌝ }
+{
+    let n = plan.len();
+    let eliminated = flags_left(words, plan, Elimination::Plain);
+    let greedily = flags_left(words, plan, Elimination::Greedy);
+    let tally = tally_of(words, plan, &eliminated[..n]);
+    let other = tally_of(words, plan, &greedily[..n]);
+    let order = other.compare(tally);
+    match order {
+        Order::Less => greedily,
+        Order::Equal => eliminated,
+        Order::Greater => eliminated,
     }
 }
 

@@ -12,6 +12,7 @@ use Rattle.refusal.specs.Refusal.{told}
 use Rattle.refusal.specs.Check.{Check, answer}
 use Rattle.refusal.proofs.PlaceLaws.{when-nowhere}
 use Rattle.refusal.proofs.CheckLaws.{none-fires}
+use Rattle.sas.specs.Plan.{Plan}
 use Rattle.sheet.specs.Decode.{initial, goal, task}
 use Rattle.plan.specs.Valid.{steps}
 use Rattle.plan.specs.Checked.{lodged-checks, told-answer}
@@ -25,10 +26,12 @@ use Rattle.reduction.specs.Reduction.{valid}
 use Rattle.reduction.proofs.ValidLaws.{plan-valid}
 use Rattle.service.specs.Reduced.{room-checks, reduction-checks}
 
+pub lodged-plan : (besides : List Check) (w l : List ℕ) → answer (lodged-checks besides w l) ≡ none → Plan (task w) (steps w l)
+lodged-plan besides w l passed = plan-theorem w l (passed-readable besides w l passed) .passed-plan (plan-passes besides w l passed)
+
 pub lodged-valid : (besides : List Check) (w l : List ℕ) → answer (lodged-checks besides w l) ≡ none → valid (initial w) (goal w) (steps w l) ≡ true
 unfolding task
-lodged-valid besides w l passed =
-    plan-valid (task w) (steps w l) (plan-theorem w l (passed-readable besides w l passed) .passed-plan (plan-passes besides w l passed))
+lodged-valid besides w l passed = plan-valid (task w) (steps w l) (lodged-plan besides w l passed)
 
 -- what the check of a list answers where its room is asked besides
 module _ (w l : List ℕ) (room : ℕ) (v : Verdict) (given : Answer) (state : List ℕ) (asked : told v ≡ answer (room-checks (length l) room))

@@ -42,12 +42,12 @@ flags-left-requires c κs =
 array-share-prefix-eliminated : tie.Need-array-share-prefix-eliminated
 array-share-prefix-eliminated c =
     let passed = nothing-refused _ _ _ _ _ _ (c .before .before .before .before .check-room .ensures) (c .before .before .before .check-lodged .ensures) _ (c .before .enum-told .given .1) in
-    left-leaves _ _ _ passed Plain _ (c .flags-left .ensures) .within
+    left-leaves _ _ (passed-readable _ _ _ passed) (lodged-valid _ _ _ passed) Plain _ (c .flags-left .ensures) .within
 
 slice-aggregate-finish : tie.Need-slice-aggregate-finish
 slice-aggregate-finish c =
     let passed = nothing-refused _ _ _ _ _ _ (c .before .before .before .before .before .check-room .ensures) (c .before .before .before .before .check-lodged .ensures) _ (c .before .before .enum-told .given .1) in
-    sym (left-leaves _ _ _ passed Plain _ (c .before .flags-left .ensures) .fits)
+    sym (left-leaves _ _ (passed-readable _ _ _ passed) (lodged-valid _ _ _ passed) Plain _ (c .before .flags-left .ensures) .fits)
 
 finish-requires : tie.Need-finish-requires
 finish-requires c κs = search needs
@@ -60,12 +60,12 @@ flags-left-requires-2 c κs =
 array-share-prefix-greedily : tie.Need-array-share-prefix-greedily
 array-share-prefix-greedily c =
     let passed = nothing-refused _ _ _ _ _ _ (c .before .before .before .before .before .before .before .before .before .before .check-room .ensures) (c .before .before .before .before .before .before .before .before .before .check-lodged .ensures) _ (c .before .before .before .before .before .before .before .enum-told .given .1) in
-    left-leaves _ _ _ passed Greedy _ (c .flags-left2 .ensures) .within
+    left-leaves _ _ (passed-readable _ _ _ passed) (lodged-valid _ _ _ passed) Greedy _ (c .flags-left2 .ensures) .within
 
 slice-aggregate-finish-2 : tie.Need-slice-aggregate-finish-2
 slice-aggregate-finish-2 c =
     let passed = nothing-refused _ _ _ _ _ _ (c .before .before .before .before .before .before .before .before .before .before .before .check-room .ensures) (c .before .before .before .before .before .before .before .before .before .before .check-lodged .ensures) _ (c .before .before .before .before .before .before .before .before .enum-told .given .1) in
-    sym (left-leaves _ _ _ passed Greedy _ (c .before .flags-left2 .ensures) .fits)
+    sym (left-leaves _ _ (passed-readable _ _ _ passed) (lodged-valid _ _ _ passed) Greedy _ (c .before .flags-left2 .ensures) .fits)
 
 finish-requires-2 : tie.Need-finish-requires-2
 finish-requires-2 c κs = search needs
@@ -83,8 +83,8 @@ returns-2 c =
     let valid = c .before .before .before .before .before .before .before .before .before .before .before .before .before .before .enum-told .given .1 in
     let passed = nothing-refused _ _ _ _ _ _ asked checked _ valid in
     let readable = passed-readable _ _ _ passed in
-    let left = left-leaves _ _ _ passed Plain _ (c .before .before .before .before .before .before .before .before .before .before .before .before .before .flags-left .ensures) in
-    let left′ = left-leaves _ _ _ passed Greedy _ (c .before .before .before .before .before .before .before .flags-left2 .ensures) in
+    let left = left-leaves _ _ (passed-readable _ _ _ passed) (lodged-valid _ _ _ passed) Plain _ (c .before .before .before .before .before .before .before .before .before .before .before .before .before .flags-left .ensures) in
+    let left′ = left-leaves _ _ (passed-readable _ _ _ passed) (lodged-valid _ _ _ passed) Greedy _ (c .before .before .before .before .before .before .before .flags-left2 .ensures) in
     both-kept _ _ _ _ _ _ (c .before .before .before .before .before .before .before .before .before .before .before .before .before .before .before .before .before .before .shorter .ensures) (room-checked _ _ _ _ _ _ asked checked) _ _ _ _ _ _ _ _ _ valid (left .same) (left′ .same)
     (keeps _ _ _ _ _ _ _ readable (left .fits) (c .before .before .before .before .before .before .before .before .before .before .finish .ensures)) (keeps _ _ _ _ _ _ _ readable (left′ .fits) (c .before .before .before .before .finish2 .ensures))
 

@@ -1,0 +1,157 @@
+-- What `license` answers on each of its ways. What the code calls is a variable here, with what is known of it as a premise. Assumes nothing.
+use Prim.Native.Nat.{ℕ, _-_, _≤_, _<_}
+use native.Mathlib.Omega.{arith}
+use mathlib.Core.Path.{_≡_, refl, sym, _∙_, ap, subst}
+use mathlib.Core.Bool.{Bool, true, false}
+use mathlib.Core.Option.{none, some, Option·some-injective}
+use mathlib.Core.List.{List}
+use lib.ListN.{length, take, replicate, length-map, length-replicate}
+use lib.Seq.{sets, take-at, length-sets}
+use lib.Dec.{leb}
+use borrow.Author.Tests.{le-leb, lt-leb}
+use Rattle.refusal.specs.declared.Refusal.{Refusal}
+use Rattle.refusal.specs.declared.Verdict.{Verdict}
+use Rattle.refusal.specs.Refusal.{told-refusal, told}
+use Rattle.refusal.specs.Check.{Check, answer}
+use Rattle.refusal.proofs.CheckLaws.{first-none}
+use Rattle.sas.specs.Plan.{Plan}
+use Rattle.tally.specs.declared.Tally.{Tally}
+use Rattle.tally.proofs.TallyLaws.{same-tally}
+use Rattle.reduction.specs.Reduction.{Reduction, kept, count, compose}
+use Rattle.reduction.proofs.ReductionLaws.{kept-length, left-length, kept-compose, compose-length}
+use Rattle.reduction.proofs.RoundLaws.{count-few}
+use Rattle.mask.specs.declared.Mask.{Mask}
+use Rattle.mask.specs.Mask.{mask-bits, mask-words}
+use Rattle.mask.proofs.MaskTheorem.{front-and-rest}
+use Rattle.sheet.specs.Decode.{action, task}
+use Rattle.plan.specs.Limits.{most-steps}
+use Rattle.plan.specs.Valid.{steps}
+use Rattle.plan.specs.Readable.{Readable}
+use Rattle.plan.specs.declared.check.Answer.{Answer}
+use Rattle.plan.specs.declared.check.Answer.the-variants.{Valid, Refused}
+use Rattle.plan.specs.Checked.{told-answer, told-tally, lodged-tally}
+use Rattle.plan.specs.between.Lodged.{Checks-lodged}
+use Rattle.plan.proofs.PlanLaws.{passed-readable}
+use Rattle.service.specs.Reduced.{room-checks, reduction-checks, tally-left, output-left, Answers, Reduces}
+use Rattle.service.specs.between.Held.{mask, held, Leaves}
+use Rattle.service.specs.between.Kept.{Keeps, Finishes}
+use Rattle.service.proofs.LodgedLaws.{lodged-plan, room-checked, nothing-refused, roomy}
+use Rattle.service.proofs.TalliedLaws.{kept-steps}
+use Rattle.service.proofs.AnswerLaws.{keeps, answers-refused, answers-kept}
+use Rattle.landmark.specs.Marks.{marks, marked, unmarked}
+use Rattle.landmark.proofs.MarkTheorem.{marks-length}
+use Rattle.elimination.specs.Eliminations.{cheaper-of}
+use Rattle.elimination.proofs.LeavesLaws.{cheaper-leaves}
+use Rattle.minimal.specs.declared.within.Shortened.{Shortened}
+use Rattle.minimal.specs.Minimised.{most-unmarked, unmarked-checks, minimal-checks, minimal-of, minimal-refusal, Minimises}
+use Rattle.minimal.proofs.DemandThree.{checks-pass, many-refused, refused-many, passed-few}
+use Rattle.claim.specs.declared.answer.Claim.the-variants.{Least, Irreducible, Open}
+use Rattle.claim.specs.declared.answer.Licensed.{Licensed}
+use Rattle.claim.specs.Licensed.{cheaper-list, claim-of, claimed-by, licensed-of, licence-refusal, Licenses}
+use Rattle.claim.specs.Statement.{Licence, May-be-lodged}
+use Rattle.claim.specs.between.Refused.{Refuses-licence}
+use Rattle.claim.specs.between.Further.{Goes-further}
+use Rattle.claim.proofs.LicenceTheorem.{licence-of, cheaper-readable, cheaper-plan, claims-least, claims-irreducible, claims-open}
+
+-- one of the checks 1 to 11 refuses
+pub refuses-all : (w l before : List ℕ) (refusal : Refusal) (r : Licensed) → licence-refusal w l before ≡ some (told-refusal refusal) → Refuses-licence refusal r
+    → Licenses w l before r before
+refuses-all w l before refusal r fires refuses =
+    record {
+      answers = rw (refuses .told .answer, refuses .told .mask) (answers-refused _ w l (licensed-of w l) before (Refused refusal) (sym fires) refusal refl);
+      claims = rw fires (refuses .claim);
+      lodged = rw fires (refuses .told .lodged);
+      marks = rw fires (refuses .told .marked);
+    }
+
+-- none does
+module _ (w l before : List ℕ) (passed : licence-refusal w l before ≡ none) where
+  readable : Readable w l
+  readable = passed-readable _ w l passed
+
+  plan : Plan (task w) (steps w l)
+  plan = lodged-plan _ w l passed
+
+  room : length l ≤ length before
+  room = roomy w l (length before) passed
+
+  -- the minimal reduction answers
+  pub licenses-least : (r : Shortened) (tally : Tally) (after : List ℕ) → Minimises most-unmarked w l before r after → r .answer ≡ Valid tally
+      → Licenses w l before (record { claim = Least; told = r }) after
+  licenses-least r tally after minimises valid =
+      let passes : answer (minimal-checks most-unmarked w l (length before)) ≡ none = sym (minimises .answers .refusal) ∙ ap told-answer valid in
+      let few : unmarked w l ≤ most-unmarked = passed-few w l readable plan most-unmarked (length before) room passes in
+      let claims : claim-of w l ≡ Least = claims-least w l readable plan (le-leb (unmarked w l) most-unmarked few) in
+      record {
+        answers =
+            record {
+              refusal = minimises .answers .refusal ∙ passes ∙ sym passed;
+              tally = rw (passed, claims) (rw passes at (minimises .answers .tally));
+              told-by = rw (passed, claims) (rw passes at (minimises .answers .told-by));
+              output = rw (passed, claims) (rw passes at (minimises .answers .output));
+            };
+        claims = rw (passed, claims);
+        lodged = rw passed (rw passes at (minimises .lodged));
+        marks = rw passed (rw passes at (minimises .marks));
+      }
+
+  -- or it refuses, for the unmarked steps alone
+  pub goes-further : (refusal : Refusal) (lodged : Tally) (others : ℕ) → minimal-refusal most-unmarked w l before ≡ some (told-refusal refusal) → lodged ≡ lodged-tally w l
+      → others ≡ told-refusal refusal .place → Goes-further w l before lodged others
+  goes-further refusal lodged others refuses is counted =
+      let many : most-unmarked < unmarked w l = refused-many w l readable plan most-unmarked (length before) room _ refuses in
+      let told : told-refusal refusal ≡ record { number = 12; place = unmarked w l } =
+      Option·some-injective _ _ (sym refuses ∙ many-refused w l readable plan most-unmarked (length before) room many) in
+      record { passes = passed; tally = is; counted = counted ∙ ap (λ t. t .place) told; many = many }
+
+-- what is answered meets the one statement
+pub may-be-lodged : (w l before : List ℕ) (r : Licensed) (after : List ℕ) → Licenses w l before r after → May-be-lodged w l before r after
+may-be-lodged w l before r after licenses readable plan roomy =
+    let passed : licence-refusal w l before ≡ none = checks-pass w l readable plan (length before) roomy in
+    let licence : Licence w l (claim-of w l) (licensed-of w l) = licence-of w l readable plan in
+    let fits : length (licensed-of w l) ≡ length l = licence .valid-left .fits ∙ length-map l (action w) in
+    let long : length (licensed-of w l) ≤ mask-bits = omega (arith, fits, readable .few) in
+    let room : count (licensed-of w l) ≤ length before = omega (arith, kept-length (licensed-of w l) l fits, left-length (licensed-of w l) l fits) in
+    record {
+      left = licensed-of w l;
+      licence = subst (λ c. Licence w l c (licensed-of w l)) (sym (rw passed at (licenses .claims))) licence;
+      answers = licenses .answers .refusal ∙ passed;
+      tally = rw passed at (licenses .answers .tally);
+      told-by = rw passed at (licenses .answers .told-by);
+      output = rw passed at (licenses .answers .output) ∙ front-and-rest (licensed-of w l) l long fits before room;
+    }
+
+-- what the check of a list answers where its room is asked besides
+module _ (w l before : List ℕ) (v : Verdict) (given : Answer) (state : List ℕ) (asked : told v ≡ answer (room-checks (length l) (length before)))
+    (checks : Checks-lodged w l v given state) where
+  pub lodged-refuses : (refusal : Refusal) (r : Licensed) → given ≡ Refused refusal → Refuses-licence refusal r → Licenses w l before r before
+  lodged-refuses refusal r is = refuses-all w l before refusal r (sym (room-checked w l (length before) v given state asked checks) ∙ ap told-answer is)
+
+  pub lodged-further : (lodged : Tally) (refusal : Refusal) (others : ℕ) → given ≡ Valid lodged → minimal-refusal most-unmarked w l before ≡ some (told-refusal refusal)
+      → others ≡ told-refusal refusal .place → Goes-further w l before lodged others
+  lodged-further lodged refusal others is refuses counted =
+      let passed : licence-refusal w l before ≡ none = nothing-refused w l (length before) v given state asked checks lodged is in
+      goes-further w l before passed refusal lodged others refuses (rw (passed, is) at (checks .checked (room-checks (length l) (length before)) asked .tally)) counted
+
+-- what the service answers, by what the minimal reduction does
+module _ (w l before : List ℕ) (r : Shortened) (after : List ℕ) (minimises : Minimises most-unmarked w l before r after) where
+  pub answers-least : (tally : Tally) → r .answer ≡ Valid tally → Licenses w l before (record { claim = Least; told = r }) after
+  unfolding minimal-checks
+  answers-least tally valid =
+      let passes : answer (minimal-checks most-unmarked w l (length before)) ≡ none = sym (minimises .answers .refusal) ∙ ap told-answer valid in
+      let passed : licence-refusal w l before ≡ none = first-none (reduction-checks w l (length before)) (unmarked-checks most-unmarked w l) _ passes refl in
+      licenses-least w l before passed r tally after minimises valid
+
+  module _ (refusal : Refusal) (is : r .answer ≡ Refused refusal) where
+    refuses : minimal-refusal most-unmarked w l before ≡ some (told-refusal refusal)
+    refuses = sym (minimises .answers .refusal) ∙ ap told-answer is
+
+    -- which leaves the output
+    stays : after ≡ before
+    stays = rw refuses at (minimises .answers .output)
+
+    pub refuses-there : minimal-refusal most-unmarked w l after ≡ some (told-refusal refusal)
+    refuses-there = rw stays refuses
+
+    pub answers-there : (given : Licensed) (last : List ℕ) → Licenses w l after given last → Licenses w l before given last
+    answers-there given last licenses = subst (λ b. Licenses w l b given last) stays licenses

@@ -1,0 +1,4 @@
+-- What stands between the code and the definitions to be believed: laws and theorems tie the two together.
+-- Refused: a refusal, with its zeros. Further: when a list goes further than the minimal reduction.
+pub mod Refused
+pub mod Further
