@@ -23,12 +23,18 @@ use Rattle.step.specs.Step.{Steps}
 use Rattle.step.proofs.StepTheorem.{step-theorem}
 use Rattle.minimal.specs.Minimised.{most-unmarked}
 use Rattle.minimal.specs.Statement.{Answered, Refused-unmarked, Demand-three-of, Demand-three}
+use Rattle.plan.specs.Checked.{told-answer, told-tally}
+use Rattle.claim.specs.declared.answer.Claim.{Claim}
+use Rattle.claim.specs.declared.answer.Claim.the-variants.{Least, Irreducible, Open}
+use Rattle.claim.specs.declared.answer.Licensed.{Licensed}
+use Rattle.claim.specs.Licensed.{Licenses}
+use Rattle.claim.specs.Statement.{Licensed-with, May-be-lodged}
 use Rattle.translation.specs.declared.translate.Translated.{Translated}
 use Rattle.translation.specs.declared.translate.Translated.the-variants.{Refused, Written}
 use Rattle.translation.specs.Translation.{text-sheet, Translates}
-use Rattle.exports.specs.Words.{answer-words, tally-words, lent-state, Steps-lent, Writes-reduced, Answers-lent}
+use Rattle.exports.specs.Words.{answer-words, tally-words, claim-words, lent-state, Steps-lent, Writes-reduced, Answers-lent, Licenses-lent}
 use Rattle.exports.specs.Words.{translated-words, Translate-lent, Translates-lent}
-use Rattle.exports.specs.Statement.{Demand-three-lent}
+use Rattle.exports.specs.Statement.{Demand-three-lent, May-be-lodged-lent}
 
 -- storing what stands there changes nothing
 same-stored : (l : List ℕ) (i n : ℕ) → sets l i (table (word l) i n) ≡ l
@@ -58,6 +64,15 @@ lent-steps w a state state′ out out′ read values verdict reads done stored a
 pub both-written : (l : List ℕ) (t : Option Told) (a b : Tally) → sets (sets (sets l 0 (answer-words t)) 2 (tally-words a)) 4 (tally-words b) ≡ sets l 0 (answer-words t ++ (tally-words a ++ tally-words b))
 both-written l none a b = refl
 both-written l (some t) a b = refl
+
+-- an answer with its tally, and a claim behind it
+pub claim-written : (l : List ℕ) (t : Option Told) (a : Tally) (c : Claim) → sets (sets l 0 (answer-words t ++ tally-words a)) 4 (claim-words c) ≡ sets l 0 (answer-words t ++ (tally-words a ++ claim-words c))
+claim-written l none a (Open n) = refl
+claim-written l none a Irreducible = refl
+claim-written l none a Least = refl
+claim-written l (some t) a (Open n) = refl
+claim-written l (some t) a Irreducible = refl
+claim-written l (some t) a Least = refl
 
 -- what a service that strikes answers, written to lent words
 pub lent-answers : (checks : List Check) (w l : List ℕ) (m : Reduction) (output output′ mask mask′ out out′ words : List ℕ) (given : Answer)
@@ -94,6 +109,32 @@ lent-demand w l output output′ mask mask′ out out′ words given demand writ
             answered = writes .answered ∙ rw (refused .refuses, refused .tally);
           };
     }
+
+-- the licence of a list, written to lent words
+module _ (w l output output′ mask mask′ out between out′ : List ℕ) (r : Licensed) (writes : Writes-reduced (r .told .mask .words) (r .told .answer) mask mask′ out between)
+    (claimed : out′ ≡ sets between 4 (claim-words (r .claim))) where
+  all-written : out′ ≡ sets out 0 (answer-words (told-answer (r .told .answer)) ++ (tally-words (told-tally (r .told .answer)) ++ claim-words (r .claim)))
+  all-written = claimed ∙ rw (writes .answered) (claim-written out (told-answer (r .told .answer)) (told-tally (r .told .answer)) (r .claim))
+
+  pub lent-licenses : Licenses w l output r output′ → Licenses-lent w l output output′ mask mask′ out out′
+  lent-licenses licenses =
+      record {
+        list-left = licenses .answers .output;
+        told-by = writes .told-by ∙ rw (licenses .answers .told-by);
+        answered = all-written ∙ rw (licenses .answers .refusal, licenses .answers .tally, licenses .claims);
+      }
+
+  pub lent-licence : May-be-lodged w l output r output′ → May-be-lodged-lent w l output output′ mask mask′ out out′
+  lent-licence may readable plan roomy =
+      let licensed : Licensed-with w l output r output′ = may readable plan roomy in
+      record {
+        left = licensed .left;
+        claim = r .claim;
+        licence = licensed .licence;
+        list-left = licensed .output;
+        told-by = writes .told-by ∙ rw (licensed .told-by);
+        answered = all-written ∙ rw (licensed .answers, licensed .tally);
+      }
 
 -- a sheet at the front of lent words is stored over them
 stored-front : (s before after : List ℕ) → length s ≤ length before → take (length s) after ≡ s → drop (length s) after ≡ drop (length s) before

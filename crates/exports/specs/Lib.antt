@@ -1,4 +1,4 @@
 -- Words: what answers, tallies, orders and states are as words that programs in other languages lend and read.
--- Statement: demand 3 of the exported minimal reduction.
+-- Statement: demand 3 of the exported minimal reduction, and what the exported licence says.
 pub mod Words
 pub mod Statement

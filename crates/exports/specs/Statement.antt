@@ -1,5 +1,5 @@
--- Demand 3 of what the exported minimal reduction writes to lent words, as one statement. Steps stand at indices from
--- 0, one less than document 01's positions. Assumes nothing.
+-- Demand 3 of what the exported minimal reduction writes to lent words, as one statement, and what the exported licence
+-- writes. Steps stand at indices from 0, one less than document 01's positions. Assumes nothing.
 use Prim.Native.Nat.{ℕ, _≤_, _<_}
 use mathlib.Core.Path.{_≡_}
 use mathlib.Core.Option.{none, some}
@@ -18,7 +18,9 @@ use Rattle.service.specs.Reduced.{tally-left}
 use Rattle.landmark.specs.Marks.{unmarked}
 use Rattle.minimal.specs.Minimised.{most-unmarked}
 use Rattle.minimal.specs.Statement.{Is-marked, Valid-striking}
-use Rattle.exports.specs.Words.{answer-words, tally-words}
+use Rattle.claim.specs.declared.answer.Claim.{Claim}
+use Rattle.claim.specs.Statement.{Licence}
+use Rattle.exports.specs.Words.{answer-words, tally-words, claim-words}
 
 module _ (w l output output′ mask mask′ out out′ : List ℕ) where
   -- the minimal reduction is written: its list over `output`, its mask over `mask`, zeros for the refusal and its tally
@@ -49,3 +51,17 @@ module _ (w l output output′ mask mask′ out out′ : List ℕ) where
   -- for every accepted sheet, every valid list and every output that has as many words as the list has steps
   abbrev pub Demand-three-lent : Type 0
   Demand-three-lent = Readable w l → Plan (task w) (steps w l) → length l ≤ length output → Shortens-lent
+
+  -- a licence is written: the list left over `output`, its mask over `mask`, zeros for the refusal, its tally and the
+  -- claim over `out`
+  pub record Licensed-lent : Type 0 where
+    pub left : Reduction
+    pub claim : Claim
+    pub licence : Licence w l claim left
+    pub list-left : output′ ≡ kept left l ++ drop (count left) output
+    pub told-by : mask′ ≡ sets mask 0 (mask-words left)
+    pub answered : out′ ≡ sets out 0 (answer-words none ++ (tally-words (tally-left w l left) ++ claim-words claim))
+
+  -- of every such list
+  abbrev pub May-be-lodged-lent : Type 0
+  May-be-lodged-lent = Readable w l → Plan (task w) (steps w l) → length l ≤ length output → Licensed-lent

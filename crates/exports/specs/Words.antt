@@ -20,6 +20,9 @@ use Rattle.plan.specs.declared.check.Answer.{Answer}
 use Rattle.plan.specs.Checked.{plan-checks, told-answer, told-tally, lodged-tally, end-state, no-state}
 use Rattle.landmark.specs.Marks.{marks}
 use Rattle.minimal.specs.Minimised.{most-unmarked, minimal-checks, minimal-of}
+use Rattle.claim.specs.declared.answer.Claim.{Claim}
+use Rattle.claim.specs.declared.answer.Claim.the-variants.{Least, Irreducible, Open}
+use Rattle.claim.specs.Licensed.{claim-of, licensed-of}
 use Rattle.sheet.specs.Limits.{limits}
 use Rattle.step.specs.Step.{step-checks, state-after}
 use Rattle.translation.specs.declared.translate.Translated.{Translated}
@@ -98,6 +101,24 @@ Eliminates-lent by w l output =
 abbrev pub Minimises-lent : List ℕ → List ℕ → List ℕ → List ℕ → List ℕ → List ℕ → List ℕ → List ℕ → Type 0
 Minimises-lent w l output =
     Answers-lent (answer (minimal-checks most-unmarked w l (length output))) w l (minimal-of w l) output
+
+-- a claim: its strength, 0 where it is open, 1 where it is irreducible, 2 where it is least, and then how many steps are
+-- unmarked where it is open
+abbrev pub claim-words : Claim → List ℕ
+claim-words (Open n) = 0 ∷ n ∷ []
+claim-words Irreducible = 1 ∷ 0 ∷ []
+claim-words Least = 2 ∷ 0 ∷ []
+
+-- the licence of a list over lent words, of checks that answer t: as a reduction is answered, and the claim behind it
+pub record Licence-lent (t : Option Told) (w l output output′ mask mask′ out out′ : List ℕ) : Type 0 where
+  pub list-left : output′ ≡ unless-refused t (output-left l (licensed-of w l) output) output
+  pub told-by : mask′ ≡ sets mask 0 (unless-refused t (mask-words (licensed-of w l)) (replicate mask-length 0))
+  pub answered : out′ ≡ sets out 0 (answer-words t
+      ++ (tally-words (unless-refused t (tally-left w l (licensed-of w l)) nothing)
+      ++ claim-words (unless-refused t (claim-of w l) (Open 0))))
+
+abbrev pub Licenses-lent : List ℕ → List ℕ → List ℕ → List ℕ → List ℕ → List ℕ → List ℕ → List ℕ → Type 0
+Licenses-lent w l output = Licence-lent (answer (reduction-checks w l (length output))) w l output
 
 -- both eliminations over lent words, of checks that answer t
 pub record Both-lent (t : Option Told) (w l first first′ second second′ out out′ : List ℕ) : Type 0 where

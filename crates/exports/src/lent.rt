@@ -2,6 +2,7 @@
 use access::put;
 use access::put64;
 use access::word;
+use claim::answer::Claim;
 use mask::Mask;
 use plan::check::Answer;
 use refusal::Verdict;
@@ -15,7 +16,8 @@ ghost use mathlib.Core.List.{[], _∷_, _++_};
 ghost use lib.Seq.{sets};
 ghost use Rattle.refusal.specs.Refusal.{told};
 ghost use Rattle.plan.specs.Checked.{told-answer, told-tally};
-ghost use Rattle.exports.specs.Words.{answer-words, tally-words, translated-words, lent-state, Writes-reduced};
+ghost use Rattle.exports.specs.Words.{answer-words, tally-words, claim-words, translated-words, lent-state};
+ghost use Rattle.exports.specs.Words.{Writes-reduced};
 
 // Where the number of words of a sheet stands, after the refusal's number and place.
 const WORDS_AT: usize = 2;
@@ -23,7 +25,7 @@ const WORDS_AT: usize = 2;
 // Where the tally of a plan stands, after the refusal's number and place.
 const TALLY_AT: usize = 2;
 
-// Where a second tally stands.
+// Where a second tally stands, or a claim.
 const OTHER_AT: usize = 4;
 
 // Writes two numbers, the first at index `at`.
@@ -102,6 +104,18 @@ pub(crate) fn write_both(out: &mut [u64], verdict: Verdict, first: Tally, second
     write_verdict(out, verdict);
     write_pair(out, TALLY_AT, first.cost as u64, first.steps as u64);
     write_pair(out, OTHER_AT, second.cost as u64, second.steps as u64);
+}
+
+// Writes a claim behind an answer: 0 and how many steps are unmarked where it is open, 1 and 0 where it is irreducible,
+// 2 and 0 where it is least.
+pub(crate) fn write_claim(out: &mut [u64], claim: Claim)
+    ensures { λ _. ⌜ now (out .exit) ≡ sets (now (out .entry)) 4 (claim-words claim) ⌝ }
+{
+    match claim {
+        Claim::Open(steps) => write_pair(out, OTHER_AT, 0, steps as u64),
+        Claim::Irreducible => write_pair(out, OTHER_AT, 1, 0),
+        Claim::Least => write_pair(out, OTHER_AT, 2, 0),
+    }
 }
 
 // Writes wide values from the first word on.

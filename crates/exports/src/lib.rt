@@ -10,12 +10,14 @@ mod lent;
 use crate::lent::read_state;
 use crate::lent::write_answer;
 use crate::lent::write_both;
+use crate::lent::write_claim;
 use crate::lent::write_pair;
 use crate::lent::write_reduced;
 use crate::lent::write_translated;
 use crate::lent::write_verdict;
 use crate::lent::write_wide;
 use access::put_all;
+use claim::license::license;
 use elimination::both::cheaper;
 use elimination::both::kept_part;
 use elimination::single::Elimination;
@@ -38,8 +40,8 @@ ghost use Rattle.elimination.specs.declared.single.Elimination.the-variants.{Pl
 ghost use Rattle.elimination.specs.Eliminations.{cheaper-part};
 ghost use Rattle.exports.specs.Words.{answer-words, lent-tally, tally-words, order-number};
 ghost use Rattle.exports.specs.Words.{Steps-lent, Checks-lent, Marks-lent, Eliminates-lent, Minimises-lent};
-ghost use Rattle.exports.specs.Words.{Reduces-both-lent, Translates-lent};
-ghost use Rattle.exports.specs.Statement.{Demand-three-lent};
+ghost use Rattle.exports.specs.Words.{Licenses-lent, Reduces-both-lent, Translates-lent};
+ghost use Rattle.exports.specs.Statement.{Demand-three-lent, May-be-lodged-lent};
 
 // Checks a task: the number and the place of its refusal go to `out`, or 0 and 0.
 #[no_mangle]
@@ -191,6 +193,31 @@ pub extern "C" fn hollchiku_exact(
     let reduced = minimal_reduction(words, plan, output);
     let given = reduced.answer;
     write_reduced(mask, out, reduced.mask, given);
+}
+
+// The licence of a plan, in the same form. Behind the tally goes the claim: 0 and how many steps are unmarked where it
+// is open, 1 and 0 where it is irreducible, 2 and 0 where it is least.
+#[no_mangle]
+pub extern "C" fn hollchiku_license(
+    words: &[u32],
+    plan: &[u32],
+    output: &mut [u32],
+    mask: &mut [u64],
+    out: &mut [u64],
+)
+    ensures words { λ _. ⌜ Licenses-lent (now (words .entry)) (now (plan .entry))
+        (now (output .entry)) (now (output .exit)) (now (mask .entry)) (now (mask .exit))
+        (now (out .entry)) (now (out .exit)) ⌝ }
+    ensures may_be_lodged { λ _. ⌜ May-be-lodged-lent (now (words .entry)) (now (plan .entry))
+        (now (output .entry)) (now (output .exit)) (now (mask .entry)) (now (mask .exit))
+        (now (out .entry)) (now (out .exit)) ⌝ }
+{
+    let licensed = license(words, plan, output);
+    let claim = licensed.claim;
+    let told = licensed.told;
+    let given = told.answer;
+    write_reduced(mask, out, told.mask, given);
+    write_claim(out, claim);
 }
 
 // Both eliminations: the list that each leaves goes to the front of its output, elimination's to `first`; the number
