@@ -10,3 +10,5 @@ pub mod DemandMet
 pub mod SheetP
 -- RoundTheorem: the rounds of the worked list 3.
 pub mod RoundTheorem
+-- LicenceRows: a list of each claim.
+pub mod LicenceRows
