@@ -37,16 +37,14 @@ pub(crate) fn license_further(
     let answer = exact.answer;
     let second = exact.mask;
     match answer {
-        Answer::Valid(least) => grant(
-            Claim::Irreducible,
-            least,
-            mask_through(&flags[..n], second),
-            lodged,
-            marked,
-        ),
+        Answer::Valid(least) => {
+            let through = mask_through(&flags[..n], second);
+            grant(Claim::Irreducible, least, through, lodged, marked)
+        }
         Answer::Refused(refusal) => {
             put_all(out, &list[..left]);
-            grant(Claim::Open(refusal.place()), tally, mask, lodged, marked)
+            let others = refusal.place();
+            grant(Claim::Open(others), tally, mask, lodged, marked)
         }
     }
 }
