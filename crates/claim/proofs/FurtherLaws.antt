@@ -28,7 +28,7 @@ use Rattle.plan.specs.Readable.{Readable}
 use Rattle.plan.specs.declared.check.Answer.the-variants.{Valid, Refused}
 use Rattle.plan.specs.Checked.{told-answer}
 use Rattle.plan.proofs.PlanLaws.{passed-readable}
-use Rattle.service.specs.Reduced.{tally-left, output-left}
+use Rattle.service.specs.Reduced.{tally-left}
 use Rattle.service.specs.between.Held.{mask, held, Leaves}
 use Rattle.service.specs.between.Kept.{Keeps, Finishes}
 use Rattle.service.proofs.LodgedLaws.{lodged-plan, lodged-valid, roomy}

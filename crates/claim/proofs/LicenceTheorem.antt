@@ -8,9 +8,8 @@ use mathlib.Core.Bool.{Bool, true, false}
 use mathlib.Core.List.{List}
 use lib.ListN.{length, replicate, length-map}
 use lib.Dec.{leb}
-use Rattle.sas.specs.Task.{Action}
 use Rattle.sas.specs.Plan.{Plan, cost}
-use Rattle.reduction.specs.Reduction.{Reduction, kept, whole, compose, valid, meets, Valid-for, Valid-reduction}
+use Rattle.reduction.specs.Reduction.{Reduction, kept, whole, valid, Valid-reduction}
 use Rattle.reduction.specs.Landmark.{Landmark}
 use Rattle.reduction.specs.Minimal.{Minimal-reduction}
 use Rattle.reduction.proofs.ReductionLaws.{kept-lodged, left-length, left-cost, reduced-plan, kept-compose, compose-valid}

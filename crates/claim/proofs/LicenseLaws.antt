@@ -2,56 +2,44 @@
 use Prim.Native.Nat.{ℕ, _-_, _≤_, _<_}
 use native.Mathlib.Omega.{arith}
 use mathlib.Core.Path.{_≡_, refl, sym, _∙_, ap, subst}
-use mathlib.Core.Bool.{Bool, true, false}
 use mathlib.Core.Option.{none, some, Option·some-injective}
 use mathlib.Core.List.{List}
-use lib.ListN.{length, take, replicate, length-map, length-replicate}
-use lib.Seq.{sets, take-at, length-sets}
-use lib.Dec.{leb}
-use borrow.Author.Tests.{le-leb, lt-leb}
+use lib.ListN.{length, length-map}
+use borrow.Author.Tests.{le-leb}
 use Rattle.refusal.specs.declared.Refusal.{Refusal}
 use Rattle.refusal.specs.declared.Verdict.{Verdict}
 use Rattle.refusal.specs.Refusal.{told-refusal, told}
-use Rattle.refusal.specs.Check.{Check, answer}
+use Rattle.refusal.specs.Check.{answer}
 use Rattle.refusal.proofs.CheckLaws.{first-none}
 use Rattle.sas.specs.Plan.{Plan}
 use Rattle.tally.specs.declared.Tally.{Tally}
-use Rattle.tally.proofs.TallyLaws.{same-tally}
-use Rattle.reduction.specs.Reduction.{Reduction, kept, count, compose}
-use Rattle.reduction.proofs.ReductionLaws.{kept-length, left-length, kept-compose, compose-length}
-use Rattle.reduction.proofs.RoundLaws.{count-few}
-use Rattle.mask.specs.declared.Mask.{Mask}
-use Rattle.mask.specs.Mask.{mask-bits, mask-words}
+use Rattle.reduction.specs.Reduction.{count}
+use Rattle.reduction.proofs.ReductionLaws.{kept-length, left-length}
+use Rattle.mask.specs.Mask.{mask-bits}
 use Rattle.mask.proofs.MaskTheorem.{front-and-rest}
 use Rattle.sheet.specs.Decode.{action, task}
-use Rattle.plan.specs.Limits.{most-steps}
 use Rattle.plan.specs.Valid.{steps}
 use Rattle.plan.specs.Readable.{Readable}
 use Rattle.plan.specs.declared.check.Answer.{Answer}
 use Rattle.plan.specs.declared.check.Answer.the-variants.{Valid, Refused}
-use Rattle.plan.specs.Checked.{told-answer, told-tally, lodged-tally}
+use Rattle.plan.specs.Checked.{told-answer, lodged-tally}
 use Rattle.plan.specs.between.Lodged.{Checks-lodged}
 use Rattle.plan.proofs.PlanLaws.{passed-readable}
-use Rattle.service.specs.Reduced.{room-checks, reduction-checks, tally-left, output-left, Answers, Reduces}
-use Rattle.service.specs.between.Held.{mask, held, Leaves}
-use Rattle.service.specs.between.Kept.{Keeps, Finishes}
+use Rattle.service.specs.Reduced.{room-checks, reduction-checks}
+use Rattle.service.specs.between.Held.{mask}
 use Rattle.service.proofs.LodgedLaws.{lodged-plan, room-checked, nothing-refused, roomy}
-use Rattle.service.proofs.TalliedLaws.{kept-steps}
-use Rattle.service.proofs.AnswerLaws.{keeps, answers-refused, answers-kept}
+use Rattle.service.proofs.AnswerLaws.{answers-refused}
 use Rattle.landmark.specs.Marks.{marks, marked, unmarked}
-use Rattle.landmark.proofs.MarkTheorem.{marks-length}
-use Rattle.elimination.specs.Eliminations.{cheaper-of}
-use Rattle.elimination.proofs.LeavesLaws.{cheaper-leaves}
 use Rattle.minimal.specs.declared.within.Shortened.{Shortened}
-use Rattle.minimal.specs.Minimised.{most-unmarked, unmarked-checks, minimal-checks, minimal-of, minimal-refusal, Minimises}
+use Rattle.minimal.specs.Minimised.{most-unmarked, unmarked-checks, minimal-checks, minimal-refusal, Minimises}
 use Rattle.minimal.proofs.DemandThree.{checks-pass, many-refused, refused-many, passed-few}
-use Rattle.claim.specs.declared.answer.Claim.the-variants.{Least, Irreducible, Open}
+use Rattle.claim.specs.declared.answer.Claim.the-variants.{Least}
 use Rattle.claim.specs.declared.answer.Licensed.{Licensed}
-use Rattle.claim.specs.Licensed.{cheaper-list, claim-of, claimed-by, licensed-of, licence-refusal, Licenses}
+use Rattle.claim.specs.Licensed.{claim-of, licensed-of, licence-refusal, Licenses}
 use Rattle.claim.specs.Statement.{Licence, May-be-lodged}
 use Rattle.claim.specs.between.Refused.{Refuses-licence}
 use Rattle.claim.specs.between.Further.{Goes-further}
-use Rattle.claim.proofs.LicenceTheorem.{licence-of, cheaper-readable, cheaper-plan, claims-least, claims-irreducible, claims-open}
+use Rattle.claim.proofs.LicenceTheorem.{licence-of, claims-least}
 
 -- one of the checks 1 to 11 refuses
 pub refuses-all : (w l before : List ℕ) (refusal : Refusal) (r : Licensed) → licence-refusal w l before ≡ some (told-refusal refusal) → Refuses-licence refusal r

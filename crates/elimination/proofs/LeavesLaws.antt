@@ -8,7 +8,6 @@ use Rattle.tally.specs.declared.Tally.{Tally}
 use Rattle.tally.specs.declared.Order.{Order}
 use Rattle.tally.specs.declared.Order.the-variants.{Less, Equal, Greater}
 use Rattle.tally.specs.Tally.{comparison}
-use Rattle.tally.proofs.TallyLaws.{same-tally}
 use Rattle.sheet.specs.Decode.{initial, goal, action}
 use Rattle.plan.specs.Valid.{steps}
 use Rattle.plan.specs.Readable.{Readable}

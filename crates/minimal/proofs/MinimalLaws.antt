@@ -3,9 +3,9 @@
 use Prim.Native.Nat.{ℕ, _-_, _≤_, _<_}
 use native.Mathlib.Omega.{arith}
 use mathlib.Core.Path.{_≡_, refl, sym, _∙_, ap}
-use mathlib.Core.Bool.{true, false}
+use mathlib.Core.Bool.{true}
 use mathlib.Core.Option.{none, some}
-use mathlib.Core.List.{List, [], _∷_}
+use mathlib.Core.List.{List, []}
 use lib.ListN.{length, length-map, length-replicate}
 use borrow.Author.Tests.{lt-ltb, le-ltb}
 use Rattle.refusal.specs.declared.Refusal.{Refusal}
@@ -14,7 +14,7 @@ use Rattle.refusal.specs.declared.Verdict.{Verdict}
 use Rattle.refusal.specs.Refusal.{told-refusal, told}
 use Rattle.refusal.specs.Check.{answer}
 use Rattle.refusal.proofs.CheckLaws.{answer-fires, answer-passes, answer-nothing, answer-first, answer-second}
-use Rattle.reduction.specs.Reduction.{Reduction, count, whole, meets}
+use Rattle.reduction.specs.Reduction.{Reduction, whole, meets}
 use Rattle.reduction.specs.between.Sound.{Flags-kept}
 use Rattle.reduction.proofs.ReductionLaws.{kept-length, kept-whole}
 use Rattle.reduction.proofs.RoundLaws.{count-few}

@@ -1,9 +1,9 @@
 -- Demand 3 of what the program prints: the bytes of a sheet and its list are opened as those, so that what is printed for them is what is printed for the list; and
 -- only the number of unmarked steps decides what that is. Assumes nothing.
 use Prim.Native.Nat.{ℕ, _≤_, _<_}
-use mathlib.Core.Path.{_≡_, refl, _∙_}
+use mathlib.Core.Path.{_≡_, _∙_}
 use mathlib.Core.List.{List}
-use lib.ListN.{length, take}
+use lib.ListN.{take}
 use Rattle.sas.specs.Plan.{Plan}
 use Rattle.sheet.specs.Decode.{task}
 use Rattle.plan.specs.Limits.{most-steps}
