@@ -31,10 +31,18 @@ cast-left : tie.Need-cast-left
 cast-left c = search needs
 
 array-share-prefix-list : tie.Need-array-share-prefix-list
-array-share-prefix-list c = inside _ _ _ _ _ (c .before .before .before .before .before .before .before .before .before .before .before .pre) _ (c .before .before .before .before .before .before .before .flags-of-cheaper .ensures) _ _ _ (c .before .before .before .before .finish .ensures)
+array-share-prefix-list c =
+    let further = c .before .before .before .before .before .before .before .before .before .before .before .pre in
+    let flagged = c .before .before .before .before .before .before .before .flags-of-cheaper .ensures in
+    let finished = c .before .before .before .before .finish .ensures in
+    inside _ _ _ _ _ further _ flagged _ _ _ finished
 
 slice-aggregate-minimal-reduction : tie.Need-slice-aggregate-minimal-reduction
-slice-aggregate-minimal-reduction c = sym (front-long _ _ _ _ _ (c .before .before .before .before .before .before .before .before .before .before .before .before .pre) _ (c .before .before .before .before .before .before .before .before .flags-of-cheaper .ensures) _ _ _ (c .before .before .before .before .before .finish .ensures))
+slice-aggregate-minimal-reduction c =
+    let further = c .before .before .before .before .before .before .before .before .before .before .before .before .pre in
+    let flagged = c .before .before .before .before .before .before .before .before .flags-of-cheaper .ensures in
+    let finished = c .before .before .before .before .before .finish .ensures in
+    sym (front-long _ _ _ _ _ further _ flagged _ _ _ finished)
 
 minimal-reduction-requires : tie.Need-minimal-reduction-requires
 minimal-reduction-requires c κs = search needs
@@ -43,13 +51,22 @@ enum-known-answer : tie.Need-enum-known-answer
 enum-known-answer c = search needs
 
 array-share-prefix-flags-2 : tie.Need-array-share-prefix-flags-2
-array-share-prefix-flags-2 c = (flags-leave _ _ _ _ _ (c .before .before .before .before .before .before .before .before .before .before .before .before .before .before .before .before .before .before .before .before .pre) _ (c .before .before .before .before .before .before .before .before .before .before .before .before .before .before .before .before .flags-of-cheaper .ensures)) .within
+array-share-prefix-flags-2 c =
+    let further = c .before .before .before .before .before .before .before .before .before .before .before .before .before .before .before .before .before .before .before .before .pre in
+    let flagged = c .before .before .before .before .before .before .before .before .before .before .before .before .before .before .before .before .flags-of-cheaper .ensures in
+    (flags-leave _ _ _ _ _ further _ flagged) .within
 
 slice-aggregate-mask-through : tie.Need-slice-aggregate-mask-through
-slice-aggregate-mask-through c = sym ((flags-leave _ _ _ _ _ (c .before .before .before .before .before .before .before .before .before .before .before .before .before .before .before .before .before .before .before .before .before .pre) _ (c .before .before .before .before .before .before .before .before .before .before .before .before .before .before .before .before .before .flags-of-cheaper .ensures)) .fits)
+slice-aggregate-mask-through c =
+    let further = c .before .before .before .before .before .before .before .before .before .before .before .before .before .before .before .before .before .before .before .before .before .pre in
+    let flagged = c .before .before .before .before .before .before .before .before .before .before .before .before .before .before .before .before .before .flags-of-cheaper .ensures in
+    sym ((flags-leave _ _ _ _ _ further _ flagged) .fits)
 
 mask-through-requires : tie.Need-mask-through-requires
-mask-through-requires c κs = flags-few _ _ _ _ _ (c .before .before .before .before .before .before .before .before .before .before .before .before .before .before .before .before .before .before .before .before .before .pre) _ (c .before .before .before .before .before .before .before .before .before .before .before .before .before .before .before .before .before .flags-of-cheaper .ensures)
+mask-through-requires c κs =
+    let further = c .before .before .before .before .before .before .before .before .before .before .before .before .before .before .before .before .before .before .before .before .before .pre in
+    let flagged = c .before .before .before .before .before .before .before .before .before .before .before .before .before .before .before .before .before .flags-of-cheaper .ensures in
+    flags-few _ _ _ _ _ further _ flagged
 
 grant-requires : tie.Need-grant-requires
 grant-requires c κs = search needs
@@ -58,10 +75,18 @@ enum-known-answer-2 : tie.Need-enum-known-answer-2
 enum-known-answer-2 c = search needs
 
 array-share-prefix-list-2 : tie.Need-array-share-prefix-list-2
-array-share-prefix-list-2 c = inside _ _ _ _ _ (c .before .before .before .before .before .before .before .before .before .before .before .before .before .before .before .before .before .before .before .before .before .pre) _ (c .before .before .before .before .before .before .before .before .before .before .before .before .before .before .before .before .before .flags-of-cheaper .ensures) _ _ _ (c .before .before .before .before .before .before .before .before .before .before .before .before .before .before .finish .ensures)
+array-share-prefix-list-2 c =
+    let further = c .before .before .before .before .before .before .before .before .before .before .before .before .before .before .before .before .before .before .before .before .before .pre in
+    let flagged = c .before .before .before .before .before .before .before .before .before .before .before .before .before .before .before .before .before .flags-of-cheaper .ensures in
+    let finished = c .before .before .before .before .before .before .before .before .before .before .before .before .before .before .finish .ensures in
+    inside _ _ _ _ _ further _ flagged _ _ _ finished
 
 slice-aggregate-put-all : tie.Need-slice-aggregate-put-all
-slice-aggregate-put-all c = sym (front-long _ _ _ _ _ (c .before .before .before .before .before .before .before .before .before .before .before .before .before .before .before .before .before .before .before .before .before .before .pre) _ (c .before .before .before .before .before .before .before .before .before .before .before .before .before .before .before .before .before .before .flags-of-cheaper .ensures) _ _ _ (c .before .before .before .before .before .before .before .before .before .before .before .before .before .before .before .finish .ensures))
+slice-aggregate-put-all c =
+    let further = c .before .before .before .before .before .before .before .before .before .before .before .before .before .before .before .before .before .before .before .before .before .before .pre in
+    let flagged = c .before .before .before .before .before .before .before .before .before .before .before .before .before .before .before .before .before .before .flags-of-cheaper .ensures in
+    let finished = c .before .before .before .before .before .before .before .before .before .before .before .before .before .before .before .finish .ensures in
+    sym (front-long _ _ _ _ _ further _ flagged _ _ _ finished)
 
 put-all-requires : tie.Need-put-all-requires
 put-all-requires c κs = search needs
@@ -76,13 +101,23 @@ same-length : tie.Need-same-length
 same-length c = search needs
 
 returns : tie.Need-returns
-returns c = licenses-irreducible _ _ _ _ _ (c .before .before .before .before .before .before .before .before .before .before .before .before .before .before .before .before .before .before .before .before .before .before .before .pre) _ (c .before .before .before .before .before .before .before .before .before .before .before .before .before .before .before .before .before .before .before .flags-of-cheaper .ensures) _ _ _ (c .before .before .before .before .before .before .before .before .before .before .before .before .before .before .before .before .finish .ensures) _ _ (c .before .before .before .before .before .before .before .before .before .minimal-reduction .ensures .0) _ _ (c .before .before .before .before .answer .given .1) (c .before .mask-through .ensures) _ (c .grant .ensures)
+returns c =
+    let further = c .before .before .before .before .before .before .before .before .before .before .before .before .before .before .before .before .before .before .before .before .before .before .before .pre in
+    let flagged = c .before .before .before .before .before .before .before .before .before .before .before .before .before .before .before .before .before .before .before .flags-of-cheaper .ensures in
+    let finished = c .before .before .before .before .before .before .before .before .before .before .before .before .before .before .before .before .finish .ensures in
+    let reduced = c .before .before .before .before .before .before .before .before .before .minimal-reduction .ensures .0 in
+    licenses-irreducible _ _ _ _ _ further _ flagged _ _ _ finished _ _ reduced _ _ (c .before .before .before .before .answer .given .1) (c .before .mask-through .ensures) _ (c .grant .ensures)
 
 same-length-2 : tie.Need-same-length-2
 same-length-2 c = search needs
 
 returns-2 : tie.Need-returns-2
-returns-2 c = licenses-open _ _ _ _ _ (c .before .before .before .before .before .before .before .before .before .before .before .before .before .before .before .before .before .before .before .before .before .before .before .before .before .before .before .pre) _ (c .before .before .before .before .before .before .before .before .before .before .before .before .before .before .before .before .before .before .before .before .before .before .before .flags-of-cheaper .ensures) _ _ _ (c .before .before .before .before .before .before .before .before .before .before .before .before .before .before .before .before .before .before .before .before .finish .ensures) _ _ (c .before .before .before .before .before .before .before .before .before .before .before .before .before .minimal-reduction .ensures .0) _ _ _ _ (c .before .before .before .before .before .before .before .before .answer2 .given .1) (c .before .place .ensures) refl (c .before .before .before .before .put-all .ensures) _ (c .grant2 .ensures)
+returns-2 c =
+    let further = c .before .before .before .before .before .before .before .before .before .before .before .before .before .before .before .before .before .before .before .before .before .before .before .before .before .before .before .pre in
+    let flagged = c .before .before .before .before .before .before .before .before .before .before .before .before .before .before .before .before .before .before .before .before .before .before .before .flags-of-cheaper .ensures in
+    let finished = c .before .before .before .before .before .before .before .before .before .before .before .before .before .before .before .before .before .before .before .before .finish .ensures in
+    let reduced = c .before .before .before .before .before .before .before .before .before .before .before .before .before .minimal-reduction .ensures .0 in
+    licenses-open _ _ _ _ _ further _ flagged _ _ _ finished _ _ reduced _ _ _ _ (c .before .before .before .before .before .before .before .before .answer2 .given .1) (c .before .place .ensures) refl (c .before .before .before .before .put-all .ensures) _ (c .grant2 .ensures)
 
 pub license-further-spec : {M : Type 1} → statement M
 license-further-spec =
