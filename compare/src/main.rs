@@ -1,7 +1,8 @@
 //! Compares the library of services with an independent version of document 01's rules, and of
-//! document 02's for marks and for the texts of a translator, on seeded random cases, on the
-//! documents' own worked lists and on texts that are damaged everywhere. A case compares the answer
-//! and every word of memory that is lent. What the built programs write is compared byte for byte.
+//! document 02's for marks and for the texts of a translator, on seeded random cases, on long lists,
+//! on the documents' own worked lists and on texts that are damaged everywhere. A case compares the
+//! answer and every word of memory that is lent. What the built programs write is compared byte for
+//! byte.
 //!
 //! - `rules`: the services by the documents, and the passes and the search that the library is timed
 //!   against;

@@ -9,8 +9,8 @@ use std::collections::VecDeque;
 use std::fmt::Debug;
 
 const USAGE: &str = "usage: compare [--cases N] [--seed S] [--program PATH]...
-                                      try N random cases, the worked lists, damaged texts and
-                                      built programs
+                                      try N random cases, the worked lists, damaged texts, long
+                                      lists and built programs
        compare --long [SECONDS] [--seed S] [--program PATH]...
                                       the same for ten minutes, or as long as said, with fresh
                                       seeds or from this one on
@@ -30,7 +30,7 @@ const USAGE: &str = "usage: compare [--cases N] [--seed S] [--program PATH]...
                                       read one of its texts once";
 
 const DEFAULT_SEED: u64 = 1;
-/// Takes less than a minute.
+/// Takes about a minute.
 const DEFAULT_CASES: u64 = 700_000;
 
 pub struct Options {

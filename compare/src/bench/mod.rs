@@ -1,6 +1,7 @@
 //! Measures of the library against Rust versions, both in one run on the same input. What is printed
 //! is the tables of docs/PERFORMANCE.md, in Markdown.
 
+mod licences;
 mod marks;
 mod outside;
 mod plans;
@@ -18,7 +19,7 @@ pub use times::run;
 
 use crate::cases::{Call, Case, Memory, Service};
 use crate::comparison::{by_rules, library};
-use crate::rules::{passes, search};
+use crate::rules::{license_by_search, passes, search};
 
 /// What is measured: the library, or the Rust version of the same rules.
 #[derive(Clone, Copy, Debug)]
@@ -31,12 +32,13 @@ pub const SIDES: [Side; 2] = [Side::Library, Side::Rust];
 
 impl Side {
     /// The Rust version of the exact reduction is the search with the library's cuts, and that of
-    /// marks has the library's passes: the rules go other ways.
+    /// marks has the library's passes; that of licences has both. The rules go other ways.
     fn answer(self, call: Call, memory: &mut Memory) {
         let answer = match (self, call.service) {
             (Side::Library, _) => return library::answer(call, memory),
             (Side::Rust, Service::Exact) => by_rules::exact_by(memory, search::exact),
             (Side::Rust, Service::Marks) => by_rules::marks_by(memory, passes::marks),
+            (Side::Rust, Service::License) => by_rules::license_by(memory, license_by_search),
             (Side::Rust, _) => by_rules::answer(call, memory),
         };
         memory.write(&answer);

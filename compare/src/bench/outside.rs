@@ -1,14 +1,14 @@
 //! Measures that are taken of whole processes from outside, on each family's longest plan with its
 //! own steps in front: instructions, and the least stack. Of texts for the translator the
-//! instructions are counted too.
+//! instructions are counted too, and of licences the stack is sought on their own plans too.
 
 use super::plans::{name, HardPlan};
 use super::texts::LongText;
 use super::timed::unmarked;
-use super::{table, Measured, Side, SIDES};
+use super::{licences, table, Measured, Side, SIDES};
 use crate::cases::Service;
 use crate::comparison::inputs::input_bytes;
-use crate::comparison::programs::Built;
+use crate::comparison::programs::{Built, LICENSE};
 use crate::makers::families::{Made, FAMILIES};
 use crate::rules::{MAX_STEPS, MAX_UNMARKED};
 use std::env;
@@ -111,7 +111,7 @@ const UNDER_LIMIT: &str = "ulimit -c 0 && ulimit -s \"$0\" && exec \"$@\"";
 /// anew under a limit, which is sought by halves between one that is too low and one that is enough.
 pub fn measure_stack(built: &[Built]) -> bool {
     let names: Vec<&str> = built.iter().map(|built| built.program.name).collect();
-    print_table("Least stack in KiB", &names, |plan| {
+    let of_families = print_table("Least stack in KiB", &names, |plan| {
         let mut cells = Vec::new();
         for side in SIDES {
             cells.push(least_stack(&once(side, Measured::Plan(plan))?, &[])?);
@@ -119,11 +119,30 @@ pub fn measure_stack(built: &[Built]) -> bool {
         let Made { task, plan, .. } = plan.make();
         let bytes = input_bytes(&task.words(), &plan);
         for built in built {
-            let command = [built.path.clone().into_os_string()];
-            cells.push(least_stack(&command, &bytes)?);
+            cells.push(least_stack_of(built, &bytes)?);
         }
         Ok(cells)
+    });
+    let mut licensing = built.iter().filter(|it| it.program.name == LICENSE);
+    of_families && licensing.all(measure_stack_of_licences)
+}
+
+/// On the plans that licences are timed on, which take it further than those of the families.
+fn measure_stack_of_licences(built: &Built) -> bool {
+    println!("\nLeast stack in KiB of the program that licenses:\n");
+    table::print_head(&["Plan", "Stack"]);
+    licences::inputs().iter().all(|input| {
+        let stack = least_stack_of(built, &input.bytes);
+        match &stack {
+            Ok(cell) => table::print_row(&[input.name.as_str(), cell]),
+            Err(error) => println!("{}: {error}", input.name),
+        }
+        stack.is_ok()
     })
+}
+
+fn least_stack_of(built: &Built, input: &[u8]) -> Result<String, String> {
+    least_stack(&[built.path.clone().into_os_string()], input)
 }
 
 /// The least limit, in KiB, under which the command answers.

@@ -3,17 +3,15 @@
 use crate::cases::{Answer, Case, Service};
 use crate::makers::answered::{self, Answered};
 use crate::makers::families::{Family, Made, Placement, Shape};
+use crate::makers::knots::tied_gates;
 use crate::makers::restores::{Asker, Restores, MOST_LINKS};
-use crate::makers::{action, fact, Action, Random, Task, Walk};
+use crate::makers::{fact, jobs, List, Random, Task, Walk};
 use crate::rules::{Kept, MAX_STEPS, MAX_UNMARKED, MAX_VARIABLES};
 use std::fmt::Debug;
 
 pub const LENGTHS: [usize; 3] = [60, 128, MAX_STEPS];
 
 const SEED: u64 = 1;
-const GATES: usize = 10;
-/// A basin is drained from full through these steps.
-const LEVELS: usize = 3;
 /// The facts that a large action has among its preconditions, and as many among its effects.
 const LARGE_GROUP: usize = MAX_VARIABLES / 2;
 
@@ -93,31 +91,30 @@ pub fn case_of(service: Service, task: &Task, plan: &[u32]) -> Case {
     Case::fitting(service, &task.words(), plan, [plan.len(), 0])
 }
 
-/// A walk as long as a plan may be, among gates that are lifted and dropped again and basins that
-/// are drained level by level while their gates are open. The goal is its whole end state.
+/// A walk among gates, as long as a plan may be.
 pub fn gates_walk() -> Walk {
-    let random = &mut Random::of_case(SEED, 0);
-    let actions = (0..GATES).flat_map(|gate| actions_of_gate(random, gate));
-    let actions = actions.collect();
-    let sizes = [[2; GATES], [LEVELS as u32; GATES]].concat();
-    let mut walk = Walk::of(Task::from_zero(sizes, Vec::new(), actions), &[]);
-    while walk.plan.len() < MAX_STEPS {
-        walk.push(walk.random_applicable(random, walk.end()));
-    }
-    walk.task.goal = walk.end_facts();
-    walk
+    jobs::gates(&mut Random::of_case(SEED, 0), MAX_STEPS)
 }
 
-/// Lift, drop, and one drain for each level. Lifts and drops come often in a walk.
-fn actions_of_gate(random: &mut Random, gate: usize) -> Vec<Action> {
-    let [shut, open] = [0, 1].map(|value| fact(gate, value));
-    let level = |value| fact(GATES + gate, value);
-    let mut action = |conditions, effect| action(random.within(1..=9), conditions, vec![effect]);
-    let mut actions = vec![action(vec![shut], open), action(vec![open], shut)];
-    for value in 1..LEVELS {
-        actions.push(action(vec![open, level(value - 1)], level(value)));
-    }
-    actions
+/// A walk of trucks and parcels, as long as a plan may be.
+pub fn deliveries_walk() -> Walk {
+    jobs::deliveries(&mut Random::of_case(SEED, 0), MAX_STEPS)
+}
+
+/// As many lamps as there may be beside a few needed steps.
+pub fn lamps() -> Answered {
+    let needed = 3;
+    answered::with_lamps(&mut Random::of_case(SEED, 0), needed, MAX_STEPS - needed)
+}
+
+/// Tied gates with so many steps in all, among lamps.
+pub fn knots(steps: usize) -> List {
+    let random = &mut Random::of_case(SEED, 0);
+    let gates = 3;
+    let count = steps / (gates + 1);
+    let knots = (0..count).map(|_| tied_gates(random, gates).into());
+    let knots = knots.collect();
+    List::among_lamps(random, knots, MAX_STEPS)
 }
 
 /// The same task with variables that never change: each action asks for many of them and sets as

@@ -45,6 +45,11 @@ pub fn program_time(family: Family, microseconds: f64) -> String {
         true => MOST_TIME,
         false => MOST_TIME_IF_CUT,
     };
+    time_within(most, microseconds)
+}
+
+/// A time with its goal.
+pub fn time_within(most: f64, microseconds: f64) -> String {
     bold_unless(microseconds <= most, time(microseconds))
 }
 

@@ -1,14 +1,15 @@
-//! The tables of times: of the services, of marks on plans of many rounds, of the exact reduction on
-//! the hard families, of texts for the translator, and of the built programs.
+//! The tables of times: of the services, of marks on plans of many rounds, of the exact reduction
+//! on the hard families, of licences, of texts for the translator, and of the built programs.
 
+use super::licences;
 use super::marks;
 use super::plans::{case_of, facts_of, gates_walk, with_large_actions, HardPlan, LENGTHS};
-use super::table;
+use super::table::{self, MOST_TIME};
 use super::texts::{self, LongText, SIZES};
 use super::timed::{steps_in_mask, times_of, Timed, RUNS};
 use crate::cases::{Memory, Service};
 use crate::comparison::inputs::{closed, input_bytes, of_text, Form, Input};
-use crate::comparison::programs::{written, Built};
+use crate::comparison::programs::{written, Built, LICENSE};
 use crate::makers::families::{Family, Made, Placement, FAMILIES, PLACEMENTS};
 use crate::rules::{MAX_STEPS, MAX_UNMARKED};
 use std::fs;
@@ -21,10 +22,11 @@ pub fn run(built: &[Built]) -> bool {
     let services_are_right = services();
     let marks_are_right = marks::run();
     let families_are_right = families();
+    let licences_are_right = licences::run();
     let texts_are_right = texts::run();
     let programs_are_right = programs(built);
-    let all_are_right = services_are_right && marks_are_right && families_are_right;
-    all_are_right && texts_are_right && programs_are_right
+    let lists_are_right = marks_are_right && families_are_right && licences_are_right;
+    services_are_right && lists_are_right && texts_are_right && programs_are_right
 }
 
 /// How busy the machine was tells how far times can be trusted.
@@ -134,7 +136,8 @@ fn hard_plans() -> Vec<HardPlan> {
 }
 
 /// The built programs, from the start of the process to the end of what it writes, on each family's
-/// longest plans or on the longest texts. Answers whether each wrote what was due.
+/// longest plans, on the plans for licences or on the longest texts. Answers whether each wrote
+/// what was due.
 fn programs(built: &[Built]) -> bool {
     println!("\nWhole programs, {RUNS} runs:\n");
     table::print_head(&["Program", "Plan or text", "Best", "Median"]);
@@ -142,7 +145,12 @@ fn programs(built: &[Built]) -> bool {
     let longest = plans.filter(|plan| plan.steps == MAX_STEPS);
     let inputs: Vec<(Family, Input)> = longest.map(|plan| (plan.family, input_of(plan))).collect();
     let texts: Vec<Input> = longest_texts().collect();
+    let lists = licences::inputs();
     let right = |built: &&Built| match built.program.reads {
+        Form::Record if built.program.name == LICENSE => {
+            let shown = |time| table::time_within(MOST_TIME, time);
+            lists.iter().all(|it| print_times(built, it, shown))
+        }
         Form::Record => inputs.iter().all(|(family, input)| {
             print_times(built, input, |time| table::program_time(*family, time))
         }),

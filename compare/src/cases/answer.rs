@@ -1,7 +1,7 @@
 //! What a service answers, told in one form by the rules and by the makers of cases.
 
 use super::Service;
-use crate::rules::{Kept, Mask, Refusal};
+use crate::rules::{Kept, Licensed, Mask, Refusal};
 
 /// The words that are written to the front of each lent slice, and what is returned by value.
 #[derive(Default, PartialEq, Eq)]
@@ -79,6 +79,15 @@ impl Answer {
             out: Answer::accepted(&[kept.cost, kept.actions.len()]).out,
             first: kept.actions,
             ..Answer::default()
+        }
+    }
+
+    /// The claim stands behind the tally.
+    pub fn licensed(Licensed { claim, kept }: Licensed) -> Self {
+        let [claim, open] = claim.numbers();
+        Answer {
+            out: Answer::accepted(&[kept.cost, kept.actions.len(), claim, open]).out,
+            ..Answer::keeping(kept)
         }
     }
 

@@ -11,6 +11,7 @@ pub mod worked;
 pub use answer::Answer;
 pub use memory::{Lent, Memory};
 pub use service::{Lengths, Service, LEFT, REDUCING, SERVICES, TAKEN, TAKING_PLAN};
+pub use service::{ACCEPTED, CLAIM, CLAIMS, CLAIM_AT};
 
 use crate::rules::Refusal;
 

@@ -34,13 +34,15 @@ services! {
     Greedy = "greedy",
     Exact = "exact",
     Cheaper = "cheaper",
+    License = "license",
     KeptPart = "kept_part",
     Translate = "translate",
 }
 
 /// Those that strike steps of a plan.
-pub const REDUCING: [Service; 4] = [Eliminate, Greedy, Exact, Cheaper];
-pub const TAKING_PLAN: [Service; 6] = [CheckPlan, Marks, Eliminate, Greedy, Exact, Cheaper];
+pub const REDUCING: [Service; 5] = [Eliminate, Greedy, Exact, Cheaper, License];
+pub const TAKING_PLAN: [Service; 7] =
+    [CheckPlan, Marks, Eliminate, Greedy, Exact, Cheaper, License];
 
 /// The lengths of the slices that a service writes to; that of one step's state is left out.
 pub struct Lengths {
@@ -53,6 +55,15 @@ pub struct Lengths {
 /// A tally that took the step, and one that came back unchanged.
 pub const TAKEN: u64 = 0;
 pub const LEFT: u64 = 1;
+
+/// What stands in the place of a refusal's number where there is none.
+pub const ACCEPTED: u64 = 0;
+
+/// What claims are counted under, and the numbers of them all: open, irreducible, least.
+pub const CLAIM: &str = "license, claim";
+pub const CLAIMS: &[u64] = &[0, 1, 2];
+/// Where `out` of the licence has the claim.
+pub const CLAIM_AT: usize = 4;
 
 impl Service {
     /// The numbers that it takes beside slices.
@@ -71,6 +82,7 @@ impl Service {
             CheckSheet | Step | Marks => &["refusal number", "place"],
             CheckPlan | Eliminate | Greedy | Exact => &["refusal number", "place", "cost", "steps"],
             Cheaper => &["refusal number", "place", "cost", "steps", "cost", "steps"],
+            License => &["refusal number", "place", "cost", "steps", "claim", "open"],
             TallyAdd => &["cost", "steps"],
             Translate => &["refusal number", "place", "words"],
             TallyCompare | KeptPart => &[],
@@ -94,12 +106,12 @@ impl Service {
                 _ => 0,
             },
             outputs: match self {
-                Eliminate | Greedy | Exact | Translate => [first, 0],
+                Eliminate | Greedy | Exact | License | Translate => [first, 0],
                 Cheaper => [first, second],
                 _ => [0, 0],
             },
             mask: match self {
-                Marks | Eliminate | Greedy | Exact => MASK_WORDS,
+                Marks | Eliminate | Greedy | Exact | License => MASK_WORDS,
                 _ => 0,
             },
             out: self.out().len(),
@@ -120,7 +132,7 @@ impl Service {
             CheckSheet => &[0, 1, 2, 3, 4, 5, 6, 7],
             Step => &[0, 1, 2, 3, 4, 5, 6, 7, 9, 11],
             CheckPlan | Marks => &[0, 1, 2, 3, 4, 5, 6, 7, 8, 9, 11],
-            Eliminate | Greedy | Cheaper => &[0, 1, 2, 3, 4, 5, 6, 7, 8, 9, 10, 11],
+            Eliminate | Greedy | Cheaper | License => &[0, 1, 2, 3, 4, 5, 6, 7, 8, 9, 10, 11],
             Exact => &[0, 1, 2, 3, 4, 5, 6, 7, 8, 9, 10, 11, 12],
             Translate => &[0, 10, 13, 14, 15],
             TallyAdd => &[TAKEN, LEFT],

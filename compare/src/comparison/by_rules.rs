@@ -1,7 +1,7 @@
 //! The side of the rules: what each service answers by the independent version.
 
 use crate::cases::{Answer, Call, Memory, Service, LEFT, TAKEN};
-use crate::rules::{self, Kept, Lodged, Mask, Refusal, State, Tally};
+use crate::rules::{self, Kept, Licensed, Lodged, Mask, Refusal, State, Tally};
 use std::cmp::Ordering;
 
 pub fn answer(call: Call, lent: &Memory) -> Answer {
@@ -19,6 +19,7 @@ pub fn answer(call: Call, lent: &Memory) -> Answer {
             let outputs = [lent.first.len(), lent.second.len()];
             rules::cheaper(words, plan, outputs).map(Answer::keeping_both)
         }
+        Service::License => return license_by(lent, rules::license),
         Service::Translate => {
             rules::translate(&lent.text, lent.first.len()).map(Answer::translated)
         }
@@ -47,6 +48,15 @@ fn reduce(lent: &Memory, way: Way) -> Result<Answer, Refusal> {
 /// What the exact reduction answers when it goes this way.
 pub fn exact_by(lent: &Memory, way: Way) -> Answer {
     reduce(lent, way).unwrap_or_else(|refusal| Answer::refused(Service::Exact, refusal))
+}
+
+/// A way of licensing answers as a way of striking does.
+pub type LicensingWay = fn(&[u32], &[u32], usize) -> Result<Licensed, Refusal>;
+
+/// What the licence answers when it goes this way.
+pub fn license_by(lent: &Memory, way: LicensingWay) -> Answer {
+    let licensed = way(&lent.words, &lent.plan, lent.first.len()).map(Answer::licensed);
+    licensed.unwrap_or_else(|refusal| Answer::refused(Service::License, refusal))
 }
 
 /// A way of marking answers to the sheet and the plan.

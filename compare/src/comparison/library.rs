@@ -51,6 +51,7 @@ services! {
     Greedy = hollchiku_greedy(words: u32, plan: u32, first: u32, mask: u64; ; out: u64);
     Exact = hollchiku_exact(words: u32, plan: u32, first: u32, mask: u64; ; out: u64);
     Cheaper = hollchiku_cheaper(words: u32, plan: u32, first: u32, second: u32; ; out: u64);
+    License = hollchiku_license(words: u32, plan: u32, first: u32, mask: u64; ; out: u64);
     KeptPart = hollchiku_kept_part(
         first: u32, second: u32; cost_a, steps_a, cost_b, steps_b; part: u32
     ) -> returned: u64;

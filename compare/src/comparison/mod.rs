@@ -1,17 +1,20 @@
 //! The comparison: the services of the library and the built programs, held to the rules.
 
 pub mod by_rules;
+mod claims;
 mod faulty;
 pub mod inputs;
 pub mod library;
+mod long_lists;
 pub mod programs;
 mod record;
 mod report;
 pub mod self_test;
 mod services;
 pub mod text;
+mod trial;
 
-use crate::cases::{kinds, SERVICES};
+use crate::cases::{kinds, CLAIM, CLAIMS, SERVICES};
 use programs::Built;
 use record::Record;
 use std::fs::File;
@@ -36,13 +39,14 @@ pub fn one(seed: u64, case: u64) -> bool {
     record.finish()
 }
 
-/// Tries the programs, the worked lists and so many random cases.
+/// Tries the programs, the worked lists, so many random cases and long lists.
 pub fn all(built: &[Built], seed: u64, cases: u64) -> bool {
     let mut record = expecting_all(built);
     programs::compare(&mut record, built, &inputs::fixed());
     programs::compare(&mut record, built, &inputs::of_random_cases(seed));
     services::try_fixed(&mut record, true);
     services::try_random(&mut record, seed, 1..=cases);
+    long_lists::compare(&mut record, seed);
     record.finish()
 }
 
@@ -60,6 +64,7 @@ pub fn long(built: &[Built], first_seed: u64, seconds: u64) -> bool {
         let seed = first_seed.wrapping_add(rounds);
         programs::compare(&mut record, built, &inputs::of_random_cases(seed));
         services::try_random(&mut record, seed, 1..=CASES_OF_ROUND);
+        long_lists::compare(&mut record, seed);
         rounds += 1;
     }
     println!("first seed {first_seed}; rounds of {CASES_OF_ROUND} cases begun: {rounds}");
@@ -76,6 +81,7 @@ fn expecting_all(built: &[Built]) -> Record {
             record.expect_places(service.name(), number, least);
         }
     }
+    record.expect(CLAIM, CLAIMS);
     for (kind, _) in kinds::all() {
         record.expect_kind(kind);
     }

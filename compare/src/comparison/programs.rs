@@ -3,7 +3,8 @@
 use super::inputs::{Form, Input};
 use super::record::Record;
 use super::{report, text};
-use crate::rules::{exact, printed_by_shorten, printed_by_validate, search};
+use crate::rules::{exact, license_by_search, search};
+use crate::rules::{printed_by_license, printed_by_shorten, printed_by_validate};
 use crate::rules::{written_by_translate, Written};
 use std::fs;
 use std::io::{Read, Write};
@@ -26,7 +27,10 @@ pub struct Program {
     pub answers: &'static [u64],
 }
 
-static PROGRAMS: [Program; 3] = [
+/// The one that takes lists with any number of unmarked steps.
+pub const LICENSE: &str = "license";
+
+static PROGRAMS: [Program; 4] = [
     Program {
         name: "validate",
         kind: "program: validate",
@@ -42,6 +46,15 @@ static PROGRAMS: [Program; 3] = [
         due: |bytes| Written::lines(printed_by_shorten(bytes, exact)),
         due_of_hard: |bytes| Written::lines(printed_by_shorten(bytes, search::exact)),
         answers: &[0, 1, 2, 3, 4, 5, 6, 7, 8, 9, 11, 12],
+    },
+    Program {
+        name: LICENSE,
+        kind: "program: license",
+        reads: Form::Record,
+        // The exact reduction refuses some of the hard plans, and the licence takes them all.
+        due: |bytes| Written::lines(printed_by_license(bytes, license_by_search)),
+        due_of_hard: |bytes| Written::lines(printed_by_license(bytes, license_by_search)),
+        answers: &[0, 1, 2, 3, 4, 5, 6, 7, 8, 9, 11],
     },
     Program {
         name: "translate",

@@ -1,5 +1,6 @@
 //! The record of a run: what it has tried, what was answered, and how many answers differed.
 
+use super::claims::Claims;
 use super::text;
 use std::collections::{BTreeMap, BTreeSet};
 use std::time::Instant;
@@ -18,6 +19,8 @@ pub struct Record {
     answers: BTreeMap<&'static str, BTreeMap<u64, usize>>,
     /// The places that each service's refusals of each number were seen at.
     places: BTreeMap<(&'static str, u64), BTreeSet<u64>>,
+    /// The claims about each kind of long lists.
+    claims: BTreeMap<String, Claims>,
     /// The answers that the run must show.
     expected: Vec<(&'static str, &'static [u64])>,
     /// The kinds of which the run must try a case.
@@ -52,6 +55,10 @@ impl Record {
     /// Counts a case of the kind, and its answer as one of the service or program.
     pub fn count(&mut self, kind: &'static str, name: &'static str, answer: u64) {
         *self.counts.entry(kind).or_default() += 1;
+        self.note_answer(name, answer);
+    }
+
+    pub fn note_answer(&mut self, name: &'static str, answer: u64) {
         let seen = self.answers.entry(name).or_default();
         *seen.entry(answer).or_default() += 1;
     }
@@ -62,6 +69,10 @@ impl Record {
         if self.expected_places.iter().any(|(it, _)| *it == refusal) {
             self.places.entry(refusal).or_default().insert(place);
         }
+    }
+
+    pub fn claims_about(&mut self, kind: &str) -> &mut Claims {
+        self.claims.entry(kind.to_string()).or_default()
     }
 
     /// Counts a difference and prints its title; the case is to be printed behind it.
@@ -83,6 +94,9 @@ impl Record {
             all_seen &= self.print_places(*refusal, *least);
         }
         all_seen &= self.all_kinds_tried();
+        for (kind, claims) in &self.claims {
+            claims.print(kind);
+        }
         let tried: usize = self.counts.values().sum();
         println!("compared {tried} cases, {} differences", self.differences);
         self.differences == 0 && all_seen

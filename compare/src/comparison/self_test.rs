@@ -1,19 +1,22 @@
 //! Tests the comparison itself, without the library: the ways of finding the exact reduction are
-//! held to each other, and so are the ways of finding marks; services with a fault must be found
-//! out, and the text of a case must read back as its words.
+//! held to each other, and so are the ways of finding marks and licences; the claims of licences
+//! are tried on all reductions; services with a fault must be found out, and the text of a case
+//! must read back as its words.
 
 use super::faulty::{Faulty, FAULTS};
 use super::inputs::input_bytes;
 use super::record::print_count;
-use super::{by_rules, text};
+use super::{by_rules, text, trial};
 use crate::cases::worked::{self, LIST_1, SHEET_P};
 use crate::cases::{kinds, Case, Memory, Service};
-use crate::rules::{exact, printed_by_shorten, search, Lodged};
+use crate::rules::{exact, license, license_by_search, printed_by_license, printed_by_shorten};
+use crate::rules::{search, Lodged};
 
 /// All reductions of plans of at most so many steps are gone through.
 const FEW_STEPS: usize = 12;
 /// The random cases that are made; those of other services are passed over.
 const CASES_FOR_WAYS: u64 = 57_000;
+const CASES_FOR_LICENCES: u64 = 8_000;
 const CASES_FOR_FAULTS: u64 = 5_700;
 const CASES_FOR_TEXTS: u64 = 2_900;
 
@@ -24,27 +27,36 @@ const MANY_PASSES: usize = 100;
 /// What document 01 has its program print for sheet P and list 1.
 const PRINTED: &str = "lodged 6 23\nmarked 1\nkept 3 12\n4 0 5\n5 1 2\n6 2 5\n";
 
+/// What the program of the licence prints before it.
+const CLAIMED: &str = "least\n";
+
 /// Answers whether nothing failed.
 pub fn run(seed: u64) -> bool {
     lines_are_as_documented()
         && texts_read_back(seed)
         && ways_are_alike(seed)
         && ways_of_marks_are_alike(seed)
+        && ways_of_licences_are_alike(seed)
+        && trial::claims_hold(seed)
         && faults_are_found(seed)
 }
 
 fn lines_are_as_documented() -> bool {
-    let printed =
-        [exact, search::exact].map(|way| printed_by_shorten(&input_bytes(&SHEET_P, &LIST_1), way));
-    let alike = printed.iter().all(|lines| lines == PRINTED);
+    let bytes = input_bytes(&SHEET_P, &LIST_1);
+    let shortened = [exact, search::exact].map(|way| printed_by_shorten(&bytes, way));
+    let licensed = [license, license_by_search].map(|way| printed_by_license(&bytes, way));
+    let with_claim = format!("{CLAIMED}{PRINTED}");
+    let alike = shortened.iter().all(|lines| lines == PRINTED)
+        && licensed.iter().all(|lines| *lines == with_claim);
     if !alike {
-        println!("the program prints for list 1:\n{}", printed.join("or\n"));
+        let printed = [shortened, licensed].concat();
+        println!("the programs print for list 1:\n{}", printed.join("or\n"));
     }
     alike
 }
 
 /// The random cases up to a number, with their numbers.
-fn numbered_cases(seed: u64, last: u64) -> impl Iterator<Item = (u64, Case)> {
+pub fn numbered_cases(seed: u64, last: u64) -> impl Iterator<Item = (u64, Case)> {
     let kinds = kinds::all();
     (1..=last).map(move |number| (number, kinds::numbered(&kinds, seed, number).1))
 }
@@ -98,6 +110,23 @@ fn ways_are_alike(seed: u64) -> bool {
     print_count("exact reduction, by states and by search", tried);
     print_count("exact reduction, among all as well", tried_all);
     tried_all > 0
+}
+
+/// The licence by the rules and by the search.
+fn ways_of_licences_are_alike(seed: u64) -> bool {
+    let cases = numbered_cases(seed, CASES_FOR_LICENCES);
+    let mut tried = 0;
+    for (number, case) in cases.filter(|(_, case)| case.call.service == Service::License) {
+        let [by_rules, by_search] =
+            [license, license_by_search].map(|way| by_rules::license_by(&case.lent, way));
+        if by_rules != by_search {
+            println!("ways of the licence differ: --seed {seed} --case {number}");
+            return false;
+        }
+        tried += 1;
+    }
+    print_count("licences, by the rules and by search", tried);
+    tried > 0
 }
 
 /// The rule, the passes and the rounds against each other, on the plans of all services.

@@ -3,7 +3,8 @@
 
 use super::record::Record;
 use super::{by_rules, library, report};
-use crate::cases::{damaged, kinds, worked, Case, Service};
+use crate::cases::{damaged, kinds, worked, Answer, Case, Service};
+use crate::cases::{ACCEPTED, CLAIM, CLAIM_AT};
 use crate::rules::{passes, search};
 use std::ops::RangeInclusive;
 
@@ -43,8 +44,20 @@ fn try_case(
     with_library: bool,
     title: impl Fn() -> String,
 ) {
+    let answer = by_rules::answer(case.call, &case.lent);
+    try_answer(record, kind, case, answer, with_library, title);
+}
+
+/// The answer stands for that of the rules.
+pub fn try_answer(
+    record: &mut Record,
+    kind: &'static str,
+    case: &Case,
+    answer: Answer,
+    with_library: bool,
+    title: impl Fn() -> String,
+) {
     let Case { call, lent, due } = case;
-    let answer = by_rules::answer(*call, lent);
     let by_rules = lent.after(&answer);
     let by_library = with_library.then(|| {
         let mut memory = lent.clone();
@@ -55,11 +68,7 @@ fn try_case(
         .then(|| lent.after(&by_rules::exact_by(lent, search::exact)));
     let by_passes = (call.service == Service::Marks)
         .then(|| lent.after(&by_rules::marks_by(lent, passes::marks)));
-    let number = by_rules::number(*call, lent, &answer);
-    record.count(kind, call.service.name(), number);
-    if let [number, place, ..] = answer.out[..] {
-        record.note_place(call.service.name(), number, place);
-    }
+    count(record, kind, case, &answer);
     let as_due = due.as_ref().is_none_or(|due| lent.after(due) == by_rules);
     let others = [
         ("library", by_library),
@@ -70,5 +79,17 @@ fn try_case(
     if !(as_due && others.iter().all(alike)) {
         record.differ(&title());
         report::print_difference(case, &by_rules, &others);
+    }
+}
+
+fn count(record: &mut Record, kind: &'static str, case: &Case, answer: &Answer) {
+    let service = case.call.service;
+    let number = by_rules::number(case.call, &case.lent, answer);
+    record.count(kind, service.name(), number);
+    if let [number, place, ..] = answer.out[..] {
+        record.note_place(service.name(), number, place);
+    }
+    if service == Service::License && number == ACCEPTED {
+        record.note_answer(CLAIM, answer.out[CLAIM_AT]);
     }
 }

@@ -1,7 +1,6 @@
 //! The changes that the hunt makes to a list: of costs, facts, steps and variables.
 
-use super::list::List;
-use crate::makers::{Action, Fact, Random};
+use crate::makers::{Action, Fact, List, Random};
 use crate::rules::{MAX_ACTION_COST, MAX_DOMAIN, MAX_STEPS, MAX_VARIABLES};
 
 /// Makes one change, or none where the list has no spot for it.

@@ -1,14 +1,8 @@
-//! A list that the hunt changes: a task with a plan of it, valid or not.
+//! What the hunt does with a list, which may be valid or not.
 
 use crate::makers::families::{Placement, PLACEMENTS};
-use crate::makers::{action, fact, fit, Random, Task, Walk};
+use crate::makers::{action, fact, fit, List, Random, Walk};
 use crate::rules::{search, MAX_ACTIONS, MAX_STEPS, MAX_VARIABLES, MAX_WORDS};
-
-#[derive(Clone)]
-pub struct List {
-    pub task: Task,
-    pub plan: Vec<u32>,
-}
 
 impl List {
     /// The turns that the search takes. Nothing where the exact reduction refuses the list.

@@ -12,9 +12,8 @@ use crate::comparison::inputs::{closed, input_bytes};
 use crate::comparison::programs::{written, Built};
 use crate::comparison::{by_rules, library, text};
 use crate::makers::families::{Shape, FAMILIES, PLACEMENTS};
-use crate::makers::{cycles, Random};
+use crate::makers::{cycles, List, Random};
 use crate::rules::{search, MAX_UNMARKED};
-use list::List;
 use std::hint::black_box;
 use std::time::{Duration, Instant};
 
@@ -100,9 +99,7 @@ fn start(random: &mut Random, number: u64) -> List {
     let dense = [cycles::USUAL, cycles::MANY_WRITERS, cycles::TIED_COSTS];
     let index = number as usize % (FAMILIES.len() + dense.len());
     let Some(&family) = FAMILIES.iter().rev().nth(index) else {
-        let walk = cycles::walk(random, dense[index - FAMILIES.len()], MAX_UNMARKED);
-        let (task, plan) = (walk.task, walk.plan);
-        return List { task, plan };
+        return cycles::walk(random, dense[index - FAMILIES.len()], MAX_UNMARKED).into();
     };
     let shape = Shape {
         family,
@@ -111,9 +108,7 @@ fn start(random: &mut Random, number: u64) -> List {
         size: random.size(MAX_UNMARKED - 1..=MAX_UNMARKED + 1),
         costs: 1..=100,
     };
-    let made = shape.make(random);
-    let (task, plan) = (made.task, made.plan);
-    List { task, plan }
+    shape.make(random).into()
 }
 
 fn best_time_of(mut call: impl FnMut()) -> f64 {

@@ -8,26 +8,45 @@ use std::iter::repeat_n;
 
 pub const COSTS: [u32; 4] = [0, 1, 2, 3];
 
-/// A plan with the indices of the steps that are marked, and that each elimination keeps. What the
-/// greedy one keeps is also the exact reduction.
+/// A plan with the indices of the steps that are marked, that each elimination keeps, and that the
+/// exact reduction keeps.
 pub struct Answered {
     pub task: Task,
     pub plan: Vec<u32>,
     pub marked: Vec<usize>,
     pub eliminated: Vec<usize>,
     pub greedy: Vec<usize>,
+    pub exact: Vec<usize>,
+    /// The steps that both eliminations keep and that can still be struck, all of them together.
+    pub idle: Vec<usize>,
+    /// How many steps are unmarked in what either elimination leaves.
+    pub unmarked_left: usize,
 }
 
 impl Answered {
-    /// Both eliminations keep the same steps.
+    /// The same steps are kept in all ways, and these are all marked in what is left.
     pub fn alike(task: Task, plan: Vec<u32>, marked: Vec<usize>, kept: Vec<usize>) -> Self {
         Answered {
             task,
             plan,
             marked,
             eliminated: kept.clone(),
-            greedy: kept,
+            greedy: kept.clone(),
+            exact: kept,
+            idle: Vec::new(),
+            unmarked_left: 0,
         }
+    }
+
+    pub fn unmarked(&self) -> usize {
+        self.plan.len() - self.marked.len()
+    }
+
+    /// The steps with these indices, but for the idle ones.
+    pub fn without_idle(&self, steps: &[usize]) -> Vec<usize> {
+        let mut steps = steps.to_vec();
+        steps.retain(|step| !self.idle.contains(step));
+        steps
     }
 }
 
@@ -79,12 +98,31 @@ pub fn with_ways(random: &mut Random) -> Answered {
     let only = places.first().filter(|_| ways.len() == 1);
     let sizes = ways.iter().map(|way| way.len() as u32 + 1);
     let sizes = [WAYS_GOAL.value + 1].into_iter().chain(sizes).collect();
+    let task = Task::from_zero(sizes, vec![WAYS_GOAL], ways.concat());
+    let cheapest = cheapest.map_or(Vec::new(), |(p, _)| p.clone());
     Answered {
-        plan,
-        marked: only.cloned().unwrap_or_default(),
         eliminated: beginning_last.cloned().unwrap_or_default(),
-        greedy: cheapest.map_or(Vec::new(), |(p, _)| p.clone()),
-        task: Task::from_zero(sizes, vec![WAYS_GOAL], ways.concat()),
+        ..Answered::alike(task, plan, only.cloned().unwrap_or_default(), cheapest)
+    }
+}
+
+/// A step that gives two goal facts, between two that give one of them each. Elimination strikes
+/// the first step and then the last. Greedy elimination begins with the dearest step, the first of
+/// those: so it keeps the outer ones where the inner one is dearer than the first and no cheaper
+/// than the last.
+pub fn with_cover(random: &mut Random) -> Answered {
+    let goal: Vec<Fact> = (0..2).map(|goal| fact(goal, 1)).collect();
+    let given = [vec![goal[0]], goal.clone(), vec![goal[1]]];
+    let costs = given.each_ref().map(|_| random.pick(&COSTS));
+    let [first, inner, last] = costs;
+    let actions = given.into_iter().zip(costs);
+    let actions = actions.map(|(effects, cost)| action(cost, vec![], effects));
+    let task = Task::from_zero(vec![2; goal.len()], goal, actions.collect());
+    let kept = |is_outer| if is_outer { vec![0, 2] } else { vec![1] };
+    Answered {
+        greedy: kept(inner > first && inner >= last),
+        exact: kept(inner > first + last),
+        ..Answered::alike(task, (0..3).collect(), Vec::new(), kept(false))
     }
 }
 

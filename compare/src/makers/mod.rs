@@ -3,8 +3,12 @@
 
 pub mod answered;
 pub mod cycles;
+pub mod dense;
 pub mod families;
 pub mod faults;
+pub mod jobs;
+pub mod knots;
+mod list;
 mod parts;
 mod random;
 pub mod restores;
@@ -13,6 +17,7 @@ mod task;
 pub mod translator;
 mod walk;
 
+pub use list::List;
 pub use random::Random;
 pub use sheet::{length_word, Sheet};
 pub use task::{action, fact, fit, set, Action, Fact, Task};

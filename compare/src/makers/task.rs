@@ -185,6 +185,28 @@ impl Task {
         })
     }
 
+    /// Takes in another task, whose variables and actions come to stand behind its own. Answers
+    /// with the number that the other's first action has then.
+    pub fn take_in(&mut self, other: &Task) -> u32 {
+        let first_variable = self.sizes.len();
+        let first_action = self.actions.len() as u32;
+        let moved = |facts: &[Fact]| -> Vec<Fact> {
+            let moved = |fact: &Fact| Fact {
+                variable: first_variable + fact.variable,
+                ..*fact
+            };
+            facts.iter().map(moved).collect()
+        };
+        self.sizes.extend(&other.sizes);
+        self.start.extend(&other.start);
+        self.goal.extend(moved(&other.goal));
+        for it in &other.actions {
+            let [needs, sets] = [&it.preconditions, &it.effects].map(|facts| moved(facts));
+            self.actions.push(action(it.cost, needs, sets));
+        }
+        first_action
+    }
+
     pub fn start(&self) -> State {
         let mut state = [0; rules::MAX_VARIABLES];
         state[..self.start.len()].copy_from_slice(&self.start);

@@ -37,6 +37,21 @@ struct Success {
 }
 
 impl Lodged<'_> {
+    /// What the cheaper of both keeps: the lower cost, then fewer steps, then elimination's.
+    pub fn cheaper_eliminated(&self) -> Vec<usize> {
+        let [eliminated, greedy] = [self.eliminated(), self.greedily_eliminated()];
+        match self.tally(&greedy) < self.tally(&eliminated) {
+            true => greedy,
+            false => eliminated,
+        }
+    }
+
+    /// The cost of these steps and their number, in the order that they are compared in.
+    pub fn tally(&self, steps: &[usize]) -> (usize, usize) {
+        let cost = steps.iter().map(|&step| self.actions[step].cost).sum();
+        (cost, steps.len())
+    }
+
     /// Steps are told by their index in the plan.
     pub fn eliminated(&self) -> Vec<usize> {
         let mut steps: Vec<usize> = (0..self.actions.len()).collect();

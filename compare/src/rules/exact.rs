@@ -10,12 +10,7 @@ const FEW_STEPS: usize = 9;
 
 /// Refusals 1 to 12.
 pub fn exact(words: &[u32], plan: &[u32], output: usize) -> Result<Kept, Refusal> {
-    let lodged = Lodged::check_unmarked(words, plan, output)?;
-    let way = match plan.len() <= FEW_STEPS {
-        true => Lodged::least_of_all,
-        false => Lodged::least_by_states,
-    };
-    Ok(lodged.kept(way))
+    Ok(Lodged::check_unmarked(words, plan, output)?.kept(Lodged::least))
 }
 
 impl<'a> Lodged<'a> {
@@ -38,7 +33,7 @@ impl<'a> Lodged<'a> {
     }
 
     /// How many steps are not in the mask.
-    fn outside(&self, mask: Mask) -> usize {
+    pub fn outside(&self, mask: Mask) -> usize {
         let inside: u32 = mask.iter().map(|word| word.count_ones()).sum();
         self.actions.len() - inside as usize
     }
@@ -47,9 +42,16 @@ impl<'a> Lodged<'a> {
         self.outside(self.marked())
     }
 
-    /// The exact reduction as the steps that it keeps, found among all reductions: a reduction is
-    /// told by a flag for each step, and of two lists of flags the one that strikes at the first
-    /// difference is the lesser.
+    /// The exact reduction as the steps that it keeps.
+    pub fn least(&self) -> Vec<usize> {
+        match self.actions.len() <= FEW_STEPS {
+            true => self.least_of_all(),
+            false => self.least_by_states(),
+        }
+    }
+
+    /// The same, found among all reductions: a reduction is told by a flag for each step, and of
+    /// two lists of flags the one that strikes at the first difference is the lesser.
     pub fn least_of_all(&self) -> Vec<usize> {
         let valid = self.reductions().filter(|kept| self.is_valid(kept));
         let least = valid.min_by_key(|kept| (self.counts(kept), kept.clone()));
@@ -71,9 +73,7 @@ impl<'a> Lodged<'a> {
 
     /// The cost and the number of the steps that are kept.
     pub fn counts(&self, kept: &[bool]) -> (usize, usize) {
-        let steps = steps_of(kept);
-        let cost = steps.iter().map(|&i| self.actions[i].cost).sum();
-        (cost, steps.len())
+        self.tally(&steps_of(kept))
     }
 }
 

@@ -1,10 +1,11 @@
 //! The services of document 01, with the marks of document 02 and its reading of translator texts,
-//! written from their words alone. Checks stand in the order of the table of refusals, and each runs
-//! over the whole input before the next.
+//! written from their words alone, and the licence, which is put together of them. Checks stand in
+//! the order of the table of refusals, and each runs over the whole input before the next.
 
 mod blocks;
 mod elimination;
 mod exact;
+pub mod license;
 pub mod marks;
 mod meter;
 pub mod passes;
@@ -19,9 +20,11 @@ mod translator;
 
 pub use elimination::{cheaper, eliminate, greedy, kept_part};
 pub use exact::{exact, steps_of};
+pub use license::{license, license_by_search, Claim, Licensed};
 pub use plan::{all_hold, do_step, has, mask_of, step, Kept, Lodged, Mask, State};
 pub use plan::{MASK_WORDS, WORD_BITS};
-pub use program::{printed_by_shorten, printed_by_validate, written_by_translate, Written};
+pub use program::{printed_by_license, printed_by_shorten, printed_by_validate};
+pub use program::{written_by_translate, Written};
 pub use tally::Tally;
 pub use task::{check_sheet, pair_word, Action};
 pub use translator::{translate, MAX_TEXT};

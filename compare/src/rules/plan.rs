@@ -77,7 +77,12 @@ impl<'a> Lodged<'a> {
 
     /// What a way of striking keeps; it answers with the indices of the steps.
     pub fn kept(&self, way: impl Fn(&Self) -> Vec<usize>) -> Kept {
-        Kept::of(self.plan, &way(self), |step| self.actions[step].cost)
+        self.keeping(&way(self))
+    }
+
+    /// What is kept where the steps with these indices are.
+    pub fn keeping(&self, steps: &[usize]) -> Kept {
+        Kept::of(self.plan, steps, |step| self.actions[step].cost)
     }
 }
 

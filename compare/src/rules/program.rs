@@ -1,7 +1,8 @@
 //! What the programs write for the bytes of their input (document 01, "Worked lists", on the
 //! program; document 02 on the text that is read into a sheet).
 
-use super::{translate, Cause, Kept, Lodged, Refusal, COUNT_WORD, HEADER, MAX_STEPS, MAX_WORDS};
+use super::{translate, Cause, Kept, Licensed, Lodged, Refusal};
+use super::{COUNT_WORD, HEADER, MAX_STEPS, MAX_WORDS};
 
 const WORD_BYTES: usize = 4;
 
@@ -73,24 +74,37 @@ pub fn printed_by_validate(bytes: &[u8]) -> String {
     })
 }
 
-/// A way of finding the exact reduction: it takes the sheet, the plan and the length of the output.
-type Way = fn(&[u32], &[u32], usize) -> Result<Kept, Refusal>;
+/// A way of finding an answer: it takes the sheet, the plan and the length of the output.
+type Way<A> = fn(&[u32], &[u32], usize) -> Result<A, Refusal>;
 
 /// The program of the exact reduction, found this way.
-pub fn printed_by_shorten(bytes: &[u8], way: Way) -> String {
+pub fn printed_by_shorten(bytes: &[u8], way: Way<Kept>) -> String {
     printed(bytes, |words, plan| {
         let kept = way(words, plan, plan.len())?;
-        let lodged = Lodged::check(words, plan, &[])?;
-        let marked = plan.len() - lodged.unmarked();
-        let mut lines = vec![
-            format!("lodged {} {}\n", plan.len(), lodged.cost()),
-            format!("marked {marked}\n"),
-            format!("kept {} {}\n", kept.actions.len(), kept.cost),
-        ];
-        for step in kept.steps() {
-            let cost = lodged.actions[step].cost;
-            lines.push(format!("{} {} {cost}\n", step + 1, plan[step]));
-        }
-        Ok(lines.concat())
+        lines_of(words, plan, &kept)
     })
+}
+
+/// The program of the licence: a line for the claim, and those of what is left.
+pub fn printed_by_license(bytes: &[u8], way: Way<Licensed>) -> String {
+    printed(bytes, |words, plan| {
+        let Licensed { claim, kept } = way(words, plan, plan.len())?;
+        Ok(format!("{claim}\n{}", lines_of(words, plan, &kept)?))
+    })
+}
+
+/// The lines of a plan and of what is kept of it.
+fn lines_of(words: &[u32], plan: &[u32], kept: &Kept) -> Result<String, Refusal> {
+    let lodged = Lodged::check(words, plan, &[])?;
+    let marked = plan.len() - lodged.unmarked();
+    let mut lines = vec![
+        format!("lodged {} {}\n", plan.len(), lodged.cost()),
+        format!("marked {marked}\n"),
+        format!("kept {} {}\n", kept.actions.len(), kept.cost),
+    ];
+    for step in kept.steps() {
+        let cost = lodged.actions[step].cost;
+        lines.push(format!("{} {} {cost}\n", step + 1, plan[step]));
+    }
+    Ok(lines.concat())
 }

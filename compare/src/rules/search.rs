@@ -15,7 +15,7 @@ use std::ops::Range;
 #[inline(never)]
 pub fn exact(words: &[u32], plan: &[u32], output: usize) -> Result<Kept, Refusal> {
     let (lodged, marked) = check(words, plan, output)?;
-    Ok(lodged.kept(|lodged| Search::of(lodged, marked, Unmetered).run()))
+    Ok(lodged.kept(|lodged| lodged.least_by_search(marked)))
 }
 
 /// How many turns the search takes, unless the plan is refused.
@@ -36,6 +36,13 @@ fn check<'a>(
     let (marked, _) = lodged.marked_by_passes();
     lodged.check_marks(marked)?;
     Ok((lodged, marked))
+}
+
+impl Lodged<'_> {
+    /// The exact reduction as the steps that it keeps; no more than 32 steps are unmarked.
+    pub fn least_by_search(&self, marked: Mask) -> Vec<usize> {
+        Search::of(self, marked, Unmetered).run()
+    }
 }
 
 /// A choice of unmarked steps, with the tally of the reduction that keeps them and the marked ones.

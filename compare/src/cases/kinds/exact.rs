@@ -22,8 +22,8 @@ pub const KINDS: &[(&str, Make)] = kinds! { random:
     "exact: 20 unmarked" => with_most_unmarked(random),
     "exact: 21 unmarked" => with_unmarked(random, &FAMILIES, MAX_UNMARKED + 1)?.refused(random),
     "exact: over 20 unmarked" => with_too_many(random)?.refused(random),
-    "exact: over 20 unmarked, not valid" => not_valid(random),
-    "exact: over 20 unmarked, output short" => output_short(random),
+    "exact: over 20 unmarked, not valid" => not_valid(random, Service::Exact),
+    "exact: over 20 unmarked, output short" => output_short(random, Service::Exact),
     "exact: everything struck" => everything_struck(random),
     "exact: nothing struck" => {
         let shape = random_shape(random, Family::Lamps);
@@ -54,7 +54,7 @@ fn room(steps: usize) -> usize {
     steps * 4 / 5
 }
 
-fn random_shape(random: &mut Random, family: Family) -> Shape {
+pub fn random_shape(random: &mut Random, family: Family) -> Shape {
     let few = random.size(0..=SHORT);
     let more = random.size(0..=2 * MAX_UNMARKED);
     let edge = random.pick(&LENGTHS);
@@ -138,7 +138,7 @@ fn with_unmarked(random: &mut Random, families: &[Family], unmarked: usize) -> O
 
 /// Whether no two reductions of a front reach one state, so that the rules take minutes over many
 /// unmarked steps.
-fn has_many_states(family: Family) -> bool {
+pub fn has_many_states(family: Family) -> bool {
     matches!(family, Family::Vault | Family::Decoys | Family::Laden)
 }
 
@@ -161,21 +161,21 @@ fn with_too_many(random: &mut Random) -> Option<Made> {
 }
 
 /// Whether a plan is valid is told before its marks are counted.
-fn not_valid(random: &mut Random) -> Option<Case> {
+pub fn not_valid(random: &mut Random, service: Service) -> Option<Case> {
     let made = with_too_many(random)?;
     let mut walk = Walk::of(made.task, &made.plan);
     let refusal = walk.spoil(random)?;
-    let case = plan_case(random, Service::Exact, &walk.task, &walk.plan);
+    let case = plan_case(random, service, &walk.task, &walk.plan);
     Some(case.refused(refusal))
 }
 
-fn output_short(random: &mut Random) -> Option<Case> {
+pub fn output_short(random: &mut Random, service: Service) -> Option<Case> {
     let made = with_too_many(random)?;
     let steps = made.plan.len();
     let shorter = random.size(0..=steps - 1);
     let outputs = [random.pick(&[steps - 1, shorter]), 0];
     let words = made.task.words();
-    let case = case_with(random, Service::Exact, &words, &made.plan, outputs);
+    let case = case_with(random, service, &words, &made.plan, outputs);
     Some(case.refused(Cause::ShortOutput.at(steps)))
 }
 

@@ -8,6 +8,7 @@ macro_rules! kinds {
 }
 
 mod exact;
+mod license;
 mod plan;
 mod reduction;
 mod sheet;
@@ -62,6 +63,7 @@ fn others() -> Vec<Kind> {
         tally::KINDS,
         reduction::KINDS,
         exact::KINDS,
+        license::KINDS,
         tally::PART_KINDS,
     ];
     faults.chain(boxed(others.concat())).collect()
@@ -123,7 +125,10 @@ const QUICK_STEPS: usize = 40;
 /// A service for a valid plan: long ones seldom go to greedy elimination.
 fn service_for_valid(random: &mut Random, steps: usize) -> Service {
     let service = random.pick(&TAKING_PLAN);
-    let takes_long = matches!(service, Service::Greedy | Service::Cheaper);
+    let takes_long = matches!(
+        service,
+        Service::Greedy | Service::Cheaper | Service::License
+    );
     if takes_long && steps > QUICK_STEPS && !random.once_in(32) {
         Service::Eliminate
     } else {

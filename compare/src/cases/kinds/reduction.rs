@@ -7,7 +7,8 @@ use crate::makers::answered::{self, Answered};
 use crate::makers::cycles::{self, Shape};
 use crate::makers::restores::{Asker, Restores, MOST_FOR_GOAL, MOST_LINKS};
 use crate::makers::{Random, Walk};
-use crate::rules::{mask_of, Cause, Refusal, MAX_STEPS, MAX_UNMARKED};
+use crate::rules::{mask_of, Cause, Claim, Kept, Licensed, Refusal};
+use crate::rules::{MAX_STEPS, MAX_UNMARKED};
 use std::ops::RangeInclusive;
 
 pub const KINDS: &[(&str, Make)] = kinds! { random:
@@ -140,9 +141,9 @@ impl Answered {
         self.case_of(random, service)
     }
 
-    fn case_of(&self, random: &mut Random, service: Service) -> Option<Case> {
+    pub fn case_of(&self, random: &mut Random, service: Service) -> Option<Case> {
         let case = plan_case(random, service, &self.task, &self.plan);
-        let unmarked = self.plan.len() - self.marked.len();
+        let unmarked = self.unmarked();
         Some(match service {
             Service::Exact if unmarked > MAX_UNMARKED => case.refused(Cause::Unmarked.at(unmarked)),
             _ => case.due(self.answer(service)),
@@ -151,18 +152,42 @@ impl Answered {
 
     fn answer(&self, service: Service) -> Answer {
         let [eliminated, greedy] =
-            [&self.eliminated, &self.greedy].map(|steps| kept(&self.task, &self.plan, steps));
+            [&self.eliminated, &self.greedy].map(|steps| self.keeping(steps));
         match service {
             Service::Marks => Answer::marking(mask_of(self.marked.iter().copied())),
             Service::Eliminate => Answer::keeping(eliminated),
             Service::Cheaper => Answer::keeping_both([eliminated, greedy]),
-            Service::Greedy | Service::Exact => Answer::keeping(greedy),
+            Service::Greedy => Answer::keeping(greedy),
+            Service::Exact => Answer::keeping(self.keeping(&self.exact)),
+            Service::License => Answer::licensed(self.licensed([eliminated, greedy])),
             _ => {
                 let walk = Walk::of(self.task.clone(), &self.plan);
                 let answer = Answer::accepted(&[walk.cost(), walk.plan.len()]);
                 answer.with_state(walk.end())
             }
         }
+    }
+}
+
+/// What is left of the plan by the way that it was made.
+impl Answered {
+    fn keeping(&self, steps: &[usize]) -> Kept {
+        kept(&self.task, &self.plan, steps)
+    }
+
+    /// The eliminations have kept these.
+    fn licensed(&self, [eliminated, greedy]: [Kept; 2]) -> Licensed {
+        let tally = |kept: &Kept| (kept.cost, kept.actions.len());
+        let (left, kept) = match tally(&greedy) < tally(&eliminated) {
+            true => (&self.greedy, greedy),
+            false => (&self.eliminated, eliminated),
+        };
+        let (claim, kept) = match self.unmarked_left {
+            _ if self.unmarked() <= MAX_UNMARKED => (Claim::Least, self.keeping(&self.exact)),
+            open if open > MAX_UNMARKED => (Claim::Open(open), kept),
+            _ => (Claim::Irreducible, self.keeping(&self.without_idle(left))),
+        };
+        Licensed { claim, kept }
     }
 }
 

@@ -1,7 +1,8 @@
-//! The worked lists of document 01 with the marks of document 02, the numbers at its limits, and
-//! texts for the translator of document 02, with the answers written out by hand from these
-//! documents: they hold the independent version to them.
+//! The worked lists of document 01 with the marks of document 02, the numbers at its limits,
+//! licences of these lists and of others, and texts for the translator of document 02, with the
+//! answers written out by hand from these documents: they hold the independent version to them.
 
+mod licences;
 mod sheets;
 mod texts;
 
@@ -27,6 +28,7 @@ pub fn cases() -> Vec<Worked> {
     cases.extend(short_outputs());
     cases.extend(unmarked());
     cases.extend(kept_parts());
+    cases.extend(licences::cases());
     cases.extend(texts::cases());
     cases
 }
@@ -224,12 +226,16 @@ fn short_outputs() -> Vec<Worked> {
         let refusal = Cause::ShortOutput.at(plan.len());
         Case::fitting(service, &SHEET_P, plan, outputs).refused(refusal)
     };
-    let unmarked_21 = short(Service::Exact, &lamps_then_drain(24), [23, 0]);
-    let mut cases = vec![("short output, 21 unmarked", unmarked_21)];
+    let with_21_unmarked = [Service::Exact, Service::License].map(|service| {
+        let case = short(service, &lamps_then_drain(24), [23, 0]);
+        ("short output, 21 unmarked", case)
+    });
+    let mut cases = Vec::from(with_21_unmarked);
     for (service, outputs) in [
         (Service::Eliminate, [2, 0]),
         (Service::Greedy, [2, 0]),
         (Service::Exact, [2, 0]),
+        (Service::License, [2, 0]),
         (Service::Cheaper, [2, 3]),
         (Service::Cheaper, [3, 2]),
     ] {

@@ -1,6 +1,6 @@
 //! Exact reductions with one fault each.
 
-use super::Faulty;
+use super::{with_refusal_written, Faulty};
 use crate::cases::{Answer, Memory, Service};
 use crate::comparison::by_rules::{exact_by, Way};
 use crate::rules::{self, steps_of, Cause, Kept, Lodged, Refusal, MAX_UNMARKED};
@@ -37,7 +37,9 @@ pub const FAULTS: [(&str, Faulty); 12] = [
         going(lent, lodged_cost)
     }),
     ("writes past the kept part", write_past_kept),
-    ("writes what it refuses", write_refused),
+    ("writes what it refuses", |lent| {
+        with_refusal_written(going(lent, rules::exact))
+    }),
 ];
 
 /// The most steps of a plan whose reductions are all gone through; the answer about a longer one
@@ -113,15 +115,6 @@ fn write_past_kept(lent: &Memory) -> Memory {
     let steps = memory.out.get(STEPS_AT).copied().unwrap_or(0);
     if let Some(word) = memory.first.get_mut(steps as usize) {
         *word = 0;
-    }
-    memory
-}
-
-/// The number of a refusal is the first word of `out`.
-fn write_refused(lent: &Memory) -> Memory {
-    let mut memory = going(lent, rules::exact);
-    if memory.out.first().is_some_and(|&number| number > 0) {
-        memory.first.write(&[0]);
     }
     memory
 }

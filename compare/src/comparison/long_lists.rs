@@ -1,0 +1,119 @@
+//! Long lists of each kind that the makers know, and what the licence claims of them.
+
+use super::record::Record;
+use super::services;
+use crate::cases::{Answer, Case, Service};
+use crate::makers::cycles::{self, Shape};
+use crate::makers::families::{self, Family, FAMILIES, PLACEMENTS};
+use crate::makers::knots::{tied_gates, twins};
+use crate::makers::{dense, jobs, List, Random, Walk};
+use crate::rules::license::BY_SEARCH;
+use crate::rules::{MAX_STEPS, MAX_UNMARKED};
+use std::ops::RangeInclusive;
+
+/// What the cases are counted under.
+const KIND: &str = "license: long lists";
+
+/// The lists of each kind.
+const LISTS: u64 = 40;
+const LENGTHS: RangeInclusive<usize> = 100..=MAX_STEPS;
+/// The knots of a list, and the gates that are tied in one.
+const KNOTS: RangeInclusive<usize> = 1..=12;
+const TIED: usize = 4;
+
+/// The name of a kind, and what makes a list of such a length.
+type Kind = (String, Box<dyn Fn(&mut Random, usize) -> List>);
+
+fn kind(name: &str, make: impl Fn(&mut Random, usize) -> List + 'static) -> Kind {
+    (name.to_string(), Box::new(make))
+}
+
+fn kinds() -> Vec<Kind> {
+    let mut kinds = vec![
+        kind("random tasks", random_task),
+        kind("walks among gates", |random, length| {
+            jobs::gates(random, length).into()
+        }),
+        kind("deliveries", |random, length| {
+            jobs::deliveries(random, length).into()
+        }),
+        kind("knots, dense", |random, length| {
+            of_knots(random, length, dense::knot)
+        }),
+        kind("knots, tied gates", |random, length| {
+            of_knots(random, length, |random| tied_gates(random, TIED).into())
+        }),
+        kind("knots, twins", |random, length| {
+            of_knots(random, length, |random| twins(random).into())
+        }),
+    ];
+    kinds.extend(CYCLES.map(|(name, shape)| {
+        kind(name, move |random, length| {
+            cycles::walk(random, shape, length).into()
+        })
+    }));
+    kinds.extend(FAMILIES.map(|family| {
+        let name = format!("family of {family:?}").to_lowercase();
+        kind(&name, move |random, length| {
+            of_family(random, family, length)
+        })
+    }));
+    kinds
+}
+
+const CYCLES: [(&str, Shape); 5] = [
+    ("cycles", cycles::USUAL),
+    ("cycles, few actions", cycles::FEW_ACTIONS),
+    ("cycles, free actions", cycles::FREE_ACTIONS),
+    ("cycles, many writers", cycles::MANY_WRITERS),
+    ("cycles, tied costs", cycles::TIED_COSTS),
+];
+
+/// Tasks are tried until one has actions.
+fn random_task(random: &mut Random, length: usize) -> List {
+    let walk = (0..).find_map(|_| Walk::random(random, length));
+    walk.expect("some task has actions").into()
+}
+
+/// More steps of the family than the exact reduction takes.
+fn of_family(random: &mut Random, family: Family, length: usize) -> List {
+    let shape = families::Shape {
+        family,
+        placement: random.pick(&PLACEMENTS),
+        steps: length,
+        size: random.size(MAX_UNMARKED + 1..=length / 2),
+        costs: 1..=100,
+    };
+    shape.make(random).into()
+}
+
+fn of_knots(random: &mut Random, length: usize, knot: fn(&mut Random) -> List) -> List {
+    let count = random.size(KNOTS);
+    let knots = (0..count).map(|_| knot(random)).collect();
+    List::among_lamps(random, knots, length)
+}
+
+/// Compares the library on lists of each kind, and counts the claims. The search stands for the
+/// rules, which would take minutes over some lists; elsewhere it is held to them.
+pub fn compare(record: &mut Record, seed: u64) {
+    for (kind, make) in kinds() {
+        for number in 0..LISTS {
+            if record.is_over() {
+                return;
+            }
+            let random = &mut Random::of_case(seed, number);
+            let length = random.size(LENGTHS);
+            let title = || format!("{KIND}: {kind}, seed {seed}, list {number}");
+            try_list(record, &kind, &make(random, length), title);
+        }
+    }
+}
+
+fn try_list(record: &mut Record, kind: &str, list: &List, title: impl Fn() -> String) {
+    let (words, plan) = (list.task.words(), &list.plan);
+    let licence = BY_SEARCH.license(MAX_UNMARKED, &words, plan, plan.len());
+    let (licensed, grounds) = licence.ok().expect("the lists are valid");
+    record.claims_about(kind).count(&licensed, &grounds);
+    let case = Case::fitting(Service::License, &words, plan, [plan.len(), 0]);
+    services::try_answer(record, KIND, &case, Answer::licensed(licensed), true, title);
+}
