@@ -49,7 +49,7 @@ module _ (w l : List ℕ) where
 
   -- a claim and the reduction that it is made of
   pub record Licence (claim : Claim) (left : Reduction) : Type 0 where
-    -- the claim is the strongest of the table
+    -- of the three claims it is the strongest whose condition is met
     pub strongest : claim ≡ claim-of w l
     -- the list left is valid: a plan of the task, and the lodged list with steps struck
     pub valid-left : Valid-striking w l left

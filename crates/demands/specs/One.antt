@@ -116,7 +116,7 @@ pub record Demand-one : Type 0 where
       → Minimises most-unmarked w l before r after
       → Refuses-just exact-numbers (minimal-checks most-unmarked w l (length before)) (told-answer (r .answer))
       × Output-lent (told-answer (r .answer)) l (minimal-of w l) before after
-  -- the licence, "refusals 1 to 11 as the eliminations have them"
+  -- the licence, with the refusals of the eliminations
   pub licence : (w l before : List ℕ) (r : Licensed) (after : List ℕ) → Licenses w l before r after
       → Refuses-just greedy-numbers (reduction-checks w l (length before)) (told-answer (r .told .answer))
       × Output-lent (told-answer (r .told .answer)) l (licensed-of w l) before after
