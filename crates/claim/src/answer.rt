@@ -9,16 +9,16 @@ ghost use mathlib.Core.Path.{_≡_};
 ghost use Rattle.plan.specs.declared.check.Answer.the-variants.{Valid};
 ghost use Rattle.claim.specs.between.Refused.{Refuses-licence};
 
-// What is proved of the list left. Least: no valid reduction of the lodged list leaves a lower one. Irreducible: nothing
-// more can be struck from it. Open: so many of its steps are unmarked, too many for the minimal reduction.
+// What is proved of the list left. Least: no valid reduction of the lodged list leaves a lower one. Irreducible:
+// nothing more can be struck from it. Open: so many of its steps are unmarked, too many for the minimal reduction.
 pub enum Claim {
     Least,
     Irreducible,
     Open(usize),
 }
 
-// The claim, and what is told of the list that is shortened. A refusal claims nothing: it has an open claim with a zero,
-// which no list that is answered gets.
+// The claim, and what is told of the list that is shortened. A refusal claims nothing: it has an open claim with a
+// zero, which no list that is answered gets.
 pub struct Licensed {
     pub claim: Claim,
     pub told: Shortened,

@@ -1,5 +1,5 @@
-// Plans with too many unmarked steps for the minimal reduction: what the cheaper elimination leaves of them, and of that
-// the minimal reduction where few enough steps are unmarked there.
+// Plans with too many unmarked steps for the minimal reduction: what the cheaper elimination leaves of them, and of
+// that the minimal reduction where few enough steps are unmarked there.
 use crate::answer::Claim;
 use crate::answer::Licensed;
 use crate::answer::grant;

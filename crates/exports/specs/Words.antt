@@ -102,8 +102,8 @@ abbrev pub Minimises-lent : List ℕ → List ℕ → List ℕ → List ℕ → 
 Minimises-lent w l output =
     Answers-lent (answer (minimal-checks most-unmarked w l (length output))) w l (minimal-of w l) output
 
--- a claim: its strength, 0 where it is open, 1 where it is irreducible, 2 where it is least, and then how many steps are
--- unmarked where it is open
+-- a claim: its strength, 0 where it is open, 1 where it is irreducible, 2 where it is least, and then how many steps
+-- are unmarked where it is open
 abbrev pub claim-words : Claim → List ℕ
 claim-words (Open n) = 0 ∷ n ∷ []
 claim-words Irreducible = 1 ∷ 0 ∷ []
