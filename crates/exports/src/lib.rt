@@ -4,7 +4,9 @@
 // Lent outputs, which a refusal leaves untouched: `state` of `hollchiku_step`, `output`, `first` and `second`.
 // Return channels, which every call writes, on a refusal with document 01's zeros: `out`, `mask`, `part`, and `state`
 // of `hollchiku_check_plan`. A slice that is lent to be read is only read.
-// lent: how answers and states go into lent words, and how a state is read from them.
+// lent: how answers and states go into lent words, and how a state is read from them. forms: the forms that programs
+// read and print.
+mod forms;
 mod lent;
 
 use crate::lent::read_state;
