@@ -2,9 +2,10 @@
 -- nothing.
 use Prim.Native.Nat.{ℕ}
 use mathlib.Core.Path.{_≡_}
-use mathlib.Core.List.{List, [], _∷_}
+use mathlib.Core.List.{List, [], _∷_, _++_}
 use lib.ListN.{length}
 use lib.Seq.{sets}
+use Rattle.program.specs.Opening.{Opening, Refused, Lodged, opening}
 use Rattle.text.specs.Text.{Reading, Words, NoWord, NoRoom, Long, found-in}
 use Rattle.text.specs.Limits.{most}
 
@@ -31,3 +32,23 @@ pub record Read-lent (found : Reading) (words words′ out out′ : List ℕ) : 
 -- a text of words over lent words: there is room for as many as a text may have, whatever is lent
 abbrev pub Reads-lent : List ℕ → List ℕ → List ℕ → List ℕ → List ℕ → Type 0
 Reads-lent text = Read-lent (found-in most text)
+
+-- what a program finds of its input: the number and the place of its refusal, 0 and 0; or 0 and 0, how many words the
+-- sheet has, and how many the list
+abbrev pub opening-words : Opening → List ℕ
+opening-words (Refused t) = t .number ∷ t .place ∷ 0 ∷ 0 ∷ []
+opening-words (Lodged w l rest) = 0 ∷ 0 ∷ length w ∷ length l ∷ []
+
+-- the words that are handed on: the sheet, the length of its list, and the list; none of an input that is refused
+abbrev pub record-words : Opening → List ℕ
+record-words (Refused t) = []
+record-words (Lodged w l rest) = w ++ (length l ∷ l)
+
+-- an opening over lent words: its record over `words`, what was found over `out`
+pub record Open-lent (found : Opening) (words words′ out out′ : List ℕ) : Type 0 where
+  pub words-left : words′ ≡ sets words 0 (record-words found)
+  pub answered : out′ ≡ sets out 0 (opening-words found)
+
+-- the bytes of an input over lent words
+abbrev pub Opens-lent : List ℕ → List ℕ → List ℕ → List ℕ → List ℕ → Type 0
+Opens-lent bytes = Open-lent (opening 0 bytes)
