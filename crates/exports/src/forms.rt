@@ -10,8 +10,10 @@ use program::parts::plan_part;
 use text::limits::MOST;
 use text::reader::Ending;
 use text::reader::read_whole;
+use text::shown::show;
 ghost use Rattle.lines.specs.Prints.{Prints};
 ghost use Rattle.program.specs.Bytes.{all-bytes};
+ghost use Rattle.text.specs.Shown.{shown};
 ghost use Rattle.exports.specs.Forms.{Reads-lent, Opens-lent};
 
 // Where the lengths of a sheet and of its list stand, after the refusal's number and place.
@@ -70,4 +72,14 @@ pub extern "C" fn hollchiku_open(bytes: &[u8], words: &mut [u32], out: &mut [u64
             write_pair(out, LENGTHS_AT, sheet as u64, list as u64);
         }
     }
+}
+
+// Shows bytes: the text of the words that they are, in sections where these are a sheet with its list, goes to the
+// front of `text`, and nothing where there are more words than a text has or the last breaks off; how many bytes were
+// written is returned.
+#[no_mangle]
+pub extern "C" fn hollchiku_text_of(bytes: &[u8], text: &mut [u8]) -> u64
+    ensures { λ r. ⌜ Prints (shown (now (bytes .entry))) 0 (now (text .entry)) (now (text .exit)) r ⌝ }
+{
+    show(bytes, text) as u64
 }

@@ -15,9 +15,9 @@ use Rattle.sheet.specs.Limits.{limits}
 use Rattle.program.specs.Bytes.{all-bytes}
 use Rattle.program.specs.Printed.{refusal-line}
 use Rattle.program.specs.between.Room.{line-room}
-use Rattle.text.specs.declared.answer.Answered.{Answered}
-use Rattle.text.specs.Answer.{Answer, only-writes, Gives}
-use Rattle.text.proofs.SayLaws.{answers-writing, answers-as}
+use Rattle.translate.specs.declared.answer.Answered.{Answered}
+use Rattle.translate.specs.Answer.{Answer, only-writes, Gives}
+use Rattle.translate.proofs.SayLaws.{answers-writing, answers-as}
 use Rattle.translation.specs.declared.translate.Translated.{Translated}
 use Rattle.translation.specs.declared.translate.Translated.the-variants.{Refused, Written}
 use Rattle.translation.specs.Translation.{text-task, text-sheet, translation-checks, told-translated, Leaves, Translates}

@@ -1,2 +1,4 @@
--- Translate: what is answered to a planner's text.
+-- Input: how far the input was read. Answer: what is written and said. Translate: what is answered to a planner's text.
+pub mod Input
+pub mod Answer
 pub mod Translate

@@ -10,7 +10,7 @@ use Rattle.refusal.specs.Check.{answer}
 use Rattle.sheet.specs.Limits.{limits}
 use Rattle.program.specs.Bytes.{all-bytes}
 use Rattle.program.specs.Printed.{refusal-line}
-use Rattle.text.specs.Answer.{Answer, only-writes, only-says}
+use Rattle.translate.specs.Answer.{Answer, only-writes, only-says}
 use Rattle.translation.specs.Translation.{text-sheet, translation-checks}
 
 -- a refusal: nothing is written, and its line is said

@@ -1,14 +1,16 @@
 // The program that turns a planner's text (document 02, C-11) into the words of its sheet, in the form in which the
 // programs read one. A text that is refused gets the line of its refusal on standard error, and no word is written.
-// translate: what is answered to a text.
+// input: the reading of standard input. answer: what is written and said. translate: what is answered to a text.
+mod answer;
+mod input;
 mod translate;
 
+use crate::answer::give;
 use crate::translate::translate_input;
 use form::limits::TEXT;
 use program::output::LINE;
 use program::word::WORD;
 use sheet::limits::Sheet;
-use text::answer::give;
 ghost use mathlib.Core.Path.{_≡_};
 ghost use Prim.Native.Nat.{_+_};
 ghost use lib.ListN.{length};

@@ -1,11 +1,11 @@
 // What is answered to a planner's text: the bytes of its sheet's words, or its refusal.
+use crate::answer::Answered;
+use crate::answer::refuse;
+use crate::input::read_input;
 use access::front;
 use program::output::put_refusal;
 use program::pack::pack;
 use sheet::limits::Sheet;
-use text::answer::Answered;
-use text::answer::refuse;
-use text::input::read_input;
 use translation::translate::Translated;
 use translation::translate::translate;
 ghost use Prim.Native.Nat.{_*_, _≤_};
@@ -13,7 +13,7 @@ ghost use lib.ListN.{length, take};
 ghost use Rattle.sheet.specs.Limits.{limits};
 ghost use Rattle.program.specs.Form.{word-bytes};
 ghost use Rattle.program.specs.between.Room.{line-room};
-ghost use Rattle.text.specs.Answer.{Gives};
+ghost use Rattle.translate.specs.Answer.{Gives};
 ghost use Rattle.translate.specs.Translate.{translated, translated-input};
 
 // Translates a text. What is said of it has room in a line.

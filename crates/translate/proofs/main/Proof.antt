@@ -1,5 +1,5 @@
 -- `main` meets its contract: what is answered lies inside the arrays. Assumes nothing.
-use Rattle.text.proofs.SayLaws.{counts-written}
+use Rattle.translate.proofs.SayLaws.{counts-written}
 use borrow.Author.Needs.{needs}
 use Rattle.translate.proofs.main.Statement.{statement}
 use Rattle.translate.proofs.main.Tie as tie

@@ -1,2 +1,0 @@
--- Encode: what is answered to a text.
-pub mod Encode
