@@ -10,7 +10,8 @@
 //! - `cases`: what is called with what, in kinds of random cases and in the worked lists;
 //! - `comparison`: the library, the programs and the rules against each other, and its own test;
 //! - `bench`: times, instructions and stack;
-//! - `hunt`: a search for lists that the exact reduction is slow on.
+//! - `hunt`: a search for lists that the exact reduction is slow on;
+//! - `records`: sheets with lists for the tests of others.
 
 mod bench;
 mod cases;
@@ -18,6 +19,7 @@ mod comparison;
 mod hunt;
 mod makers;
 mod options;
+mod records;
 mod rules;
 
 use comparison::inputs::Form;
@@ -49,6 +51,7 @@ fn run(Options { mode, seed, built }: &Options) -> bool {
         Mode::Instructions => bench::count_instructions(),
         Mode::Stack => bench::measure_stack(of_records),
         Mode::Hunt(seconds) => hunt::run(of_records, *seed, seconds),
+        Mode::Records(count) => records::write(*seed, count),
         Mode::Once(side, measured) => bench::once(side, measured),
     }
 }

@@ -24,6 +24,9 @@ const USAGE: &str = "usage: compare [--cases N] [--seed S] [--program PATH]...
        compare --stack                find the least stack that the exact reduction runs in
        compare --hunt SECONDS [--seed S] [--program PATH]...
                                       look for lists that the exact reduction is slow on
+       compare --records N [--seed S] write N records to standard output, as the programs read
+                                      them: accepted sheets with lists of their actions, valid or
+                                      not
        compare --once SIDE FAMILY PLACEMENT STEPS
        compare --once SIDE text BULK BYTES
                                       run the exact reduction once on a plan that --bench has, or
@@ -52,6 +55,8 @@ pub enum Mode {
     Stack,
     /// For so many seconds.
     Hunt(u64),
+    /// So many of them.
+    Records(u64),
     Once(Side, Measured),
 }
 
@@ -89,6 +94,7 @@ impl Arguments {
             "--instructions" => Mode::Instructions,
             "--stack" => Mode::Stack,
             "--hunt" => Mode::Hunt(self.number()?),
+            "--records" => Mode::Records(self.number()?),
             "--once" => Mode::Once(self.one_of(&SIDES)?, self.measured()?),
             _ => return Err(USAGE.to_string()),
         })

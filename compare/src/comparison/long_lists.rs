@@ -93,18 +93,33 @@ fn of_knots(random: &mut Random, length: usize, knot: fn(&mut Random) -> List) -
     List::among_lamps(random, knots, length)
 }
 
+/// The list of a kind with this number.
+fn numbered((_, make): &Kind, seed: u64, number: u64) -> List {
+    let random = &mut Random::of_case(seed, number);
+    let length = random.size(LENGTHS);
+    make(random, length)
+}
+
+/// Lists without end, of which the kinds take turns.
+pub fn in_turns(seed: u64) -> impl Iterator<Item = List> {
+    let kinds = kinds();
+    (0..).map(move |turn: usize| {
+        let kind = &kinds[turn % kinds.len()];
+        numbered(kind, seed, (turn / kinds.len()) as u64)
+    })
+}
+
 /// Compares the library on lists of each kind, and counts the claims. The search stands for the
 /// rules, which would take minutes over some lists; elsewhere it is held to them.
 pub fn compare(record: &mut Record, seed: u64) {
-    for (kind, make) in kinds() {
+    for kind in kinds() {
+        let (name, _) = &kind;
         for number in 0..LISTS {
             if record.is_over() {
                 return;
             }
-            let random = &mut Random::of_case(seed, number);
-            let length = random.size(LENGTHS);
-            let title = || format!("{KIND}: {kind}, seed {seed}, list {number}");
-            try_list(record, &kind, &make(random, length), title);
+            let title = || format!("{KIND}: {name}, seed {seed}, list {number}");
+            try_list(record, name, &numbered(&kind, seed, number), title);
         }
     }
 }

@@ -5,7 +5,7 @@ mod claims;
 mod faulty;
 pub mod inputs;
 pub mod library;
-mod long_lists;
+pub mod long_lists;
 pub mod programs;
 mod record;
 mod report;
