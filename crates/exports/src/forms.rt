@@ -7,6 +7,8 @@ use program::opened::Opened;
 use program::opened::open_input;
 use program::pack::pack;
 use program::parts::plan_part;
+use report::licensed::put_licensed;
+use report::shortened::put_shortened;
 use text::limits::MOST;
 use text::reader::Ending;
 use text::reader::read_whole;
@@ -14,6 +16,8 @@ use text::shown::show;
 ghost use Rattle.lines.specs.Prints.{Prints};
 ghost use Rattle.program.specs.Bytes.{all-bytes};
 ghost use Rattle.text.specs.Shown.{shown};
+ghost use Rattle.report.specs.Licensed.{licensed};
+ghost use Rattle.report.specs.Shortened.{shortened};
 ghost use Rattle.exports.specs.Forms.{Reads-lent, Opens-lent};
 
 // Where the lengths of a sheet and of its list stand, after the refusal's number and place.
@@ -82,4 +86,23 @@ pub extern "C" fn hollchiku_text_of(bytes: &[u8], text: &mut [u8]) -> u64
     ensures { λ r. ⌜ Prints (shown (now (bytes .entry))) 0 (now (text .entry)) (now (text .exit)) r ⌝ }
 {
     show(bytes, text) as u64
+}
+
+// Prints the licence of a plan: the lines that the program `license` prints go to the front of `text`; how many bytes
+// were written is returned.
+#[no_mangle]
+pub extern "C" fn hollchiku_license_lines(words: &[u32], plan: &[u32], text: &mut [u8]) -> u64
+    ensures { λ r. ⌜ Prints (licensed (now (words .entry)) (now (plan .entry))) 0
+        (now (text .entry)) (now (text .exit)) r ⌝ }
+{
+    put_licensed(words, plan, text) as u64
+}
+
+// Prints the minimal reduction of a plan, as the program `shorten` does, in the same form.
+#[no_mangle]
+pub extern "C" fn hollchiku_shorten_lines(words: &[u32], plan: &[u32], text: &mut [u8]) -> u64
+    ensures { λ r. ⌜ Prints (shortened (now (words .entry)) (now (plan .entry))) 0
+        (now (text .entry)) (now (text .exit)) r ⌝ }
+{
+    put_shortened(words, plan, text) as u64
 }

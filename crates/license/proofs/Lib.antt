@@ -1,4 +1,2 @@
--- LicensedLaws: what the service tells of a list is what is printed for it.
-pub mod LicensedLaws
 -- PrintedTheorem: what is printed of a valid list is a licence, and it is what is printed for the whole input.
 pub mod PrintedTheorem

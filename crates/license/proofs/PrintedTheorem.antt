@@ -14,7 +14,8 @@ use Rattle.program.specs.declared.input.Input.{Input}
 use Rattle.program.specs.Reply.{reply-further}
 use Rattle.program.proofs.RecordTheorem.{record-opened}
 use Rattle.program.proofs.ReplyTheorem.{reply-to-all}
-use Rattle.license.specs.License.{licensed, printed}
+use Rattle.report.specs.Licensed.{licensed}
+use Rattle.license.specs.License.{printed}
 use Rattle.license.specs.Statement.{May-be-lodged-printed}
 
 pub may-be-lodged-printed : (w l : List ℕ) → May-be-lodged-printed w l

@@ -1,34 +1,10 @@
 -- What the program that licenses a list prints for the bytes of its input, which it reads as document 01's program does
 -- ("Worked lists"). Assumes nothing.
 use Prim.Native.Nat.{ℕ}
-use mathlib.Core.Option.{none, some}
-use mathlib.Core.List.{List, [], _∷_, _++_}
-use Rattle.ascii.specs.Bytes.{ascii}
-use Rattle.lines.specs.Lines.{line}
-use Rattle.refusal.specs.Check.{answer}
-use Rattle.plan.specs.Limits.{most-steps}
-use Rattle.service.specs.Reduced.{reduction-checks}
-use Rattle.claim.specs.declared.answer.Claim.{Claim}
-use Rattle.claim.specs.declared.answer.Claim.the-variants.{Least, Irreducible, Open}
-use Rattle.claim.specs.Licensed.{claim-of, licensed-of}
+use mathlib.Core.List.{List}
 use Rattle.program.specs.Printed.{refusal-line}
 use Rattle.program.specs.Reply.{reply}
-use Rattle.report.specs.Report.{report}
-
--- "least", "irreducible" or "open N"
-abbrev pub claim-line : Claim → List ℕ
-claim-line Least = line (ascii "least") []
-claim-line Irreducible = line (ascii "irreducible") []
-claim-line (Open n) = line (ascii "open") (n ∷ [])
-
--- what is printed for the list l of the sheet w: the first of the checks 1 to 11 that fires refuses it; the program's
--- own output has room for the longest list
-unfoldable pub licensed : List ℕ → List ℕ → List ℕ
-licensed w l =
-    elim (answer (reduction-checks w l most-steps)) [
-      | none ↦ claim-line (claim-of w l) ++ report w l (licensed-of w l)
-      | some t ↦ refusal-line t
-    ]
+use Rattle.report.specs.Licensed.{licensed}
 
 -- what is printed for the bytes of an input
 abbrev pub printed : List ℕ → List ℕ

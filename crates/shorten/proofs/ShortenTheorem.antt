@@ -20,7 +20,8 @@ use Rattle.program.specs.declared.input.Input.{Input}
 use Rattle.program.specs.Reply.{reply-further}
 use Rattle.program.proofs.RecordTheorem.{record-opened}
 use Rattle.program.proofs.ReplyTheorem.{reply-to-all}
-use Rattle.shorten.specs.Shorten.{shortened, printed}
+use Rattle.report.specs.Shortened.{shortened}
+use Rattle.shorten.specs.Shorten.{printed}
 use Rattle.shorten.specs.Statement.{Reported, Demand-three-printed}
 
 module _ (w l : List ℕ) (sized : Word-sized w) (sized-list : Word-sized l) (readable : Readable w l) (plan : Plan (task w) (steps w l)) where

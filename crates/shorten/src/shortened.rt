@@ -1,8 +1,5 @@
 // What the program prints for the bytes of its input, put into lent bytes.
 use access::front;
-use minimal::reduce::minimal_reduction;
-use plan::check::Answer;
-use plan::limits::Plan;
 use program::framing::ALONE;
 use program::framing::WORDS;
 use program::input::Done;
@@ -11,27 +8,13 @@ use program::opened::Opened;
 use program::opened::open_input;
 use program::output::put_refusal;
 use program::parts::plan_part;
-use report::put_report;
+use report::shortened::put_shortened;
 ghost use Prim.Native.Nat.{_≤_};
 ghost use lib.ListN.{length};
 ghost use Rattle.program.specs.Printed.{Has-done};
 ghost use Rattle.program.specs.between.Room.{Text-put};
 ghost use Rattle.report.specs.between.Reported.{report-room};
-ghost use Rattle.shorten.specs.Shorten.{shortened, printed};
-
-// Shortens a plan. The list left has room for the longest that is read.
-fn shorten(words: &[u32], plan: &[u32], out: &mut [u8]) -> usize
-    ensures { λ r. ⌜ Text-put report-room (now (out .entry)) (now (out .exit)) r
-        (shortened (now (words .entry)) (now (plan .entry))) ⌝ }
-{
-    let mut left = [0u32; Plan::STEPS];
-    let reduced = minimal_reduction(words, plan, &mut left);
-    let answer = reduced.answer;
-    match answer {
-        Answer::Valid(kept) => put_report(words, plan, reduced, kept, out, 0),
-        Answer::Refused(refusal) => put_refusal(out, 0, refusal),
-    }
-}
+ghost use Rattle.shorten.specs.Shorten.{printed};
 
 // Shortens the plan, unless the input is refused before.
 fn shorten_input(bytes: &[u8], out: &mut [u8]) -> usize
@@ -41,7 +24,7 @@ fn shorten_input(bytes: &[u8], out: &mut [u8]) -> usize
     let opened = open_input(bytes, 0, &mut words);
     match opened {
         Opened::Refused(refusal) => put_refusal(out, 0, refusal),
-        Opened::Lodged { task, plan } => shorten(
+        Opened::Lodged { task, plan } => put_shortened(
             front(&words, task),
             plan_part(&words, task, plan),
             out,

@@ -21,6 +21,10 @@ use Rattle.minimal.specs.declared.within.Shortened.{Shortened}
 abbrev pub report-room : ℕ
 report-room = line-room * (3 + most-steps)
 
+-- and with the line of a claim before it
+abbrev pub licence-room : ℕ
+licence-room = line-room + report-room
+
 -- a mask that is the reduction m of the list l
 pub record Masks-steps (l : List ℕ) (m : Reduction) (mask : Mask) : Type 0 where
   pub fits : length m ≡ length l

@@ -2,7 +2,7 @@
 use native.Mathlib.Omega.{arith}
 use mathlib.Core.Path.{refl}
 use Rattle.program.specs.between.Room.{Text-put}
-use Rattle.license.specs.between.Claimed.{licence-room}
+use Rattle.report.specs.between.Reported.{licence-room}
 use Rattle.program.proofs.ReplyLaws.{reply-refused, reply-lodged}
 use borrow.Author.Needs.{needs}
 use Rattle.license.proofs.licensed.license_input.Statement.{statement}
@@ -35,8 +35,8 @@ slice-aggregate-plan-part c = search needs
 plan-part-requires : tie.Need-plan-part-requires
 plan-part-requires c κs = search needs
 
-license-plan-requires : tie.Need-license-plan-requires
-license-plan-requires c κs = search needs
+put-licensed-requires : tie.Need-put-licensed-requires
+put-licensed-requires c κs = search needs
 
 same-length : tie.Need-same-length
 same-length c = search needs
@@ -52,7 +52,7 @@ same-length-2 c = search needs
 returns-2 : tie.Need-returns-2
 returns-2 c =
     reply-lodged _ _ _ _ (c .before .before .before .before .before .before .before .before .before .before .before .before .open-input .ensures .0) _ _ (Text-put licence-room _ _ _) _ _ _ _ _ (c .before .before .before .before .before .before .before .before .before .opened2 .given .1) (c .before .before .before .before .before .before .front .ensures) (c .before .before .before .before .plan-part .ensures) refl
-    (c .before .before .license-plan .ensures)
+    (c .before .before .put-licensed .ensures)
 
 pub license-input-spec : {M : Type 1} → statement M
 license-input-spec =
@@ -67,7 +67,7 @@ license-input-spec =
     front-requires
     slice-aggregate-plan-part
     plan-part-requires
-    license-plan-requires
+    put-licensed-requires
     same-length
     returns
     same-length-2

@@ -35,8 +35,8 @@ slice-aggregate-plan-part c = search needs
 plan-part-requires : tie.Need-plan-part-requires
 plan-part-requires c κs = search needs
 
-shorten-requires : tie.Need-shorten-requires
-shorten-requires c κs = search needs
+put-shortened-requires : tie.Need-put-shortened-requires
+put-shortened-requires c κs = search needs
 
 same-length : tie.Need-same-length
 same-length c = search needs
@@ -52,7 +52,7 @@ same-length-2 c = search needs
 returns-2 : tie.Need-returns-2
 returns-2 c =
     reply-lodged _ _ _ _ (c .before .before .before .before .before .before .before .before .before .before .before .before .open-input .ensures .0) _ _ (Text-put report-room _ _ _) _ _ _ _ _ (c .before .before .before .before .before .before .before .before .before .opened2 .given .1) (c .before .before .before .before .before .before .front .ensures) (c .before .before .before .before .plan-part .ensures) refl
-    (c .before .before .shorten .ensures)
+    (c .before .before .put-shortened .ensures)
 
 pub shorten-input-spec : {M : Type 1} → statement M
 shorten-input-spec =
@@ -67,7 +67,7 @@ shorten-input-spec =
     front-requires
     slice-aggregate-plan-part
     plan-part-requires
-    shorten-requires
+    put-shortened-requires
     same-length
     returns
     same-length-2

@@ -7,8 +7,8 @@ use borrow.Author.Needs.{needs}
 use lib.ListN.{length}
 use Rattle.lines.proofs.PrintLaws.{prints-length}
 use Rattle.report.proofs.ReportLaws.{Steps-put, steps-nothing, steps-kept, steps-struck, steps-all}
-use Rattle.report.proofs.put_steps.Statement.{statement}
-use Rattle.report.proofs.put_steps.Tie as tie
+use Rattle.report.proofs.reported.put_steps.Statement.{statement}
+use Rattle.report.proofs.reported.put_steps.Tie as tie
 
 abbrev Inv-loop : tie.InvT-loop
 Inv-loop words plan mask out₀ at end₀ i₀ out end i = Steps-put words plan mask at out₀ i out end × (i ≤ length plan) × (length out ≡ length out₀)

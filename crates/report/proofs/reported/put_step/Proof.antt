@@ -1,8 +1,8 @@
 -- `put_step` meets its contract: a row of three numbers. Assumes nothing.
 use Rattle.report.proofs.ReportLaws.{step-printed}
 use borrow.Author.Needs.{needs}
-use Rattle.report.proofs.put_step.Statement.{statement}
-use Rattle.report.proofs.put_step.Tie as tie
+use Rattle.report.proofs.reported.put_step.Statement.{statement}
+use Rattle.report.proofs.reported.put_step.Tie as tie
 
 word-requires : tie.Need-word-requires
 word-requires c κs = search needs

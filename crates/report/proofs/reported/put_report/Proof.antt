@@ -2,8 +2,8 @@
 use lib.Dec.{lit≤}
 use Rattle.report.proofs.ReportLaws.{reports}
 use borrow.Author.Needs.{needs}
-use Rattle.report.proofs.put_report.Statement.{statement}
-use Rattle.report.proofs.put_report.Tie as tie
+use Rattle.report.proofs.reported.put_report.Statement.{statement}
+use Rattle.report.proofs.reported.put_report.Tie as tie
 
 slice-aggregate-put-tally : tie.Need-slice-aggregate-put-tally
 slice-aggregate-put-tally c = search needs

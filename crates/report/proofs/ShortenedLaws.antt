@@ -28,10 +28,10 @@ use Rattle.minimal.specs.declared.within.Shortened.{Shortened}
 use Rattle.minimal.specs.Minimised.{most-unmarked, unmarked-checks, minimal-checks, minimal-of, Minimises}
 use Rattle.program.specs.Printed.{refusal-line}
 use Rattle.program.specs.between.Room.{line-room}
 use Rattle.report.specs.Report.{report}
 use Rattle.report.specs.between.Reported.{report-room, Reports, Puts-lines}
 use Rattle.report.proofs.ToldLaws.{nothing-fires, told-reported}
-use Rattle.shorten.specs.Shorten.{shortened}
+use Rattle.report.specs.Shortened.{shortened}
 
 -- the minimal reduction has a flag for each step
 minimal-length : (ends : State → Bool) (s : State) (p : List Action) → length (minimal ends s p) ≡ length p

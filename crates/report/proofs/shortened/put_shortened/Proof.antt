@@ -1,9 +1,9 @@
--- `shorten` meets its contract: the service over an output that has room for the longest list, and what is printed of its answer. Assumes nothing.
+-- `put_shortened` meets its contract: the service over an output that has room for the longest list, and what is printed of its answer. Assumes nothing.
 use mathlib.Core.Path.{refl}
-use Rattle.shorten.proofs.ShortenLaws.{reports-minimal, shortened-report, shortened-refusal}
+use Rattle.report.proofs.ShortenedLaws.{reports-minimal, shortened-report, shortened-refusal}
 use borrow.Author.Needs.{needs}
-use Rattle.shorten.proofs.shortened.shorten.Statement.{statement}
-use Rattle.shorten.proofs.shortened.shorten.Tie as tie
+use Rattle.report.proofs.shortened.put_shortened.Statement.{statement}
+use Rattle.report.proofs.shortened.put_shortened.Tie as tie
 
 slice-aggregate-minimal-reduction : tie.Need-slice-aggregate-minimal-reduction
 slice-aggregate-minimal-reduction c = search needs
@@ -38,8 +38,8 @@ same-length-2 c = search needs
 returns-2 : tie.Need-returns-2
 returns-2 c = shortened-refusal _ _ _ _ _ refl (c .before .before .before .before .before .before .before .before .minimal-reduction .ensures .0) _ (c .before .before .before .before .before .answer2 .given .1) (c .before .before .put-refusal .ensures .0) (c .before .before .put-refusal .ensures .1)
 
-pub shorten-spec : {M : Type 1} → statement M
-shorten-spec =
+pub put-shortened-spec : {M : Type 1} → statement M
+put-shortened-spec =
     tie.close
     (tie.spec
     slice-aggregate-minimal-reduction

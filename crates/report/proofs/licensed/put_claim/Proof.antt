@@ -1,9 +1,9 @@
 -- `put_claim` meets its contract: a line for each case of a claim. Assumes nothing.
 use lib.Dec.{lit≤}
-use Rattle.license.proofs.LicensedLaws.{claim-put}
+use Rattle.report.proofs.LicensedLaws.{claim-put}
 use borrow.Author.Needs.{needs}
-use Rattle.license.proofs.licensed.put_claim.Statement.{statement}
-use Rattle.license.proofs.licensed.put_claim.Tie as tie
+use Rattle.report.proofs.licensed.put_claim.Statement.{statement}
+use Rattle.report.proofs.licensed.put_claim.Tie as tie
 
 enum-told : tie.Need-enum-told
 enum-told c = search needs

@@ -1,9 +1,9 @@
--- `license_plan` meets its contract: the service over an output that has room for the longest list, and what is printed of its answer. Assumes nothing.
+-- `put_licensed` meets its contract: the service over an output that has room for the longest list, and what is printed of its answer. Assumes nothing.
 use mathlib.Core.Path.{refl}
-use Rattle.license.proofs.LicensedLaws.{reports-licensed, licensed-report, licensed-refusal}
+use Rattle.report.proofs.LicensedLaws.{reports-licensed, licensed-report, licensed-refusal}
 use borrow.Author.Needs.{needs}
-use Rattle.license.proofs.licensed.license_plan.Statement.{statement}
-use Rattle.license.proofs.licensed.license_plan.Tie as tie
+use Rattle.report.proofs.licensed.put_licensed.Statement.{statement}
+use Rattle.report.proofs.licensed.put_licensed.Tie as tie
 
 slice-aggregate-license : tie.Need-slice-aggregate-license
 slice-aggregate-license c = search needs
@@ -43,8 +43,8 @@ returns-2 c =
     let put = c .before .before .put-refusal .ensures in
     licensed-refusal _ _ _ _ _ refl (c .before .before .before .before .before .before .before .before .before .license .ensures .0) _ (c .before .before .before .before .before .answer2 .given .1) (put .0) (put .1)
 
-pub license-plan-spec : {M : Type 1} → statement M
-license-plan-spec =
+pub put-licensed-spec : {M : Type 1} → statement M
+put-licensed-spec =
     tie.close
     (tie.spec
     slice-aggregate-license

@@ -26,11 +26,10 @@ use Rattle.claim.specs.Statement.{Licence}
 use Rattle.claim.proofs.LicenceTheorem.{licence-of}
 use Rattle.program.specs.Printed.{refusal-line}
 use Rattle.program.specs.between.Room.{line-room, Text-put}
 use Rattle.report.specs.Report.{report}
-use Rattle.report.specs.between.Reported.{Reports, Puts-lines}
+use Rattle.report.specs.between.Reported.{licence-room, Reports, Puts-lines}
 use Rattle.report.proofs.ToldLaws.{nothing-fires, told-reported}
-use Rattle.license.specs.License.{claim-line, licensed}
-use Rattle.license.specs.between.Claimed.{licence-room}
+use Rattle.report.specs.Licensed.{claim-line, licensed}
 
 -- the line of a claim is that of its case
 pub claim-put : {claim case : Claim} {at : ℕ} {before after : List ℕ} {end : ℕ} → claim ≡ case → Prints (claim-line case) at before after end
