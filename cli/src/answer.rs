@@ -1,0 +1,48 @@
+//! What the library answers to a list.
+
+/// A price and a number of moves.
+#[derive(Clone, Copy, Debug, PartialEq)]
+pub struct Tally {
+    pub price: u32,
+    pub moves: u32,
+}
+
+/// What is proved of the list that a licence leaves.
+#[derive(Clone, Copy, Debug, PartialEq)]
+pub enum Claim {
+    Least,
+    Irreducible,
+    /// So many of its moves are unmarked, more than the exact reduction takes.
+    Open(u64),
+}
+
+/// A way of striking, and what is claimed of what it leaves.
+#[derive(Clone, Copy, Debug, PartialEq)]
+pub enum Way {
+    Licence(Claim),
+    Exact,
+    Greedy,
+    Eliminate,
+    Cheaper,
+}
+
+/// A list that was shortened.
+#[derive(Clone, Debug, PartialEq)]
+pub struct Shortened {
+    pub way: Way,
+    /// Of each lodged move, whether it is kept.
+    pub kept: Vec<bool>,
+    /// Of each lodged move, whether it is marked: no valid striking drops it.
+    pub marked: Vec<bool>,
+    pub lodged: Tally,
+    pub left: Tally,
+}
+
+/// The states along a list: at the start, and behind each lodged move.
+#[derive(Clone, Debug, PartialEq)]
+pub struct Course {
+    /// Where all moves are made.
+    pub lodged: Vec<Vec<u32>>,
+    /// Where only the kept ones are: behind a struck move the state is the one before it.
+    pub left: Vec<Vec<u32>>,
+}

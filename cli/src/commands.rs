@@ -1,0 +1,126 @@
+//! What each command does.
+
+use crate::answer::Tally;
+use crate::course::course;
+use crate::failure::Failure;
+use crate::help::{help, version};
+use crate::input::{self, Form, Lodged};
+use crate::job::{self, Job};
+use crate::library;
+use crate::options::{Command, Request, Shown, Verb};
+use crate::page::{page, Sheet};
+use crate::planner;
+use crate::shorten::{claim, shorten, Asked};
+use crate::table::{counted, table};
+use crate::terminal;
+use std::io::Write;
+
+/// The file that stands for standard output, and what that is called.
+const STANDARD: &str = "-";
+const STANDARD_NAME: &str = "standard output";
+
+pub fn run(request: Request) -> Result<(), Failure> {
+    match request {
+        Request::Help(verb) => write(None, help(verb).as_bytes()),
+        Request::Version => write(None, format!("{}\n", version()).as_bytes()),
+        Request::Run(command) => run_command(&command),
+    }
+}
+
+fn run_command(command: &Command) -> Result<(), Failure> {
+    let answered =
+        input::read(&command.file, command.plan.as_deref()).and_then(|it| answer(command, &it));
+    let output = command.output.as_deref();
+    match answered {
+        Ok(bytes) => write(output, &bytes),
+        Err(failure) => {
+            if let (Some(refusal), Shown::Plain) = (failure.refusal, command.shown) {
+                let line = format!("refused {} {}\n", refusal.number, refusal.place);
+                write(output, line.as_bytes())?;
+            }
+            Err(failure)
+        }
+    }
+}
+
+fn answer(command: &Command, lodged: &Lodged) -> Result<Vec<u8>, Failure> {
+    match command.verb {
+        Verb::Shorten => shortened(command, lodged),
+        Verb::Check => {
+            let Tally { price, moves } = lodged.check()?;
+            Ok(format!("valid: {}, price {price}\n", counted(moves)).into_bytes())
+        }
+        Verb::Words if command.is_binary => Ok(lodged.bytes()),
+        Verb::Words => Ok(library::text_of(&lodged.bytes())),
+        Verb::Job => Ok(job::write(&lodged.job).into_bytes()),
+        Verb::Page => lodged_page(command, lodged),
+    }
+}
+
+fn shortened(command: &Command, lodged: &Lodged) -> Result<Vec<u8>, Failure> {
+    let answered = shorten(lodged, command.asked)?;
+    let Lodged { sheet, job, origin } = lodged;
+    Ok(match (command.shown, command.asked) {
+        (Shown::Plain, Asked::Exact) => library::shorten_lines(sheet, &job.list),
+        (Shown::Plain, _) => library::license_lines(sheet, &job.list),
+        (Shown::Table, _) => table(job, &answered, terminal::style()).into_bytes(),
+        (Shown::Kept, _) => {
+            let kept = job
+                .list
+                .iter()
+                .zip(&answered.kept)
+                .filter(|(_, kept)| **kept);
+            let list: Vec<u32> = kept.map(|(action, _)| *action).collect();
+            kept_text(job, list, answered.left, &origin.form).into_bytes()
+        }
+    })
+}
+
+/// The shortened list in the form in which the list came: a plan file, or a job.
+fn kept_text(job: &Job, list: Vec<u32>, left: Tally, form: &Form) -> String {
+    match form {
+        Form::Planner {
+            unit_cost, names, ..
+        } => {
+            let names = list.iter().map(|it| names[*it as usize].as_str());
+            planner::write_plan(names, left.price, *unit_cost)
+        }
+        _ => job::write(&Job {
+            list,
+            ..job.clone()
+        }),
+    }
+}
+
+fn lodged_page(command: &Command, lodged: &Lodged) -> Result<Vec<u8>, Failure> {
+    let answered = shorten(lodged, Asked::Licence)?;
+    let Lodged { sheet, job, .. } = lodged;
+    let words = library::text_of(&lodged.bytes());
+    let text = page(&Sheet {
+        title: job.title.as_deref().unwrap_or(&command.file),
+        task: &job.task,
+        list: &job.list,
+        shortened: &answered,
+        course: &course(sheet, &job.task, &job.list, &answered.kept),
+        claim: &claim(answered.way),
+        words: &String::from_utf8_lossy(&words),
+        version: &version(),
+    });
+    Ok(text.into_bytes())
+}
+
+/// Writes an answer, all of it or none that counts: what can't be written is told.
+fn write(output: Option<&str>, bytes: &[u8]) -> Result<(), Failure> {
+    match output.filter(|it| *it != STANDARD) {
+        Some(file) => {
+            std::fs::write(file, bytes).map_err(|error| Failure::of_file(file, WRITTEN, &error))
+        }
+        None => {
+            let mut standard = std::io::stdout().lock();
+            let written = standard.write_all(bytes).and_then(|()| standard.flush());
+            written.map_err(|error| Failure::of_file(STANDARD_NAME, WRITTEN, &error))
+        }
+    }
+}
+
+const WRITTEN: &str = "written";

@@ -1,0 +1,252 @@
+//! The reading of a job in any of its forms.
+//!
+//! - `content`: which form a file has;
+//! - `origin`: where the parts of a job stand in what was read.
+
+mod content;
+mod origin;
+
+pub use origin::{Form, Origin, Part, Spot};
+
+use crate::answer::Tally;
+use crate::failure::Failure;
+use crate::job::{self, Job};
+use crate::library::{self, NoWords, Refusal};
+use crate::planner;
+use crate::refusal::{self, Lodging};
+use crate::sheet;
+use crate::task::Task;
+use content::{content, text, with_line_ends, Content};
+use std::collections::HashSet;
+use std::io::Read;
+
+/// What a command works on: a sheet that the library has accepted, and a list.
+pub struct Lodged {
+    pub sheet: Vec<u32>,
+    pub job: Job,
+    pub origin: Origin,
+}
+
+/// The file that stands for standard input, and what that is called.
+const STANDARD: &str = "-";
+const STANDARD_NAME: &str = "standard input";
+
+/// A file that was read, and what messages call it.
+pub struct File<'a> {
+    pub name: &'a str,
+    pub bytes: Vec<u8>,
+}
+
+/// Reads a job from a file, of which a planner's text has its plan in a second one.
+pub fn read(file: &str, plan: Option<&str>) -> Result<Lodged, Failure> {
+    let file = read_file(file)?;
+    let plan = plan.map(read_file).transpose()?;
+    read_files(&file, plan.as_ref())
+}
+
+/// Reads a job from the files' bytes.
+pub fn read_files(file: &File, plan: Option<&File>) -> Result<Lodged, Failure> {
+    let kind = content(&file.bytes);
+    let name = file.name;
+    if plan.is_some() && kind != Content::Planner {
+        let message =
+            format!("{name}: only a planner's text (output.sas) has its plan in a second file");
+        return Err(Failure::unread(message));
+    }
+    match kind {
+        Content::Job => read_job(file),
+        Content::Words => read_words(name, text(&file.bytes)),
+        Content::Binary => open(Origin::new(name, Form::Binary), &file.bytes),
+        Content::Planner => read_planner(file, plan),
+        other => Err(Failure::unread(format!("{name}: {}", why_not(&other)))),
+    }
+}
+
+impl Lodged {
+    /// Has the library check the list.
+    pub fn check(&self) -> Result<Tally, Failure> {
+        let tally = library::check_list(&self.sheet, &self.job.list);
+        tally.map_err(|refusal| self.refused(refusal))
+    }
+
+    pub fn refused(&self, refusal: Refusal) -> Failure {
+        let Lodged { sheet, job, origin } = self;
+        refusal::of_list(refusal, &Lodging { sheet, job, origin })
+    }
+
+    /// Sheet and list in the program's form: the list's length stands between them.
+    pub fn bytes(&self) -> Vec<u8> {
+        let length = [self.job.list.len() as u32];
+        library::pack(&[&self.sheet[..], &length, &self.job.list].concat())
+    }
+}
+
+fn read_file(file: &str) -> Result<File<'_>, Failure> {
+    let name = if file == STANDARD {
+        STANDARD_NAME
+    } else {
+        file
+    };
+    let read = if file == STANDARD {
+        let mut bytes = Vec::new();
+        std::io::stdin().read_to_end(&mut bytes).map(|_| bytes)
+    } else {
+        std::fs::read(file)
+    };
+    let bytes = read.map_err(|error| Failure::of_file(name, "read", &error))?;
+    Ok(File { name, bytes })
+}
+
+/// Why a file of this content is no job.
+fn why_not(content: &Content) -> &'static str {
+    match content {
+        Content::Plan => "a plan alone: give the planner's text before it, as in: hollchiku shorten output.sas sas_plan",
+        Content::Empty => "there is nothing in it but white space and comments",
+        Content::Utf16 => "a text in UTF-16: save it as UTF-8",
+        _ => "neither a text nor words: it holds bytes of another kind of file",
+    }
+}
+
+fn read_job(file: &File) -> Result<Lodged, Failure> {
+    let (name, bytes) = (file.name, text(&file.bytes));
+    let text = std::str::from_utf8(bytes).map_err(|error| {
+        let line = 1 + bytes[..error.valid_up_to()]
+            .iter()
+            .filter(|it| **it == b'\n')
+            .count();
+        Failure::unread(format!(
+            "{name}:{line}: a letter that is not UTF-8: save the file as UTF-8"
+        ))
+    })?;
+    let (job, lines) = job::read(text).map_err(|faults| Failure::faulty(name, &faults))?;
+    accept(
+        sheet::encode(&job.task),
+        job,
+        Origin::new(name, Form::Job(lines)),
+    )
+}
+
+fn read_words(name: &str, text: &[u8]) -> Result<Lodged, Failure> {
+    let words = library::read_words(text).map_err(|why| Failure::unread(no_words(name, &why)))?;
+    open(
+        Origin::new(name, Form::Words(text.to_vec())),
+        &library::pack(&words),
+    )
+}
+
+fn no_words(name: &str, why: &NoWords) -> String {
+    match why {
+        NoWords::Field(line) => {
+            format!("{name}:{line}: a word is expected, a whole number of 0 to 4294967295")
+        }
+        NoWords::TooMany(line) => {
+            format!("{name}:{line}: more words than a sheet and its list have")
+        }
+        NoWords::TooLong => format!("{name}: a text of more than 1048576 bytes"),
+    }
+}
+
+/// Opens words in the program's form; their parts are called by their numbers.
+fn open(origin: Origin, bytes: &[u8]) -> Result<Lodged, Failure> {
+    let (sheet, list) =
+        library::open(bytes).map_err(|refusal| refusal::of_form(refusal, bytes, &origin))?;
+    let unnamed = Job {
+        title: None,
+        task: Task::default(),
+        list,
+    };
+    let mut lodged = accept(sheet, unnamed, origin)?;
+    lodged.job.task = sheet::decode(&lodged.sheet);
+    Ok(lodged)
+}
+
+/// Has the library check the sheet and what the list names, so that all of both can be looked up.
+/// Whether the list is valid is another question.
+fn accept(sheet: Vec<u32>, job: Job, origin: Origin) -> Result<Lodged, Failure> {
+    let lodged = Lodged { sheet, job, origin };
+    match library::check_list(&lodged.sheet, &lodged.job.list) {
+        Err(refusal) if refusal.number != INVALID => Err(lodged.refused(refusal)),
+        _ => Ok(lodged),
+    }
+}
+
+/// The number of the refusal of a list that can be read and is not valid.
+const INVALID: u64 = 11;
+
+fn read_planner(file: &File, plan: Option<&File>) -> Result<Lodged, Failure> {
+    let text = with_line_ends(&file.bytes);
+    let sheet =
+        library::translate(&text).map_err(|it| refusal::of_planner(it, file.name, &text))?;
+    let names = planner::names(&text);
+    let moves = plan.map_or(Ok(Vec::new()), |plan| read_plan(plan, &names.actions))?;
+    let form = Form::Planner {
+        lines: moves.iter().map(|it| it.line).collect(),
+        names: names.actions.clone(),
+        unit_cost: names.unit_cost,
+    };
+    let job = Job {
+        title: None,
+        task: named(sheet::decode(&sheet), names),
+        list: moves.iter().map(|it| it.action).collect(),
+    };
+    accept(sheet, job, Origin::new(plan.unwrap_or(file).name, form))
+}
+
+fn read_plan(plan: &File, actions: &[String]) -> Result<Vec<planner::Move>, Failure> {
+    let (name, bytes) = (plan.name, text(&plan.bytes));
+    let kind = content(&plan.bytes);
+    if matches!(kind, Content::Utf16 | Content::Binary | Content::Rubbish) {
+        return Err(Failure::unread(format!("{name}: {}", why_not(&kind))));
+    }
+    let moves = planner::read_plan(&String::from_utf8_lossy(bytes), actions);
+    moves.map_err(|fault| Failure::faulty(name, &[fault]))
+}
+
+/// A task with a planner's names. A job tells its parts apart by their names, so later ones of
+/// equal names get numbers.
+fn named(mut task: Task, names: planner::Names) -> Task {
+    for (variable, name) in task.variables.iter_mut().zip(distinct(names.variables)) {
+        variable.name = name;
+    }
+    for (variable, values) in task.variables.iter_mut().zip(names.values) {
+        variable.values = distinct(values);
+    }
+    for (action, name) in task.actions.iter_mut().zip(distinct(names.actions)) {
+        action.name = name;
+    }
+    task
+}
+
+/// What a thing is called whose name is empty.
+const NAMELESS: &str = "(no name)";
+
+/// Names that can be told apart and shown: what no text holds is replaced, and a name that was
+/// there gets a number.
+fn distinct(names: Vec<String>) -> Vec<String> {
+    let mut taken = HashSet::new();
+    let shown = names.into_iter().map(|name| {
+        let shown: String = name
+            .chars()
+            .map(|it| {
+                if it.is_control() {
+                    char::REPLACEMENT_CHARACTER
+                } else {
+                    it
+                }
+            })
+            .collect();
+        let shown = if shown.is_empty() {
+            NAMELESS.to_string()
+        } else {
+            shown
+        };
+        let numbered = (2..).map(|number| format!("{shown} ({number})"));
+        let free = std::iter::once(shown.clone())
+            .chain(numbered)
+            .find(|it| !taken.contains(it));
+        let free = free.unwrap_or(shown);
+        taken.insert(free.clone());
+        free
+    });
+    shown.collect()
+}

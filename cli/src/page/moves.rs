@@ -1,0 +1,224 @@
+//! The tables of moves: those that are left, and all that were lodged.
+
+use super::escape::{Grouped, Name};
+use super::facts::{blocks, change};
+use super::table::{cell, head, row, row_of, Table, POSITION};
+use super::Sheet;
+use crate::answer::Tally;
+use crate::task::{Action, Task};
+use std::fmt::{Display, Formatter, Result};
+
+/// What the words of the outcomes mean, in the style of the rows that have them.
+const LEGEND: &str = "<dl class=\"legend\">
+<div><dt>kept</dt><dd>It stays in the shortened list.</dd></div>
+<div><dt><strong>marked</strong></dt>
+<dd>It stays, and no valid striking of the lodged list drops it.</dd></div>
+<div><dt><s>struck</s></dt><dd>The list does without it.</dd></div>
+</dl>
+<p>What a move does is told for the lodged list, in which all moves are made.</p>
+";
+
+/// What became of a lodged move.
+#[derive(Clone, Copy, PartialEq)]
+enum Outcome {
+    Kept,
+    Marked,
+    Struck,
+}
+
+impl Display for Outcome {
+    fn fmt(&self, out: &mut Formatter) -> Result {
+        out.write_str(match self {
+            Outcome::Kept => "kept",
+            Outcome::Marked => "marked",
+            Outcome::Struck => "struck",
+        })
+    }
+}
+
+/// A lodged move.
+struct Move<'a> {
+    /// Its place in the lodged list, from 1.
+    position: usize,
+    action: &'a Action,
+    outcome: Outcome,
+    /// The state that the lodged list has reached before it.
+    before: &'a [u32],
+}
+
+impl Move<'_> {
+    fn price(&self) -> u64 {
+        self.action.price.into()
+    }
+}
+
+fn moves<'a>(sheet: &'a Sheet) -> impl Iterator<Item = Move<'a>> {
+    let flags = sheet.shortened.kept.iter().zip(&sheet.shortened.marked);
+    let steps = sheet.list.iter().zip(flags).zip(&sheet.course.lodged);
+    steps
+        .enumerate()
+        .map(|(index, ((&number, flags), before))| Move {
+            position: index + 1,
+            action: &sheet.task.actions[number as usize],
+            outcome: match flags {
+                (false, _) => Outcome::Struck,
+                (true, true) => Outcome::Marked,
+                (true, false) => Outcome::Kept,
+            },
+            before,
+        })
+}
+
+/// The shortened list. Its positions are the lodged ones, so that both lists can be laid side by
+/// side.
+pub fn left(sheet: &Sheet) -> String {
+    let (mut rows, mut total) = (String::new(), 0);
+    for step in moves(sheet).filter(|step| step.outcome != Outcome::Struck) {
+        total += step.price();
+        rows += &left_row(&step, total);
+    }
+    let tally = sheet.shortened.left;
+    let table = Table {
+        attributes: r#"class="left""#,
+        columns: &[POSITION, "Move", "Price", "Total"],
+        rows,
+        sums: row(&[
+            cell(""),
+            head(so_many(tally)),
+            cell(""),
+            cell(Grouped(tally.price.into())),
+        ]),
+    };
+    format!(
+        "<section>\n<h2>The shortened list</h2>\n\
+         <p>Positions are those of the lodged list.</p>\n{}</section>\n",
+        table.html()
+    )
+}
+
+fn left_row(step: &Move, total: u64) -> String {
+    row(&[
+        cell(step.position),
+        head(Name(&step.action.name)),
+        cell(Grouped(step.price())),
+        cell(Grouped(total)),
+    ])
+}
+
+/// Every lodged move, with what became of it. The table tells its number of rows, so that a test
+/// can count them.
+pub fn lodged(sheet: &Sheet) -> String {
+    let tally = sheet.shortened.lodged;
+    let price = cell(Grouped(tally.price.into()));
+    let table = Table {
+        attributes: &format!(r#"class="lodged stack" data-moves="{}""#, sheet.list.len()),
+        columns: &[POSITION, "Move", "Price", "What it does", "Outcome"],
+        rows: moves(sheet)
+            .map(|step| lodged_row(sheet.task, &step))
+            .collect(),
+        sums: row(&[cell(""), head(so_many(tally)), price, cell(""), cell("")]),
+    };
+    format!(
+        "<section>\n<h2>Every lodged move</h2>\n{LEGEND}{}</section>\n",
+        table.html()
+    )
+}
+
+/// A struck name has a line through it, so that it is told apart without colour too.
+fn lodged_row(task: &Task, step: &Move) -> String {
+    let name = Name(&step.action.name);
+    let changes = step
+        .action
+        .effects
+        .iter()
+        .map(|&effect| change(task, effect, step.before));
+    let cells = [
+        cell(step.position),
+        match step.outcome {
+            Outcome::Struck => head(format_args!("<s>{name}</s>")),
+            Outcome::Kept | Outcome::Marked => head(name),
+        },
+        cell(Grouped(step.price())),
+        cell(blocks(changes)),
+        cell(step.outcome),
+    ];
+    row_of(step.outcome, &cells)
+}
+
+fn so_many(tally: Tally) -> String {
+    match tally.moves {
+        1 => "1 move".to_string(),
+        moves => format!("{moves} moves"),
+    }
+}
+
+#[cfg(test)]
+mod tests {
+    use super::super::sample::Sample;
+    use super::*;
+
+    const NO_ROWS: &str = "<tbody>\n</tbody>";
+
+    /// The lodged row at a position.
+    fn row_at(table: &str, position: usize) -> &str {
+        let start = format!("\"><td>{position}</td>");
+        table
+            .lines()
+            .find(|line| line.contains(&start))
+            .unwrap_or_default()
+    }
+
+    #[test]
+    fn each_lodged_move_has_a_row() {
+        let table = lodged(&Sample::new().sheet());
+        assert!(table.contains(r#"data-moves="4""#));
+        assert_eq!(table.matches("<tr class=").count(), 4);
+    }
+
+    #[test]
+    fn the_outcome_is_told_in_words_and_by_a_line() {
+        let table = lodged(&Sample::new().sheet());
+        let struck = row_at(&table, 1);
+        assert!(struck.starts_with(r#"<tr class="struck">"#));
+        assert!(struck.contains("<s><bdi>lift</bdi></s>"));
+        assert!(struck.ends_with("<td>struck</td></tr>"));
+        assert!(row_at(&table, 3).ends_with("<td>marked</td></tr>"));
+        let kept = row_at(&table, 4);
+        assert!(kept.ends_with("<td>kept</td></tr>"));
+        assert!(!kept.contains("<s>"));
+    }
+
+    #[test]
+    fn what_each_move_does_is_told() {
+        let table = lodged(&Sample::new().sheet());
+        assert!(row_at(&table, 1).contains("<bdi>shut</bdi> → <bdi>open</bdi>"));
+        assert!(row_at(&table, 3).contains("<div><bdi>lamp</bdi>: stays <bdi>off</bdi></div>"));
+        assert!(row_at(&table, 4).contains("<td>nothing</td>"));
+    }
+
+    #[test]
+    fn the_shortened_list_adds_up() {
+        let table = left(&Sample::new().sheet());
+        assert!(table.contains("<bdi>lift &amp; dim</bdi></th><td>1,000</td><td>1,000</td>"));
+        assert!(table.contains("<bdi>look</bdi></th><td>2</td><td>1,002</td>"));
+        assert!(!table.contains("<bdi>drop</bdi>"));
+        assert!(table.contains("2 moves"));
+    }
+
+    #[test]
+    fn an_empty_list_has_no_rows() {
+        let sample = Sample::empty();
+        assert!(left(&sample.sheet()).contains(NO_ROWS));
+        assert!(lodged(&sample.sheet()).contains(NO_ROWS));
+    }
+
+    #[test]
+    fn a_nasty_name_is_escaped_in_both_tables() {
+        let mut sample = Sample::new();
+        sample.rename_all("\"<b>'");
+        for table in [left(&sample.sheet()), lodged(&sample.sheet())] {
+            assert!(table.contains("<bdi>&quot;&lt;b&gt;&#39;</bdi>"));
+            assert!(!table.contains("<b>"));
+        }
+    }
+}

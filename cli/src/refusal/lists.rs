@@ -1,0 +1,103 @@
+//! Causes 8, 9, 11 and 12: what is wrong with a list.
+
+use super::{quoted, Lodging};
+use crate::course::start;
+use crate::failure::Failure;
+use crate::input::Part;
+use crate::library::{self, Refusal};
+use crate::sheet;
+use crate::task::Fact;
+
+const MOST_MOVES: usize = 255;
+const MOST_UNMARKED: usize = 20;
+
+/// The refusal of a sheet or of a list.
+pub fn of_list(refusal: Refusal, lodging: &Lodging) -> Failure {
+    let place = refusal.place as usize;
+    let message = match refusal.number {
+        1..=7 => lodging.sheet_message(refusal),
+        8 => return lodging.too_long(refusal, lodging.job.list.len()),
+        9 => lodging.unknown_action(place - 1),
+        11 if place > lodging.job.list.len() => lodging.unmet_goal(),
+        11 => lodging.undoable(place - 1),
+        12 => lodging.unmarked(place),
+        number => format!("{}: refused {number} {place}", lodging.origin.file),
+    };
+    Failure::refused(refusal, message)
+}
+
+impl Lodging<'_> {
+    /// The index of a move's word, behind the sheet and the list's length.
+    fn word_of(&self, move_at: usize) -> usize {
+        self.sheet.len() + 1 + move_at
+    }
+
+    pub fn too_long(&self, refusal: Refusal, moves: usize) -> Failure {
+        let message = format!("the list has {moves} moves, and {MOST_MOVES} at most are read");
+        let message = self.at(Part::Move(MOST_MOVES), self.sheet.len(), &message);
+        Failure::refused(refusal, message)
+    }
+
+    /// More moves than the exact reduction takes, and what to do about it.
+    fn unmarked(&self, moves: usize) -> String {
+        let message = format!(
+            "{moves} moves are unmarked, and the exact reduction takes {MOST_UNMARKED} at most; without --exact every \
+             valid list is answered"
+        );
+        self.at(Part::Whole, 0, &message)
+    }
+
+    fn unknown_action(&self, move_at: usize) -> String {
+        let (action, actions) = (self.job.list[move_at], sheet::actions(self.sheet));
+        let message = format!(
+            "move {} is action {action}, and there are {actions}, counted from 0",
+            move_at + 1
+        );
+        self.at(Part::Move(move_at), self.word_of(move_at), &message)
+    }
+
+    /// The first move that can't be done, and what it lacks.
+    fn undoable(&self, move_at: usize) -> String {
+        let action = self.job.list[move_at] as usize;
+        let lacks = self.lacks(&self.job.task.actions[action].needs, move_at);
+        let message = format!(
+            "move {}, {}, can't be done: it needs {lacks}",
+            move_at + 1,
+            self.action(action)
+        );
+        self.at(Part::Move(move_at), self.word_of(move_at), &message)
+    }
+
+    fn unmet_goal(&self) -> String {
+        let moves = self.job.list.len();
+        let lacks = self.lacks(&self.job.task.goal, moves);
+        let message = format!("the goal is not met after the last move: it asks for {lacks}");
+        self.at(Part::Goal, sheet::part(self.sheet, 2).at, &message)
+    }
+
+    /// Which facts do not hold after the first moves, and what holds instead.
+    fn lacks(&self, facts: &[Fact], moves: usize) -> String {
+        let task = &self.job.task;
+        let mut state = start(task);
+        for &action in &self.job.list[..moves] {
+            // Each of these moves can be done: the library has refused a later place.
+            let _ = library::step(self.sheet, &mut state, action);
+        }
+        let values = state.values(task.variables.len());
+        let lacking = facts
+            .iter()
+            .filter(|it| values[it.variable] as usize != it.value);
+        let told = lacking.map(|fact| {
+            let Fact { variable, value } = *fact;
+            let named = &task.variables[variable];
+            let [wanted, there] =
+                [value, values[variable] as usize].map(|it| quoted(named.values[it].clone()));
+            format!(
+                "{} to be {wanted}, and it is {there}",
+                self.variable(variable)
+            )
+        });
+        let told: Vec<String> = told.collect();
+        told.join("; ")
+    }
+}

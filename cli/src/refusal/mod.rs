@@ -1,0 +1,45 @@
+//! What a refusal means, in words: each cause of document 01's table as a sentence with names in
+//! it.
+//!
+//! - `sheets`: causes 1 to 7; `lists`: 8, 9, 11 and 12; `texts`: 13 to 15.
+
+mod lists;
+mod sheets;
+mod texts;
+
+pub use lists::of_list;
+pub use sheets::of_form;
+pub use texts::of_planner;
+
+use crate::input::{Origin, Part, Spot};
+use crate::job::Job;
+use crate::sheet;
+
+/// What was refused, by what names it has, and where it stands.
+pub struct Lodging<'a> {
+    pub sheet: &'a [u32],
+    pub job: &'a Job,
+    pub origin: &'a Origin,
+}
+
+impl Lodging<'_> {
+    fn variable(&self, v: usize) -> String {
+        let named = self.job.task.variables.get(v);
+        quoted(named.map_or_else(|| sheet::variable_name(v), |it| it.name.clone()))
+    }
+
+    fn action(&self, a: usize) -> String {
+        let named = self.job.task.actions.get(a);
+        quoted(named.map_or_else(|| sheet::action_name(a), |it| it.name.clone()))
+    }
+
+    /// A message that begins with file and line.
+    fn at(&self, part: Part, word: usize, message: &str) -> String {
+        format!("{}: {message}", self.origin.at(Spot { part, word }))
+    }
+}
+
+/// A name as messages have it, with what a terminal should not see made visible.
+fn quoted(name: String) -> String {
+    format!("{name:?}")
+}
