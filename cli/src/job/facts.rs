@@ -1,6 +1,6 @@
 //! Names and facts in the items of a job.
 
-use super::lines::{Entry, Item};
+use super::lines::{Entry, Item, Keyword};
 use super::tokens::Word;
 use super::{IS, NOTHING};
 use crate::fault::{Fault, Place};
@@ -58,7 +58,11 @@ impl Index {
     /// The index of a name; `lacks` says in front of it what is not there.
     pub fn find(&self, name: &Name, lacks: &str) -> Result<usize, Fault> {
         self.indices.get(&name.text).copied().ok_or_else(|| {
-            let hint = hint(&name.text, self.texts());
+            let first = name.text.split(' ').next().and_then(Keyword::of);
+            let hint = match first {
+                Some(_) => "; if this is a header, its colon is missing".to_string(),
+                None => hint(&name.text, self.texts()),
+            };
             Fault::at(name.place, format!("{lacks} {:?}{hint}", name.text))
         })
     }
@@ -133,7 +137,8 @@ fn fact(item: &Item, variables: &[Variable], index: &Index) -> Result<Fact, Faul
     };
     if parts.next().is_some() {
         let message =
-            format!("the word {IS} stands twice in one fact: a name that has it goes in quotes");
+            format!("the word {IS} stands twice here: a comma goes between two facts, and a name that has the \
+                 word in quotes");
         return Err(Fault::at(item[0].place, message));
     }
     if left.is_empty() || right.is_empty() {

@@ -37,7 +37,7 @@ impl Keyword {
         found.map_or("", |(text, _)| text)
     }
 
-    fn of(text: &str) -> Option<Keyword> {
+    pub fn of(text: &str) -> Option<Keyword> {
         let text = text.to_lowercase();
         let found = KEYWORDS.iter().find(|(it, _)| *it == text);
         found.map(|(_, keyword)| *keyword)
@@ -114,17 +114,33 @@ fn title(number: usize, line: &str) -> Option<Entry> {
 }
 
 fn continue_entry(tokens: Vec<Token>, entries: &mut [Entry]) -> Result<(), Fault> {
-    let Some(first) = tokens.first().map(Token::place) else {
+    let Some(first) = tokens.first() else {
         return Ok(());
     };
     let Some(entry) = entries.last_mut().filter(|it| it.keyword != Title) else {
-        return Err(Fault::at(
-            first,
-            format!("a header is expected here: {}", listed()),
-        ));
+        let message = format!("a header is expected here: {}", listed());
+        return Err(Fault::at(first.place(), message));
     };
+    let Place { line, .. } = first.place();
+    if let (true, Some(keyword)) = (line > entry.place.line, lost_header(entry, first)) {
+        let message = format!(
+            "if this is a header, its colon is missing; a name that begins with {:?} goes in quotes here",
+            keyword.text()
+        );
+        return Err(Fault::at(first.place(), message));
+    }
     entry.items.extend(items(tokens)?);
     Ok(())
+}
+
+/// The keyword that a line begins with, where it would silently be taken for a value or a price.
+fn lost_header(entry: &Entry, first: &Token) -> Option<Keyword> {
+    match first {
+        Token::Word(word) if !word.is_quoted && matches!(entry.keyword, Variable | Action) => {
+            Keyword::of(&word.text)
+        }
+        _ => None,
+    }
 }
 
 /// The headers that there are, as they are written.

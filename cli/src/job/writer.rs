@@ -47,7 +47,7 @@ fn put_variable(text: &mut String, variable: &Variable) {
         text,
         "",
         &header,
-        variable.values.iter().map(|it| quoted(it)),
+        variable.values.iter().map(|it| quoted_value(it)),
     );
 }
 
@@ -114,8 +114,21 @@ fn quoted(name: &str) -> String {
         && !words.iter().any(|it| it.starts_with('#') || *it == IS)
         && name != NOTHING;
     if is_plain {
-        return name.to_string();
+        name.to_string()
+    } else {
+        in_quotes(name)
     }
+}
+
+/// A value's name, in quotes also where a line that it begins would look like a header.
+fn quoted_value(name: &str) -> String {
+    match name.split_whitespace().next().and_then(Keyword::of) {
+        Some(_) => in_quotes(name),
+        None => quoted(name),
+    }
+}
+
+fn in_quotes(name: &str) -> String {
     let escaped = name.replace('\\', "\\\\").replace('"', "\\\"");
     format!("\"{escaped}\"")
 }

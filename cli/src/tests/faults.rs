@@ -77,6 +77,17 @@ fn headers() {
 }
 
 #[test]
+fn headers_without_a_colon() {
+    let lost = "if this is a header, its colon is missing; a name that begins with";
+    let told = |word: &str| format!("{lost} {word:?} goes in quotes here");
+    says("start:", "start", &format!("a.job:2:1: {}", told("start")));
+    says("needs:", "needs", &format!("a.job:5:3: {}", told("needs")));
+    let unknown = "a.job:3:1: there is no variable \"goal gate\"; if this is a header, its colon is missing\n\
+                   a.job: the job has no \"goal:\"";
+    says("goal:", "goal", unknown);
+}
+
+#[test]
 fn names() {
     says(
         "lift\n",
@@ -161,7 +172,8 @@ fn facts() {
         "a.job:3:7: a fact is expected, as in: gate is open",
     );
     let twice =
-        "a.job:3:7: the word is stands twice in one fact: a name that has it goes in quotes";
+        "a.job:3:7: the word is stands twice here: a comma goes between two facts, and a name that has \
+                 the word in quotes";
     says("goal: gate is open", "goal: gate is is open", twice);
     says(
         "goal: gate is open",

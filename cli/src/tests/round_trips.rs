@@ -79,6 +79,9 @@ fn nasty() -> Job {
         "<script>",
         "\u{5e9}\u{5dc}",
         "i is j",
+        "start now",
+        "list of all that is to be done in the course of a day at the weir, and of a night",
+        "needs",
     ];
     let values: Vec<String> = names.iter().map(|it| it.to_string()).collect();
     let variable = |name: &&str| Variable {
