@@ -11,7 +11,7 @@ use crate::options::{Command, Request, Shown, Verb};
 use crate::page::{page, Sheet};
 use crate::planner;
 use crate::shorten::{claim, shorten, Asked};
-use crate::table::{counted, table};
+use crate::table::table;
 use crate::terminal;
 use std::io::Write;
 
@@ -47,8 +47,8 @@ fn answer(command: &Command, lodged: &Lodged) -> Result<Vec<u8>, Failure> {
     match command.verb {
         Verb::Shorten => shortened(command, lodged),
         Verb::Check => {
-            let Tally { price, moves } = lodged.check()?;
-            Ok(format!("valid: {}, price {price}\n", counted(moves)).into_bytes())
+            let tally = lodged.check()?;
+            Ok(format!("valid: {}, price {}\n", tally.so_many(), tally.price).into_bytes())
         }
         Verb::Words if command.is_binary => Ok(lodged.bytes()),
         Verb::Words => Ok(library::text_of(&lodged.bytes())),

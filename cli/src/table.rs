@@ -1,6 +1,6 @@
 //! A list that was shortened, as a table for people.
 
-use crate::answer::{Shortened, Tally};
+use crate::answer::{Outcome, Shortened};
 use crate::job::Job;
 use crate::shorten::claim;
 use crate::task::{Action, Task};
@@ -14,39 +14,12 @@ pub struct Style {
     pub columns: Option<usize>,
 }
 
-/// What becomes of a move.
-#[derive(Clone, Copy, PartialEq)]
-pub enum Fate {
-    Kept,
-    Struck,
-    /// Kept, and no valid striking drops it.
-    Marked,
-}
-
-impl Fate {
-    pub fn of(shortened: &Shortened, move_at: usize) -> Fate {
-        match (shortened.kept[move_at], shortened.marked[move_at]) {
-            (false, _) => Fate::Struck,
-            (true, true) => Fate::Marked,
-            (true, false) => Fate::Kept,
-        }
-    }
-
-    pub fn word(self) -> &'static str {
-        match self {
-            Fate::Kept => "kept",
-            Fate::Struck => "struck",
-            Fate::Marked => "marked",
-        }
-    }
-
-    /// The terminal's sign for it: struck moves faint, marked ones bold.
-    fn colour(self) -> &'static str {
-        match self {
-            Fate::Kept => "",
-            Fate::Struck => "\x1b[2;9m",
-            Fate::Marked => "\x1b[1m",
-        }
+/// The terminal's sign for an outcome: struck moves faint, marked ones bold.
+fn colour(outcome: Outcome) -> &'static str {
+    match outcome {
+        Outcome::Kept => "",
+        Outcome::Struck => "\x1b[2;9m",
+        Outcome::Marked => "\x1b[1m",
     }
 }
 
@@ -55,77 +28,83 @@ const PLAIN: &str = "\x1b[0m";
 /// All moves with what becomes of each, the prices, and what is proved.
 pub fn table(job: &Job, shortened: &Shortened, style: Style) -> String {
     let mut text = rows(job, shortened, style);
-    let Shortened { lodged, left, .. } = shortened;
-    let saved = Tally {
-        price: lodged.price - left.price,
-        moves: lodged.moves - left.moves,
-    };
+    let tallies = [
+        ("lodged", shortened.lodged),
+        ("kept", shortened.left),
+        ("saved", shortened.saved()),
+    ];
     text.push('\n');
-    for (what, tally) in [("lodged", *lodged), ("kept", *left), ("saved", saved)] {
-        let Tally { price, moves } = tally;
-        let _ = writeln!(text, "{what:<6}  {:>9}, price {price}", counted(moves));
+    for (what, tally) in tallies {
+        let price = tally.price;
+        let _ = writeln!(text, "{what:<6}  {:>9}, price {price}", tally.so_many());
     }
     let width = style.columns.unwrap_or(PAGE);
     let _ = write!(text, "\n{}", filled(&claim(shortened.way), width));
     text
 }
 
-/// So many moves, as one says it.
-pub fn counted(moves: u32) -> String {
-    match moves {
-        1 => "1 move".to_string(),
-        _ => format!("{moves} moves"),
-    }
-}
-
 /// So wide are paragraphs where no terminal says otherwise.
 const PAGE: usize = 100;
 
-fn rows(job: &Job, shortened: &Shortened, style: Style) -> String {
-    let action = |it: &u32| &job.task.actions[*it as usize];
-    let names = job.list.iter().map(|it| shown(&action(it).name));
-    let names: Vec<String> = names.collect();
-    let name_width = names
-        .iter()
-        .map(|it| width(it))
-        .max()
-        .unwrap_or(0)
-        .max(NAME.len());
-    let prices = job.list.iter().map(|it| action(it).price.to_string().len());
-    let price_width = prices.max().unwrap_or(0).max(PRICE.len());
-    let mut text = String::new();
-    let _ = writeln!(
-        text,
-        "move  {}  {PRICE:>price_width$}",
-        padded(NAME, name_width)
-    );
-    for (at, (number, name)) in job.list.iter().zip(&names).enumerate() {
-        let fate = Fate::of(shortened, at);
-        let price = action(number).price;
-        let name = padded(name, name_width);
-        let row = format!(
-            "{:>4}  {name}  {price:>price_width$}  {:<6}",
-            at + 1,
-            fate.word()
-        );
-        let does = effects(action(number), &job.task);
-        let room = style.columns.unwrap_or(0).saturating_sub(width(&row) + 2);
-        let row = if width(&does) <= room {
-            format!("{row}  {does}")
-        } else {
-            row
-        };
-        let row = row.trim_end();
-        let _ = match style.has_colours {
-            true => writeln!(text, "{}{row}{PLAIN}", fate.colour()),
-            false => writeln!(text, "{row}"),
-        };
-    }
-    text
-}
-
 const NAME: &str = "name";
 const PRICE: &str = "price";
+
+fn rows(job: &Job, shortened: &Shortened, style: Style) -> String {
+    let actions = job.list.iter().map(|it| &job.task.actions[*it as usize]);
+    let widest = |widths: &mut dyn Iterator<Item = usize>, head: &str| {
+        widths.max().unwrap_or(0).max(head.len())
+    };
+    let columns = Columns {
+        task: &job.task,
+        name: widest(&mut actions.clone().map(|it| width(&shown(&it.name))), NAME),
+        price: widest(
+            &mut actions.clone().map(|it| it.price.to_string().len()),
+            PRICE,
+        ),
+        style,
+    };
+    let rows = actions
+        .enumerate()
+        .map(|(index, action)| columns.row(index + 1, action, shortened.outcome(index)));
+    let rows: String = rows.collect();
+    columns.head() + &rows
+}
+
+/// How wide the columns of names and prices are.
+struct Columns<'a> {
+    task: &'a Task,
+    name: usize,
+    price: usize,
+    style: Style,
+}
+
+impl Columns<'_> {
+    fn head(&self) -> String {
+        let width = self.price;
+        format!("move  {}  {PRICE:>width$}\n", padded(NAME, self.name))
+    }
+
+    /// The row of a move. What it does stands behind, where a terminal has room for it.
+    fn row(&self, position: usize, action: &Action, outcome: Outcome) -> String {
+        let (name, price) = (padded(&shown(&action.name), self.name), action.price);
+        let price_width = self.price;
+        let mut row = format!("{position:>4}  {name}  {price:>price_width$}  {outcome:<6}");
+        let does = effects(action, self.task);
+        let room = self
+            .style
+            .columns
+            .unwrap_or(0)
+            .saturating_sub(width(&row) + 2);
+        if width(&does) <= room {
+            let _ = write!(row, "  {does}");
+        }
+        let row = row.trim_end();
+        match self.style.has_colours {
+            true => format!("{}{row}{PLAIN}\n", colour(outcome)),
+            false => format!("{row}\n"),
+        }
+    }
+}
 
 /// What an action does, for the last column of a wide terminal.
 fn effects(action: &Action, task: &Task) -> String {

@@ -4,9 +4,8 @@ use super::escape::{Grouped, Name};
 use super::facts::{blocks, change};
 use super::table::{cell, head, row, row_of, Table, POSITION};
 use super::Sheet;
-use crate::answer::Tally;
+use crate::answer::Outcome;
 use crate::task::{Action, Task};
-use std::fmt::{Display, Formatter, Result};
 
 /// What the words of the outcomes mean, in the style of the rows that have them.
 const LEGEND: &str = "<dl class=\"legend\">
@@ -17,24 +16,6 @@ const LEGEND: &str = "<dl class=\"legend\">
 </dl>
 <p>What a move does is told for the lodged list, in which all moves are made.</p>
 ";
-
-/// What became of a lodged move.
-#[derive(Clone, Copy, PartialEq)]
-enum Outcome {
-    Kept,
-    Marked,
-    Struck,
-}
-
-impl Display for Outcome {
-    fn fmt(&self, out: &mut Formatter) -> Result {
-        out.write_str(match self {
-            Outcome::Kept => "kept",
-            Outcome::Marked => "marked",
-            Outcome::Struck => "struck",
-        })
-    }
-}
 
 /// A lodged move.
 struct Move<'a> {
@@ -53,20 +34,13 @@ impl Move<'_> {
 }
 
 fn moves<'a>(sheet: &'a Sheet) -> impl Iterator<Item = Move<'a>> {
-    let flags = sheet.shortened.kept.iter().zip(&sheet.shortened.marked);
-    let steps = sheet.list.iter().zip(flags).zip(&sheet.course.lodged);
-    steps
-        .enumerate()
-        .map(|(index, ((&number, flags), before))| Move {
-            position: index + 1,
-            action: &sheet.task.actions[number as usize],
-            outcome: match flags {
-                (false, _) => Outcome::Struck,
-                (true, true) => Outcome::Marked,
-                (true, false) => Outcome::Kept,
-            },
-            before,
-        })
+    let steps = sheet.list.iter().zip(&sheet.course.lodged).enumerate();
+    steps.map(|(index, (&number, before))| Move {
+        position: index + 1,
+        action: &sheet.task.actions[number as usize],
+        outcome: sheet.shortened.outcome(index),
+        before,
+    })
 }
 
 /// The shortened list. Its positions are the lodged ones, so that both lists can be laid side by
@@ -84,7 +58,7 @@ pub fn left(sheet: &Sheet) -> String {
         rows,
         sums: row(&[
             cell(""),
-            head(so_many(tally)),
+            head(tally.so_many()),
             cell(""),
             cell(Grouped(tally.price.into())),
         ]),
@@ -116,7 +90,7 @@ pub fn lodged(sheet: &Sheet) -> String {
         rows: moves(sheet)
             .map(|step| lodged_row(sheet.task, &step))
             .collect(),
-        sums: row(&[cell(""), head(so_many(tally)), price, cell(""), cell("")]),
+        sums: row(&[cell(""), head(tally.so_many()), price, cell(""), cell("")]),
     };
     format!(
         "<section>\n<h2>Every lodged move</h2>\n{LEGEND}{}</section>\n",
@@ -143,13 +117,6 @@ fn lodged_row(task: &Task, step: &Move) -> String {
         cell(step.outcome),
     ];
     row_of(step.outcome, &cells)
-}
-
-fn so_many(tally: Tally) -> String {
-    match tally.moves {
-        1 => "1 move".to_string(),
-        moves => format!("{moves} moves"),
-    }
 }
 
 #[cfg(test)]

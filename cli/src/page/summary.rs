@@ -14,7 +14,7 @@ pub fn section(sheet: &Sheet) -> String {
         rows: [
             tally_row("Lodged", lodged),
             tally_row("Kept", left),
-            tally_row("Saved", saved(lodged, left)),
+            tally_row("Saved", sheet.shortened.saved()),
         ]
         .concat(),
         sums: String::new(),
@@ -32,13 +32,6 @@ pub fn section(sheet: &Sheet) -> String {
 fn tally_row(what: &str, tally: Tally) -> String {
     let numbers = [tally.price, tally.moves].map(|number| cell(Grouped(number.into())));
     row(&[head(what), numbers.concat()])
-}
-
-fn saved(lodged: Tally, left: Tally) -> Tally {
-    Tally {
-        price: lodged.price.saturating_sub(left.price),
-        moves: lodged.moves.saturating_sub(left.moves),
-    }
 }
 
 /// The licence answers the office's question. The other ways of striking do not, whatever they

@@ -53,7 +53,7 @@ fn a_file_that_looks_like_an_option() {
 }
 
 #[test]
-fn wrong_words() {
+fn wrong_commands() {
     says(
         "shroten a.job",
         "there is no command \"shroten\" (hollchiku --help lists them); did you mean shorten?",
@@ -74,6 +74,10 @@ fn wrong_words() {
         "/",
         "\"/\" is a file, and a command is expected before it: hollchiku shorten /",
     );
+}
+
+#[test]
+fn wrong_options() {
     says(
         "shorten --exakt a.job",
         "shorten has no option \"--exakt\"; did you mean --exact?",

@@ -64,6 +64,10 @@ fn headers() {
         "start, goal:",
         "a.job:2:6: a comma is not expected before the colon of a header",
     );
+}
+
+#[test]
+fn headers_and_what_stands_behind_them() {
     let price = "a.job:5:3: the price stands behind the action's name: action NAME: price 5";
     says("lift: price 5", "lift:\n  price: 5", price);
     let colon = "a.job:7:11: a second colon in one line: a header begins a line of its own, and a name with a colon goes in \

@@ -6,6 +6,7 @@ mod faults;
 mod kept;
 mod refusals;
 mod round_trips;
+mod times;
 
 use crate::failure::Failure;
 use crate::input::{read_files, File, Lodged};

@@ -159,7 +159,7 @@ fn cause_4() {
 }
 
 #[test]
-fn causes_5_to_7() {
+fn cause_5() {
     says(
         "2 3\n",
         "0 3\n",
@@ -178,6 +178,10 @@ fn causes_5_to_7() {
         4,
         "\"v1\" starts at value 3, and its values are 0 to 2",
     );
+}
+
+#[test]
+fn causes_6_and_7() {
     says(
         "\n1\n",
         "\n999\n",

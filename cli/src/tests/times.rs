@@ -1,0 +1,50 @@
+//! How long the longest jobs take. A measure and no test: cli/tests/times runs it.
+
+use super::read;
+use super::round_trips::records;
+use crate::job;
+use crate::shorten::{shorten, Asked};
+use crate::table::{table, Style};
+use std::time::{Duration, Instant};
+
+/// The most moves of a list.
+const LONGEST: usize = 255;
+/// Of so many runs of a job the best counts.
+const RUNS: usize = 5;
+
+#[test]
+#[ignore = "a measure"]
+fn of_the_longest_jobs() {
+    let records = records();
+    let texts = records.iter().filter_map(|it| text_of_longest(it));
+    let mut times: Vec<Duration> = texts.map(|it| best_of(&it)).collect();
+    times.sort();
+    let [median, longest] =
+        [times.len() / 2, times.len() - 1].map(|at| times[at].as_secs_f64() * 1e3);
+    let count = times.len();
+    println!("{count} jobs of {LONGEST} moves, read, shortened and shown: median {median:.2} ms, longest {longest:.2} ms");
+}
+
+/// The job of a record whose list is valid and as long as it may be.
+fn text_of_longest(record: &[u8]) -> Option<String> {
+    let lodged = read("words", record).ok()?;
+    let is_longest = lodged.job.list.len() == LONGEST && lodged.check().is_ok();
+    is_longest.then(|| job::write(&lodged.job))
+}
+
+fn best_of(text: &str) -> Duration {
+    let style = Style {
+        has_colours: false,
+        columns: None,
+    };
+    let runs = (0..RUNS).map(|_| {
+        let start = Instant::now();
+        let lodged =
+            read("a.job", text.as_bytes()).unwrap_or_else(|it| panic!("{:?}", it.messages));
+        let answered = shorten(&lodged, Asked::Licence).expect("every valid list is answered");
+        let shown = table(&lodged.job, &answered, style);
+        std::hint::black_box(shown);
+        start.elapsed()
+    });
+    runs.min().unwrap_or_default()
+}
