@@ -1,11 +1,12 @@
 -- The round trip: the words of the text that is printed for words are those words, whatever their form. By laying the text out line by line. Assumes nothing.
-use Prim.Native.Nat.{ℕ, zero, suc, _+_, _-_, _≤_, max}
+use Prim.Native.Nat.{ℕ, zero, suc, _+_, _-_, _*_, _/_, _%_, _≤_, max}
 use native.Mathlib.Omega.{arith}
 use mathlib.Core.Path.{_≡_, refl, sym, _∙_, ap, subst}
 use mathlib.Core.Bool.{Bool, true, false, cond, _&&_, not, and-eq-true-iff}
 use mathlib.Core.List.{List, [], _∷_, _++_, append-assoc, append-nil}
 use lib.ListN.{length, take, drop, length-drop, take-append-drop}
 use lib.Dec.{ltb}
+use borrow.Author.Tests.{le-ltb, eq-eqb}
 use Rattle.ascii.specs.Bytes.{ascii, line-end}
 use Rattle.lines.specs.Lines.{spaced}
 use Rattle.sheet.specs.Limits.{limits}
@@ -13,14 +14,19 @@ use Rattle.sheet.specs.Layout.{actions}
 use Rattle.sheet.specs.Decode.{table}
 use Rattle.program.specs.declared.frame.Frame.{Frame}
 use Rattle.program.specs.declared.frame.Frame.the-variants.{Broken, Long, Whole}
-use Rattle.program.specs.Bytes.{Word-sized}
+use Rattle.program.specs.Form.{word-bytes, unpacked, input-form}
+use Rattle.program.specs.Bytes.{all-bytes, Word-sized}
+use Rattle.program.proofs.BytesTheorem.{bytes-read-back, all-bytes-length}
 use Rattle.ascii.specs.Bytes.{ends-line}
-use Rattle.text.specs.Text.{Words, reading}
+use Rattle.text.specs.Text.{Words, reading, found-in}
+use Rattle.text.specs.Limits.{most}
 use Rattle.text.specs.between.Lays.{Unbroken, Lays}
 use Rattle.text.specs.between.Lays as lays
+use Rattle.text.proofs.ReaderLaws.{found-whole}
 use Rattle.text.proofs.LaysTheorem.{round-trip, numeral-unbroken}
+use Rattle.text.proofs.RoomTheorem.{text-fits}
 use Rattle.text.specs.Layout.{rows-within, rows, comment, Section, laid-out, action-title, action-section, sections, list-sections, record-text}
-use Rattle.text.specs.Shown.{text-whole, text-framed}
+use Rattle.text.specs.Shown.{words-in, text-whole, text-framed, text-of, shown}
 
 -- words in lines, in front of a text
 lines-lay : (n : ℕ) (ws : List ℕ) {ys t : List ℕ} → length ws ≤ n → Lays ys t → Lays (ws ++ ys) (rows-within n ws ++ t)
@@ -116,3 +122,18 @@ text-lays (Whole n m end) ws = by-case (ltb (limits .actions) (actions (take n w
 
 pub printed-read-back : (f : Frame) (ws : List ℕ) (room : ℕ) → Word-sized ws → length ws ≤ room → reading room (text-framed f ws) ≡ Words ws
 printed-read-back f ws room small low = round-trip ws (text-framed f ws) (text-lays f ws) small room low
+
+-- so the text that is shown of the bytes of words is read as those words
+pub shown-read-back : (ws : List ℕ) → Word-sized ws → length ws ≤ most → found-in most (shown (all-bytes ws)) ≡ Words ws
+unfolding shown text-of
+shown-read-back ws small low =
+    let bytes = all-bytes ws in
+    let form = input-form 0 bytes in
+    let long : length bytes ≡ word-bytes * length ws = all-bytes-length ws in
+    let few : length bytes ≤ word-bytes * most = omega arith in
+    let whole : length bytes % word-bytes ≡ 0 = omega arith in
+    let count : length bytes / word-bytes ≡ length ws = omega arith in
+    let words : words-in bytes ≡ ws = ap (unpacked bytes) count ∙ bytes-read-back ws small in
+    let text : shown bytes ≡ text-framed form ws =
+    rw (shown, le-ltb (word-bytes * most) (length bytes) few, eq-eqb (length bytes % word-bytes) 0 whole) (ap (text-framed form) words) in
+    ap (found-in most) text ∙ sym (found-whole most (text-framed form ws) (omega (arith, text-fits form ws small low))) ∙ printed-read-back form ws most small low

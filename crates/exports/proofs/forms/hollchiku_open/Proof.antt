@@ -1,6 +1,5 @@
 -- `hollchiku_open` meets its contract, by what is found of the input. Assumes nothing.
 use native.Mathlib.Omega.{arith}
-use mathlib.Core.Path.{refl}
 use Rattle.exports.proofs.LentFormLaws.{refusal-lent, record-lent}
 use borrow.Author.Needs.{needs}
 use Rattle.exports.proofs.forms.hollchiku_open.Statement.{statement}
