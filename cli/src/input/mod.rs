@@ -63,8 +63,15 @@ pub fn read_files(file: &File, plan: Option<&File>) -> Result<Lodged, Failure> {
 }
 
 impl Lodged {
-    /// Has the library check the list.
+    /// Has the library check the list, which must have been given.
     pub fn check(&self) -> Result<Tally, Failure> {
+        if let Form::Planner { lines: None, .. } = self.origin.form {
+            let message = format!(
+                "{}: its plan is expected behind it, {WITH_PLAN}",
+                self.origin.file
+            );
+            return Err(Failure::unread(message));
+        }
         let tally = library::check_list(&self.sheet, &self.job.list);
         tally.map_err(|refusal| self.refused(refusal))
     }
@@ -97,14 +104,20 @@ fn read_file(file: &str) -> Result<File<'_>, Failure> {
     Ok(File { name, bytes })
 }
 
+/// How a plan is given.
+const WITH_PLAN: &str = "as in: hollchiku shorten output.sas sas_plan";
+
 /// Why a file of this content is no job.
-fn why_not(content: &Content) -> &'static str {
-    match content {
-        Content::Plan => "a plan alone: give the planner's text before it, as in: hollchiku shorten output.sas sas_plan",
+fn why_not(content: &Content) -> String {
+    let why = match content {
+        Content::Plan => {
+            return format!("a plan alone: give the planner's text before it, {WITH_PLAN}")
+        }
         Content::Empty => "there is nothing in it but white space and comments",
         Content::Utf16 => "a text in UTF-16: save it as UTF-8",
         _ => "neither a text nor words: it holds bytes of another kind of file",
-    }
+    };
+    why.to_string()
 }
 
 fn read_job(file: &File) -> Result<Lodged, Failure> {
@@ -180,7 +193,7 @@ fn read_planner(file: &File, plan: Option<&File>) -> Result<Lodged, Failure> {
     let names = planner::names(&text);
     let moves = plan.map_or(Ok(Vec::new()), |plan| read_plan(plan, &names.actions))?;
     let form = Form::Planner {
-        lines: moves.iter().map(|it| it.line).collect(),
+        lines: plan.map(|_| moves.iter().map(|it| it.line).collect()),
         names: names.actions.clone(),
         unit_cost: names.unit_cost,
     };

@@ -34,10 +34,10 @@ pub enum Form {
     /// The text of words.
     Words(Vec<u8>),
     Binary,
-    /// The lines of a plan's moves, the names of the actions as the planner has them, and whether
-    /// each costs 1.
+    /// The lines of a plan's moves, if there is a plan; the names of the actions as the planner has
+    /// them, and whether each costs 1.
     Planner {
-        lines: Vec<usize>,
+        lines: Option<Vec<usize>>,
         names: Vec<String>,
         unit_cost: bool,
     },
@@ -65,7 +65,7 @@ impl Origin {
             (Form::Job(lines), Part::Action(a)) => lines.actions.get(a).copied(),
             (Form::Job(lines), Part::Goal) => Some(lines.goal),
             (Form::Job(lines), Part::Move(i)) => lines.moves.get(i).copied(),
-            (Form::Planner { lines, .. }, Part::Move(i)) => lines.get(i).copied(),
+            (Form::Planner { lines, .. }, Part::Move(i)) => lines.as_ref()?.get(i).copied(),
             _ => None,
         }
     }

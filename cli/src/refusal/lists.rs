@@ -1,4 +1,4 @@
-//! Causes 8, 9, 11 and 12: what is wrong with a list.
+//! Causes 8 to 12: what is wrong with a list.
 
 use super::{quoted, Lodging};
 use crate::course::start;
@@ -21,7 +21,7 @@ pub fn of_list(refusal: Refusal, lodging: &Lodging) -> Failure {
         11 if place > lodging.job.list.len() => lodging.unmet_goal(),
         11 => lodging.undoable(place - 1),
         12 => lodging.unmarked(place),
-        number => format!("{}: refused {number} {place}", lodging.origin.file),
+        _ => lodging.no_room(),
     };
     Failure::refused(refusal, message)
 }
@@ -36,6 +36,15 @@ impl Lodging<'_> {
         let message = format!("the list has {moves} moves, and {MOST_MOVES} at most are read");
         let message = self.at(Part::Move(MOST_MOVES), self.sheet.len(), &message);
         Failure::refused(refusal, message)
+    }
+
+    /// The front end lends room for every list, so this is never to be seen.
+    fn no_room(&self) -> String {
+        self.at(
+            Part::Whole,
+            0,
+            "the answer has no room, which is a fault of hollchiku itself",
+        )
     }
 
     /// More moves than the exact reduction takes, and what to do about it.

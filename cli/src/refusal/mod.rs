@@ -1,7 +1,7 @@
 //! What a refusal means, in words: each cause of document 01's table as a sentence with names in
 //! it.
 //!
-//! - `sheets`: causes 1 to 7; `lists`: 8, 9, 11 and 12; `texts`: 13 to 15.
+//! - `sheets`: causes 1 to 7; `lists`: 8 to 12; `texts`: 13 to 15.
 
 mod lists;
 mod sheets;

@@ -122,6 +122,17 @@ fn a_planners_text_with_its_plan() {
 }
 
 #[test]
+fn a_planners_text_without_a_plan() {
+    let lodged = read("lock.sas", LOCK).expect("a planner's text alone is a job without moves");
+    let told = lodged
+        .check()
+        .map_err(|it| (it.status, it.messages.join("\n")));
+    let message =
+        "lock.sas: its plan is expected behind it, as in: hollchiku shorten output.sas sas_plan";
+    assert_eq!(told.err(), Some((2, message.to_string())));
+}
+
+#[test]
 fn a_second_file_for_a_job() {
     let job = File {
         name: "a.job",

@@ -1,7 +1,7 @@
 //! Each cause of refusal once, with its file, its line and its names.
 
 use super::{changed, read, said, SMALL};
-use crate::library;
+use crate::library::{self, Refusal};
 use crate::shorten::{shorten, Asked};
 
 /// The words of a small sheet and its list: two variables, three actions, two moves.
@@ -302,6 +302,18 @@ fn too_many_actions() {
     );
     let message = "a.job: it is too large: its sheet has 10279 words, and a sheet has 4 to 8192";
     says_of_job(&format!("{variables}{large}"), message);
+}
+
+/// No command meets it, since room is lent for every list.
+#[test]
+fn cause_10() {
+    let lodged = read("a.job", SMALL.as_bytes()).expect("this is a job");
+    let refusal = Refusal {
+        number: 10,
+        place: 1,
+    };
+    let message = "a.job: the answer has no room, which is a fault of hollchiku itself";
+    assert_eq!(lodged.refused(refusal).messages, [message]);
 }
 
 #[test]
