@@ -1,13 +1,12 @@
-// The services as a static library, for programs in other languages: C's names, slices and numbers alone.
-// A slice is passed as its pointer and then its length. Slices that are lent to be written overlap no other slice of
-// the same call: nothing checks that. What does not fit into a lent slice is dropped.
-// Lent outputs, which a refusal leaves untouched: `state` of `hollchiku_step`, `output`, `first` and `second`, `words` of
-// `hollchiku_read_words` and `hollchiku_open`, and `text` of `hollchiku_text_of`.
-// Return channels, which every call writes, on a refusal with document 01's zeros: `out`, `mask`, `part`, and `state`
-// of `hollchiku_check_plan`. So are `bytes`, which no call refuses, and `text` of `hollchiku_license_lines` and
-// `hollchiku_shorten_lines`, where a refusal has its line. A slice that is lent to be read is only read.
-// lent: how answers and states go into lent words, and how a state is read from them. forms: the forms that programs
-// read and print.
+// The services as a static library, for programs in other languages: C's names, slices and numbers alone. A slice is
+// passed as its pointer and then its length. Slices that are lent to be written overlap no other slice of the same
+// call: nothing checks that. What does not fit into a lent slice is dropped. Lent outputs, which a refusal leaves
+// untouched: `state` of `hollchiku_step`, `output`, `first` and `second`, `words` of `hollchiku_read_words` and
+// `hollchiku_open`, and `text` of `hollchiku_text_of`. Return channels, which every call writes, on a refusal with
+// document 01's zeros: `out`, `mask`, `part`, and `state` of `hollchiku_check_plan`. So are `bytes`, which no call
+// refuses, and `text` of `hollchiku_license_lines` and `hollchiku_shorten_lines`, where a refusal has its line. A slice
+// that is lent to be read is only read. lent: how answers and states go into lent words, and how a state is read from
+// them. forms: the forms that programs read and print.
 mod forms;
 mod lent;
 

@@ -1,5 +1,5 @@
--- Report: the lines that are printed of a list that is shortened. Shortened, Licensed: what is printed for a sheet and a
--- list, by the minimal reduction and by the licence.
+-- Report: the lines that are printed of a list that is shortened. Shortened, Licensed: what is printed for a sheet and
+-- a list, by the minimal reduction and by the licence.
 pub mod Report
 pub mod Shortened
 pub mod Licensed
