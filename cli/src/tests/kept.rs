@@ -40,6 +40,21 @@ and no move more can be struck from what is left. It may be lodged.
     assert_eq!(table(&lodged.job, &answered, PLAIN), expected);
 }
 
+/// The table that the first page shows is the one that is printed, but for rows that it leaves out.
+#[test]
+fn the_table_of_the_first_page() {
+    let readme = include_str!("../../../README.md");
+    let printed = include_str!("../../../examples/weir.table");
+    let block = readme.split("```").find(|it| it.contains("move  name"));
+    let lines = block.unwrap_or_default().trim().lines();
+    let told: Vec<&str> = lines.filter(|it| *it != "  ...").collect();
+    assert!(told.len() > 10);
+    let missing = told
+        .iter()
+        .find(|it| !printed.lines().any(|line| line == **it));
+    assert_eq!(missing, None);
+}
+
 #[test]
 fn colours_and_effects_on_a_wide_terminal() {
     let lodged = twice();
