@@ -1,9 +1,11 @@
 //! The reading of a job in any of its forms.
 //!
 //! - `content`: which form a file has;
+//! - `named`: a task with a planner's names;
 //! - `origin`: where the parts of a job stand in what was read.
 
 mod content;
+mod named;
 mod origin;
 
 pub use origin::{Form, Origin, Part, Spot};
@@ -17,7 +19,7 @@ use crate::refusal::{self, Lodging};
 use crate::sheet;
 use crate::task::Task;
 use content::{content, text, with_line_ends, Content};
-use std::collections::HashSet;
+use named::named;
 use std::io::Read;
 
 /// What a command works on: a sheet that the library has accepted, and a list.
@@ -213,53 +215,4 @@ fn read_plan(plan: &File, actions: &[String]) -> Result<Vec<planner::Move>, Fail
     }
     let moves = planner::read_plan(&String::from_utf8_lossy(bytes), actions);
     moves.map_err(|fault| Failure::faulty(name, &[fault]))
-}
-
-/// A task with a planner's names. A job tells its parts apart by their names, so later ones of
-/// equal names get numbers.
-fn named(mut task: Task, names: planner::Names) -> Task {
-    for (variable, name) in task.variables.iter_mut().zip(distinct(names.variables)) {
-        variable.name = name;
-    }
-    for (variable, values) in task.variables.iter_mut().zip(names.values) {
-        variable.values = distinct(values);
-    }
-    for (action, name) in task.actions.iter_mut().zip(distinct(names.actions)) {
-        action.name = name;
-    }
-    task
-}
-
-/// What a thing is called whose name is empty.
-const NAMELESS: &str = "(no name)";
-
-/// Names that can be told apart and shown: what no text holds is replaced, and a name that was
-/// there gets a number.
-fn distinct(names: Vec<String>) -> Vec<String> {
-    let mut taken = HashSet::new();
-    let shown = names.into_iter().map(|name| {
-        let shown: String = name
-            .chars()
-            .map(|it| {
-                if it.is_control() {
-                    char::REPLACEMENT_CHARACTER
-                } else {
-                    it
-                }
-            })
-            .collect();
-        let shown = if shown.is_empty() {
-            NAMELESS.to_string()
-        } else {
-            shown
-        };
-        let numbered = (2..).map(|number| format!("{shown} ({number})"));
-        let free = std::iter::once(shown.clone())
-            .chain(numbered)
-            .find(|it| !taken.contains(it));
-        let free = free.unwrap_or(shown);
-        taken.insert(free.clone());
-        free
-    });
-    shown.collect()
 }

@@ -13,7 +13,6 @@ pub struct Lines {
     pub variables: Vec<usize>,
     pub actions: Vec<usize>,
     pub goal: usize,
-    pub list: usize,
     pub moves: Vec<usize>,
 }
 
@@ -116,26 +115,24 @@ impl Reader {
         let actions: Vec<Action> = actions.collect();
         let list = self.section(parts.list, Keyword::List);
         let moves = list.map_or_else(Vec::new, |it| self.moves(it, &names));
-        let line = |entry: &&Entry| entry.place.line;
         let lines = Lines {
-            variables: parts.variables.iter().map(line).collect(),
+            variables: parts.variables.iter().map(|it| it.place.line).collect(),
             actions: parts
                 .actions
                 .iter()
                 .map(|it| it.action.place.line)
                 .collect(),
-            goal: goal.as_ref().map_or(0, line),
-            list: list.as_ref().map_or(0, line),
+            goal: goal.map_or(0, |it| it.place.line),
             moves: moves.iter().map(|(_, line)| *line).collect(),
         };
-        let goal = goal_facts.unwrap_or_default();
+        let task = Task {
+            variables,
+            goal: goal_facts.unwrap_or_default(),
+            actions,
+        };
         let job = Job {
             title: parts.title.map(|it| it.rest.clone()),
-            task: Task {
-                variables,
-                goal,
-                actions,
-            },
+            task,
             list: moves.into_iter().map(|(action, _)| action).collect(),
         };
         (job, lines)
