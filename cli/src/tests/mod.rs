@@ -3,6 +3,7 @@
 
 mod commands;
 mod faults;
+mod forms;
 mod kept;
 mod refusals;
 mod round_trips;
