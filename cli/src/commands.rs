@@ -14,6 +14,7 @@ use crate::shorten::{claim, shorten, Asked};
 use crate::table::table;
 use crate::terminal;
 use std::io::Write;
+use std::path::Path;
 
 /// The file that stands for standard output, and what that is called.
 const STANDARD: &str = "-";
@@ -53,7 +54,7 @@ fn answer(command: &Command, lodged: &Lodged) -> Result<Vec<u8>, Failure> {
         Verb::Words if command.is_binary => Ok(lodged.bytes()),
         Verb::Words => Ok(library::text_of(&lodged.bytes())),
         Verb::Job => Ok(job::write(&lodged.job).into_bytes()),
-        Verb::Page => lodged_page(command, lodged),
+        Verb::Page => lodged_page(lodged),
     }
 }
 
@@ -92,12 +93,13 @@ fn kept_text(job: &Job, list: Vec<u32>, left: Tally, form: &Form) -> String {
     }
 }
 
-fn lodged_page(command: &Command, lodged: &Lodged) -> Result<Vec<u8>, Failure> {
+fn lodged_page(lodged: &Lodged) -> Result<Vec<u8>, Failure> {
     let answered = shorten(lodged, Asked::Licence)?;
-    let Lodged { sheet, job, .. } = lodged;
+    let Lodged { sheet, job, origin } = lodged;
+    let file = Path::new(&origin.file).file_stem().unwrap_or_default();
     let words = library::text_of(&lodged.bytes());
     let text = page(&Sheet {
-        title: job.title.as_deref().unwrap_or(&command.file),
+        title: job.title.as_deref().unwrap_or(&file.to_string_lossy()),
         task: &job.task,
         list: &job.list,
         shortened: &answered,
