@@ -7,8 +7,8 @@ use crate::help::{help, version};
 use crate::input::{self, Form, Lodged};
 use crate::job::{self, Job};
 use crate::library;
-use crate::options::{Command, Request, Shown, Verb};
-use crate::page::{page, Sheet};
+use crate::options::{Command, Request, Shown, Verb, STANDARD};
+use crate::page::{page, Contents};
 use crate::planner;
 use crate::shorten::{claim, shorten, Asked};
 use crate::table::table;
@@ -16,8 +16,7 @@ use crate::terminal;
 use std::io::Write;
 use std::path::Path;
 
-/// The file that stands for standard output, and what that is called.
-const STANDARD: &str = "-";
+/// What standard output is called.
 const STANDARD_NAME: &str = "standard output";
 
 pub fn run(request: Request) -> Result<(), Failure> {
@@ -98,7 +97,7 @@ fn lodged_page(lodged: &Lodged) -> Result<Vec<u8>, Failure> {
     let Lodged { sheet, job, origin } = lodged;
     let file = Path::new(&origin.file).file_stem().unwrap_or_default();
     let words = library::text_of(&lodged.bytes());
-    let text = page(&Sheet {
+    let text = page(&Contents {
         title: job.title.as_deref().unwrap_or(&file.to_string_lossy()),
         task: &job.task,
         list: &job.list,

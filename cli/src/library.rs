@@ -2,6 +2,7 @@
 //! from here.
 
 use crate::answer::{Claim, Tally};
+use crate::limits::{MOST_MOVES, MOST_VARIABLES, MOST_WORDS, WORD_BYTES};
 use std::cmp::Ordering;
 
 /// Declares the exports: the slices that one reads, those that it writes to, its numbers, its last
@@ -60,16 +61,14 @@ exports! {
     hollchiku_shorten_lines(sheet: u32, list: u32; text: u8; ; ) -> u64;
 }
 
-/// How many values a state has, and words a mask.
-const STATE: usize = 64;
+/// How many words a mask has.
 const MASK: usize = 4;
-/// How many words a sheet has at most, and a text of words.
-const SHEET: usize = 8_192;
-const WORDS: usize = 8_449;
-const WORD_BYTES: usize = 4;
-/// How many bytes the text of so many words has at most, and the lines of a list.
+/// How many words a text of words has at most: a sheet, a list with its length, and one more.
+const WORDS: usize = MOST_WORDS + 1 + MOST_MOVES + 1;
+/// How many bytes the text of so many words has at most.
 const TEXT: usize = 131_072;
-const LINES: usize = 32_768;
+/// How many bytes the lines of a list have at most: four, and one for each move.
+const LINES: usize = 64 * (4 + MOST_MOVES);
 
 /// A cause of refusal by its number, and its place.
 #[derive(Clone, Copy, Debug, PartialEq)]
@@ -97,12 +96,12 @@ pub enum NoWords {
 
 /// A state of the site.
 #[derive(Clone)]
-pub struct State([u32; STATE]);
+pub struct State([u32; MOST_VARIABLES]);
 
 impl State {
     /// The state with these first values.
     pub fn of(values: impl Iterator<Item = u32>) -> State {
-        let mut state = [0; STATE];
+        let mut state = [0; MOST_VARIABLES];
         state
             .iter_mut()
             .zip(values)
@@ -116,7 +115,7 @@ impl State {
 }
 
 pub fn check_list(sheet: &[u32], list: &[u32]) -> Result<Tally, Refusal> {
-    let (mut state, mut out) = ([0; STATE], [0; 4]);
+    let (mut state, mut out) = ([0; MOST_VARIABLES], [0; 4]);
     hollchiku_check_plan(sheet, list, &mut state, &mut out);
     answered(&out)?;
     Ok(tally(&out))
@@ -165,7 +164,7 @@ pub fn compare(a: Tally, b: Tally) -> Ordering {
 
 /// The words of the sheet that a translator's text means.
 pub fn translate(text: &[u8]) -> Result<Vec<u32>, Refusal> {
-    let (mut sheet, mut out) = (vec![0; SHEET], [0; 3]);
+    let (mut sheet, mut out) = (vec![0; MOST_WORDS], [0; 3]);
     hollchiku_translate(text, &mut sheet, &mut out);
     answered(&out)?;
     sheet.truncate(out[2] as usize);

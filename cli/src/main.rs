@@ -3,7 +3,7 @@
 //!
 //! - `options`, `help`: the command line;
 //! - `input`: a job in any of its forms; `job`: the one with names; `planner`: a planner's names and plans;
-//! - `task`, `sheet`: a task with names, and as words;
+//! - `task`, `sheet`, `limits`: a task with names, and as words;
 //! - `library`: the exports; `shorten`, `course`: what is asked of them; `answer`: what they answer;
 //! - `refusal`, `failure`, `fault`, `nearest`: what is said where there is no answer;
 //! - `table`, `terminal`, `page`: how an answer is shown.
@@ -17,6 +17,7 @@ mod help;
 mod input;
 mod job;
 mod library;
+mod limits;
 mod nearest;
 mod options;
 mod page;

@@ -1,5 +1,6 @@
 //! A task as the words of a job sheet, and back. docs/SCOPE.md, "The job sheet", has the layout.
 
+use crate::limits::MOST_VALUES;
 use crate::task::{Action, Fact, Task, Variable};
 
 pub const EDITION: u32 = 1;
@@ -7,12 +8,10 @@ pub const EDITION: u32 = 1;
 pub const HEADER: usize = 4;
 /// The pairs in front of those of the actions: domain sizes, starting values, goal.
 pub const FIRST_ACTION: usize = 3;
-/// A fact is its variable times this, and its value.
-pub const VALUES: u32 = 256;
 
 /// Where a part of a sheet begins, and how many words it has.
 #[derive(Clone, Copy, Debug, PartialEq)]
-pub struct Part {
+pub struct Extent {
     pub at: usize,
     pub length: usize,
 }
@@ -34,9 +33,9 @@ pub fn length(sheet: &[u32]) -> usize {
     word(sheet, 3) as usize
 }
 
-pub fn part(sheet: &[u32], pair: usize) -> Part {
+pub fn part(sheet: &[u32], pair: usize) -> Extent {
     let at = HEADER + 2 * pair;
-    Part {
+    Extent {
         at: word(sheet, at) as usize,
         length: word(sheet, at + 1) as usize,
     }
@@ -80,7 +79,7 @@ fn action_words(action: &Action) -> Vec<u32> {
 }
 
 fn words(facts: &[Fact]) -> Vec<u32> {
-    let word = |it: &Fact| it.variable as u32 * VALUES + it.value as u32;
+    let word = |it: &Fact| it.variable as u32 * MOST_VALUES + it.value as u32;
     facts.iter().map(word).collect()
 }
 
@@ -120,7 +119,7 @@ fn action(sheet: &[u32], a: usize) -> Action {
     }
 }
 
-fn words_of(sheet: &[u32], part: Part) -> &[u32] {
+fn words_of(sheet: &[u32], part: Extent) -> &[u32] {
     &sheet[part.at..part.at + part.length]
 }
 
@@ -130,7 +129,7 @@ fn facts(words: &[u32]) -> Vec<Fact> {
 
 pub fn fact(word: u32) -> Fact {
     Fact {
-        variable: (word / VALUES) as usize,
-        value: (word % VALUES) as usize,
+        variable: (word / MOST_VALUES) as usize,
+        value: (word % MOST_VALUES) as usize,
     }
 }

@@ -71,18 +71,14 @@ pub fn with_line_ends(bytes: &[u8]) -> Vec<u8> {
     lines
 }
 
+/// Whether a text begins with a mark of two bytes, or letters of ASCII alternate with zeros.
 fn is_utf16(bytes: &[u8]) -> bool {
-    if UTF16_MARKS.iter().any(|it| bytes.starts_with(it)) {
-        return true;
-    }
-    // Without a mark, letters of ASCII alternate with zeros.
-    let mut pairs = bytes.chunks_exact(2).take(8).peekable();
-    pairs.peek().is_some() && bytes.len() >= 8 && {
-        let pairs: Vec<&[u8]> = pairs.collect();
-        let is_letter = |byte: u8| byte >= b' ' || byte == b'\n' || byte == b'\r' || byte == b'\t';
-        pairs.iter().all(|it| is_letter(it[0]) && it[1] == 0)
-            || pairs.iter().all(|it| it[0] == 0 && is_letter(it[1]))
-    }
+    let front = &bytes[..bytes.len().min(16)];
+    let alternates = |letter: usize| {
+        let is_wide = |it: &[u8]| !is_control(it[letter]) && it[1 - letter] == 0;
+        front.len() >= 8 && front.chunks_exact(2).all(is_wide)
+    };
+    UTF16_MARKS.iter().any(|it| bytes.starts_with(it)) || alternates(0) || alternates(1)
 }
 
 /// A byte that no text holds.

@@ -14,6 +14,7 @@ use crate::answer::Tally;
 use crate::failure::Failure;
 use crate::job::{self, Job};
 use crate::library::{self, NoWords, Refusal};
+use crate::options::STANDARD;
 use crate::planner;
 use crate::refusal::{self, Lodging};
 use crate::sheet;
@@ -29,8 +30,7 @@ pub struct Lodged {
     pub origin: Origin,
 }
 
-/// The file that stands for standard input, and what that is called.
-const STANDARD: &str = "-";
+/// What standard input is called.
 const STANDARD_NAME: &str = "standard input";
 
 /// A file that was read, and what messages call it.

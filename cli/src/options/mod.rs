@@ -4,7 +4,7 @@
 
 mod verbs;
 
-pub use verbs::{Shown, Verb};
+pub use verbs::{Shown, Verb, STANDARD};
 
 use crate::failure::Failure;
 use crate::nearest::nearest;
@@ -84,7 +84,7 @@ fn parse_command(verb: Verb, words: &[String]) -> Result<Request, Failure> {
     let mut words = words.iter();
     let mut is_over = false;
     while let Some(word) = words.next() {
-        if is_over || word == "-" || !word.starts_with('-') {
+        if is_over || word == STANDARD || !word.starts_with('-') {
             options.files.push(word.clone());
         } else if word == "--" {
             is_over = true;
@@ -160,7 +160,7 @@ impl Options {
         let (file, plan) = (files.next(), files.next());
         let Some(file) = file else {
             return Err(wrong(format!(
-                "a file is expected: hollchiku {text} JOB (or - for standard input)"
+                "a file is expected: hollchiku {text} JOB (or {STANDARD} for standard input)"
             )));
         };
         if let Some(more) = files.next() {

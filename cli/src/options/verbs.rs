@@ -37,6 +37,9 @@ pub enum Flag {
     Help,
 }
 
+/// The file that stands for standard input or output.
+pub const STANDARD: &str = "-";
+
 pub const OUTPUT: &str = "-o";
 pub const HELP: &str = "--help";
 pub const VERSION: &str = "--version";

@@ -5,7 +5,7 @@ use super::escape::Name;
 use super::levels::{Labels, Levels};
 use super::strip::Strip;
 use super::track::{Span, Track};
-use super::Sheet;
+use super::Contents;
 use crate::task::{Task, Variable};
 
 /// Up to so many levels are drawn in every strip. Of more, a strip has only those that it shows.
@@ -19,13 +19,13 @@ enum Part {
 }
 
 /// The picture of the variable with this number.
-pub fn figure(sheet: &Sheet, number: usize, track: &Track) -> String {
-    let variable = &sheet.task.variables[number];
-    let moves = sheet.list.len();
+pub fn figure(contents: &Contents, number: usize, track: &Track) -> String {
+    let variable = &contents.task.variables[number];
+    let moves = contents.list.len();
     let levels = Levels::of(track.values(Span::whole(moves)));
     let labels = Labels::of(variable, &levels);
     let draw = |span, levels: &Levels| {
-        let (columns, kept) = (Columns::of(span, moves), &sheet.shortened.kept);
+        let (columns, kept) = (Columns::of(span, moves), &contents.shortened.kept);
         Strip {
             name: &variable.name,
             track,
@@ -48,7 +48,7 @@ pub fn figure(sheet: &Sheet, number: usize, track: &Track) -> String {
         }
     });
     let strips: String = strips.collect();
-    let caption = caption(sheet.task, number, &labels, &levels);
+    let caption = caption(contents.task, number, &labels, &levels);
     format!("<figure>\n<figcaption>{caption}</figcaption>\n{strips}</figure>\n")
 }
 
@@ -102,7 +102,7 @@ mod tests {
     use super::*;
 
     fn gate_of(sample: &Sample) -> String {
-        figure(&sample.sheet(), 0, &Track::of(&sample.course, 0))
+        figure(&sample.contents(), 0, &Track::of(&sample.course, 0))
     }
 
     #[test]

@@ -29,7 +29,7 @@ const POLICY: &str =
     "default-src 'none'; style-src 'unsafe-inline'; base-uri 'none'; form-action 'none'";
 
 /// What the page is made of.
-pub struct Sheet<'a> {
+pub struct Contents<'a> {
     /// The job's title, or its file's name.
     pub title: &'a str,
     pub task: &'a Task,
@@ -45,21 +45,21 @@ pub struct Sheet<'a> {
 }
 
 /// The whole page.
-pub fn page(sheet: &Sheet) -> String {
+pub fn page(contents: &Contents) -> String {
     [
-        head(sheet),
-        summary::section(sheet),
-        moves::left(sheet),
-        moves::lodged(sheet),
-        picture::section(sheet),
-        job::section(sheet.task),
-        foot(sheet),
+        head(contents),
+        summary::section(contents),
+        moves::left(contents),
+        moves::lodged(contents),
+        picture::section(contents),
+        job::section(contents.task),
+        foot(contents),
     ]
     .concat()
 }
 
 /// All above the summary. The policy stands before the style, since it governs what follows it.
-fn head(sheet: &Sheet) -> String {
+fn head(contents: &Contents) -> String {
     format!(
         r#"<!DOCTYPE html>
 <html lang="en">
@@ -78,13 +78,13 @@ fn head(sheet: &Sheet) -> String {
 </header>
 <main>
 "#,
-        Text(sheet.title),
-        Name(sheet.title)
+        Text(contents.title),
+        Name(contents.title)
     )
 }
 
 /// What was proved, by which version, and how anyone can run it again.
-fn foot(sheet: &Sheet) -> String {
+fn foot(contents: &Contents) -> String {
     format!(
         "</main>
 <footer>
@@ -101,9 +101,9 @@ fn foot(sheet: &Sheet) -> String {
 </body>
 </html>
 ",
-        Text(sheet.claim),
-        Text(sheet.version),
-        Lines(sheet.words)
+        Text(contents.claim),
+        Text(contents.version),
+        Lines(contents.words)
     )
 }
 
@@ -117,7 +117,7 @@ mod tests {
 
     #[test]
     fn the_title_heads_the_page() {
-        let page = page(&Sample::new().sheet());
+        let page = page(&Sample::new().contents());
         assert!(page.contains("<title>Lock 7</title>"));
         assert!(page.contains("<h1><bdi>Lock 7</bdi></h1>"));
     }
@@ -126,14 +126,14 @@ mod tests {
     fn no_name_breaks_out() {
         let mut sample = Sample::new();
         sample.rename_all(NASTY);
-        let sheet = Sheet {
+        let contents = Contents {
             title: NASTY,
             claim: NASTY,
             words: NASTY,
             version: NASTY,
-            ..sample.sheet()
+            ..sample.contents()
         };
-        let page = page(&sheet);
+        let page = page(&contents);
         assert!(!page.contains("<script"));
         assert_eq!(page.matches("</style>").count(), 1);
         assert!(!page.contains(['\u{202E}', '\0']));
@@ -142,7 +142,7 @@ mod tests {
 
     #[test]
     fn the_parts_stand_in_their_order() {
-        let page = page(&Sample::new().sheet());
+        let page = page(&Sample::new().contents());
         let parts = page.split("<h2>").skip(1);
         let headings: Vec<&str> = parts
             .filter_map(|part| part.split("</h2>").next())
@@ -161,16 +161,16 @@ mod tests {
 
     #[test]
     fn an_empty_list_has_a_page() {
-        let page = page(&Sample::empty().sheet());
+        let page = page(&Sample::empty().contents());
         assert!(page.contains("data-moves=\"0\""));
         assert!(!page.contains("<figure"));
     }
 
     #[test]
     fn the_words_can_be_copied() {
-        let page = page(&Sheet {
+        let page = page(&Contents {
             words: "1 2 # a<b\n3\n",
-            ..Sample::new().sheet()
+            ..Sample::new().contents()
         });
         assert!(page.contains("<pre>\n1 2 # a&lt;b\n3\n</pre>"));
     }

@@ -3,7 +3,7 @@
 use super::escape::{Grouped, Name};
 use super::facts::{blocks, change};
 use super::table::{cell, head, row, row_of, Table, POSITION};
-use super::Sheet;
+use super::Contents;
 use crate::answer::Outcome;
 use crate::task::{Action, Task};
 
@@ -33,25 +33,29 @@ impl Move<'_> {
     }
 }
 
-fn moves<'a>(sheet: &'a Sheet) -> impl Iterator<Item = Move<'a>> {
-    let steps = sheet.list.iter().zip(&sheet.course.lodged).enumerate();
+fn moves<'a>(contents: &'a Contents) -> impl Iterator<Item = Move<'a>> {
+    let steps = contents
+        .list
+        .iter()
+        .zip(&contents.course.lodged)
+        .enumerate();
     steps.map(|(index, (&number, before))| Move {
         position: index + 1,
-        action: &sheet.task.actions[number as usize],
-        outcome: sheet.shortened.outcome(index),
+        action: &contents.task.actions[number as usize],
+        outcome: contents.shortened.outcome(index),
         before,
     })
 }
 
 /// The shortened list. Its positions are the lodged ones, so that both lists can be laid side by
 /// side.
-pub fn left(sheet: &Sheet) -> String {
+pub fn left(contents: &Contents) -> String {
     let (mut rows, mut total) = (String::new(), 0);
-    for step in moves(sheet).filter(|step| step.outcome != Outcome::Struck) {
+    for step in moves(contents).filter(|step| step.outcome != Outcome::Struck) {
         total += step.price();
         rows += &left_row(&step, total);
     }
-    let tally = sheet.shortened.left;
+    let tally = contents.shortened.left;
     let table = Table {
         attributes: r#"class="left""#,
         columns: &[POSITION, "Move", "Price", "Total"],
@@ -81,14 +85,17 @@ fn left_row(step: &Move, total: u64) -> String {
 
 /// Every lodged move, with what became of it. The table tells its number of rows, so that a test
 /// can count them.
-pub fn lodged(sheet: &Sheet) -> String {
-    let tally = sheet.shortened.lodged;
+pub fn lodged(contents: &Contents) -> String {
+    let tally = contents.shortened.lodged;
     let price = cell(Grouped(tally.price.into()));
     let table = Table {
-        attributes: &format!(r#"class="lodged stack" data-moves="{}""#, sheet.list.len()),
+        attributes: &format!(
+            r#"class="lodged stack" data-moves="{}""#,
+            contents.list.len()
+        ),
         columns: &[POSITION, "Move", "Price", "What it does", "Outcome"],
-        rows: moves(sheet)
-            .map(|step| lodged_row(sheet.task, &step))
+        rows: moves(contents)
+            .map(|step| lodged_row(contents.task, &step))
             .collect(),
         sums: row(&[cell(""), head(tally.so_many()), price, cell(""), cell("")]),
     };
@@ -137,14 +144,14 @@ mod tests {
 
     #[test]
     fn each_lodged_move_has_a_row() {
-        let table = lodged(&Sample::new().sheet());
+        let table = lodged(&Sample::new().contents());
         assert!(table.contains(r#"data-moves="4""#));
         assert_eq!(table.matches("<tr class=").count(), 4);
     }
 
     #[test]
     fn the_outcome_is_told_in_words_and_by_a_line() {
-        let table = lodged(&Sample::new().sheet());
+        let table = lodged(&Sample::new().contents());
         let struck = row_at(&table, 1);
         assert!(struck.starts_with(r#"<tr class="struck">"#));
         assert!(struck.contains("<s><bdi>lift</bdi></s>"));
@@ -157,7 +164,7 @@ mod tests {
 
     #[test]
     fn what_each_move_does_is_told() {
-        let table = lodged(&Sample::new().sheet());
+        let table = lodged(&Sample::new().contents());
         assert!(row_at(&table, 1).contains("<bdi>shut</bdi> → <bdi>open</bdi>"));
         assert!(row_at(&table, 3).contains("<div><bdi>lamp</bdi>: stays <bdi>off</bdi></div>"));
         assert!(row_at(&table, 4).contains("<td>nothing</td>"));
@@ -165,7 +172,7 @@ mod tests {
 
     #[test]
     fn the_shortened_list_adds_up() {
-        let table = left(&Sample::new().sheet());
+        let table = left(&Sample::new().contents());
         assert!(table.contains("<bdi>lift &amp; dim</bdi></th><td>1,000</td><td>1,000</td>"));
         assert!(table.contains("<bdi>look</bdi></th><td>2</td><td>1,002</td>"));
         assert!(!table.contains("<bdi>drop</bdi>"));
@@ -175,15 +182,15 @@ mod tests {
     #[test]
     fn an_empty_list_has_no_rows() {
         let sample = Sample::empty();
-        assert!(left(&sample.sheet()).contains(NO_ROWS));
-        assert!(lodged(&sample.sheet()).contains(NO_ROWS));
+        assert!(left(&sample.contents()).contains(NO_ROWS));
+        assert!(lodged(&sample.contents()).contains(NO_ROWS));
     }
 
     #[test]
     fn a_nasty_name_is_escaped_in_both_tables() {
         let mut sample = Sample::new();
         sample.rename_all("\"<b>'");
-        for table in [left(&sample.sheet()), lodged(&sample.sheet())] {
+        for table in [left(&sample.contents()), lodged(&sample.contents())] {
             assert!(table.contains("<bdi>&quot;&lt;b&gt;&#39;</bdi>"));
             assert!(!table.contains("<b>"));
         }

@@ -4,22 +4,22 @@ use super::escape::Name;
 use super::figure::figure;
 use super::strip::{path, CROSS, KEPT, LODGED, SHADE};
 use super::track::{Span, Track};
-use super::Sheet;
+use super::Contents;
 use crate::task::Variable;
 
 /// A line across a sample of the legend.
 const ACROSS: &str = "M0 8H32";
 
 /// All pictures, then a line for each variable that has none because it never changes.
-pub fn section(sheet: &Sheet) -> String {
-    let whole = Span::whole(sheet.list.len());
+pub fn section(contents: &Contents) -> String {
+    let whole = Span::whole(contents.list.len());
     let (mut figures, mut lines) = (String::new(), String::new());
-    for (number, variable) in sheet.task.variables.iter().enumerate() {
-        let track = Track::of(sheet.course, number);
+    for (number, variable) in contents.task.variables.iter().enumerate() {
+        let track = Track::of(contents.course, number);
         if track.is_still(whole) {
             lines += &still_line(variable);
         } else {
-            figures += &figure(sheet, number, &track);
+            figures += &figure(contents, number, &track);
         }
     }
     if !figures.is_empty() {
@@ -63,7 +63,7 @@ mod tests {
 
     #[test]
     fn a_variable_that_changes_has_a_picture_and_the_other_a_line() {
-        let section = section(&Sample::new().sheet());
+        let section = section(&Sample::new().contents());
         assert_eq!(section.matches("<figure>").count(), 1);
         assert!(section.contains("<figcaption><strong><bdi>gate</bdi></strong>"));
         assert!(section.contains("<li><bdi>lamp</bdi>: <bdi>off</bdi></li>"));
@@ -71,7 +71,7 @@ mod tests {
 
     #[test]
     fn a_list_without_moves_has_lines_only() {
-        let section = section(&Sample::empty().sheet());
+        let section = section(&Sample::empty().contents());
         assert!(!section.contains("<svg"));
         assert_eq!(section.matches("<li>").count(), 2);
     }
@@ -81,6 +81,6 @@ mod tests {
         let mut sample = Sample::empty();
         sample.rename_all("<u>");
         let escaped = "<bdi>&lt;u&gt;</bdi>";
-        assert!(section(&sample.sheet()).contains(&format!("<li>{escaped}: {escaped}</li>")));
+        assert!(section(&sample.contents()).contains(&format!("<li>{escaped}: {escaped}</li>")));
     }
 }

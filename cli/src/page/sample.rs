@@ -1,6 +1,6 @@
 //! A small job for the tests of the page: a gate is lifted, dropped for nothing, and lifted again.
 
-use super::Sheet;
+use super::Contents;
 use crate::answer::{Claim, Course, Shortened, Tally, Way};
 use crate::task::{Action, Fact, Task, Variable};
 
@@ -57,8 +57,8 @@ impl Sample {
         }
     }
 
-    pub fn sheet(&self) -> Sheet<'_> {
-        Sheet {
+    pub fn contents(&self) -> Contents<'_> {
+        Contents {
             title: "Lock 7",
             task: &self.task,
             list: &self.list,

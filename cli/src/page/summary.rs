@@ -2,19 +2,19 @@
 
 use super::escape::{Grouped, Text};
 use super::table::{cell, head, row, Table};
-use super::Sheet;
+use super::Contents;
 use crate::answer::{Claim, Tally, Way};
 
 /// The summary, with the sentence of what was proved.
-pub fn section(sheet: &Sheet) -> String {
-    let (lodged, left) = (sheet.shortened.lodged, sheet.shortened.left);
+pub fn section(contents: &Contents) -> String {
+    let (lodged, left) = (contents.shortened.lodged, contents.shortened.left);
     let table = Table {
         attributes: "",
         columns: &["Tally", "Price", "Moves"],
         rows: [
             tally_row("Lodged", lodged),
             tally_row("Kept", left),
-            tally_row("Saved", sheet.shortened.saved()),
+            tally_row("Saved", contents.shortened.saved()),
         ]
         .concat(),
         sums: String::new(),
@@ -24,8 +24,8 @@ pub fn section(sheet: &Sheet) -> String {
          <p>May the shortened list be lodged? <strong>{}</strong></p>\n<p>{}</p>\n\
          </div>\n</section>\n",
         table.html(),
-        answer(sheet.shortened.way),
-        Text(sheet.claim)
+        answer(contents.shortened.way),
+        Text(contents.claim)
     )
 }
 
@@ -54,12 +54,12 @@ mod tests {
     fn section_of(way: Way) -> String {
         let mut sample = Sample::new();
         sample.shortened.way = way;
-        section(&sample.sheet())
+        section(&sample.contents())
     }
 
     #[test]
     fn prices_and_moves_are_told() {
-        let section = section(&Sample::new().sheet());
+        let section = section(&Sample::new().contents());
         for row in [
             "Lodged</th><td>1,012</td><td>4</td>",
             "Kept</th><td>1,002</td><td>2</td>",

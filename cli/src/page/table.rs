@@ -15,7 +15,7 @@ pub struct Table<'a> {
 }
 
 impl Table<'_> {
-    /// The table as an element. A browser that prints repeats the head on each sheet.
+    /// The table as an element. A browser that prints repeats the head on each contents.
     pub fn html(&self) -> String {
         let heads: String = self
             .columns

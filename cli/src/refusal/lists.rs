@@ -5,11 +5,9 @@ use crate::course::start;
 use crate::failure::Failure;
 use crate::input::Part;
 use crate::library::{self, Refusal};
+use crate::limits::{MOST_MOVES, MOST_UNMARKED};
 use crate::sheet;
 use crate::task::Fact;
-
-const MOST_MOVES: usize = 255;
-const MOST_UNMARKED: usize = 20;
 
 /// The refusal of a sheet or of a list.
 pub fn of_list(refusal: Refusal, lodging: &Lodging) -> Failure {

@@ -6,17 +6,11 @@ use crate::failure::Failure;
 use crate::input::{Origin, Part};
 use crate::job::Job;
 use crate::library::Refusal;
-use crate::sheet::{self, Part as Words, EDITION, FIRST_ACTION, HEADER};
+use crate::limits::{
+    MOST_ACTIONS, MOST_PRICE, MOST_VALUES, MOST_VARIABLES, MOST_WORDS, WORD_BYTES,
+};
+use crate::sheet::{self, Extent, EDITION, FIRST_ACTION, HEADER};
 use crate::task::Task;
-
-/// The limits of document 01, as a message has them.
-const MOST_WORDS: usize = 8_192;
-const MOST_VARIABLES: usize = 64;
-const MOST_ACTIONS: usize = 1_024;
-const MOST_PRICE: u32 = 1_000_000;
-const MOST_VALUES: u32 = sheet::VALUES;
-
-const WORD_BYTES: usize = 4;
 
 /// The refusal of words in the program's form: that they are none, or that of their sheet where the
 /// list is too long to be read.
@@ -132,7 +126,7 @@ impl Lodging<'_> {
     /// What the words of a pair should be and are not.
     fn why_wrong(&self, pair: usize) -> String {
         let sheet = self.sheet;
-        let Words { at, length } = sheet::part(sheet, pair);
+        let Extent { at, length } = sheet::part(sheet, pair);
         let due = match pair {
             0 => sheet::first_part(sheet),
             _ => {
@@ -212,7 +206,7 @@ impl Lodging<'_> {
     fn group_of(&self, word: usize) -> (String, Part) {
         let sheet = self.sheet;
         let holds = |pair: &usize| {
-            let Words { at, length } = sheet::part(sheet, *pair);
+            let Extent { at, length } = sheet::part(sheet, *pair);
             (at..at + length).contains(&word)
         };
         let pairs = FIRST_ACTION..FIRST_ACTION + sheet::actions(sheet);

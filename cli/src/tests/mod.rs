@@ -4,9 +4,9 @@
 mod commands;
 mod faults;
 mod forms;
-mod kept;
 mod refusals;
 mod round_trips;
+mod shown;
 mod times;
 
 use crate::failure::Failure;

@@ -3,12 +3,11 @@
 use super::read;
 use super::round_trips::records;
 use crate::job;
+use crate::limits::MOST_MOVES;
 use crate::shorten::{shorten, Asked};
 use crate::table::{table, Style};
 use std::time::{Duration, Instant};
 
-/// The most moves of a list.
-const LONGEST: usize = 255;
 /// Of so many runs of a job the best counts.
 const RUNS: usize = 5;
 
@@ -24,7 +23,9 @@ fn of_the_longest_jobs() {
     times.sort();
     let count = times.len();
     let late = times.iter().filter(|it| **it > GOAL).count();
-    println!("{count} jobs of {LONGEST} moves, read, shortened and shown: {late} above {GOAL:?}");
+    println!(
+        "{count} jobs of {MOST_MOVES} moves, read, shortened and shown: {late} above {GOAL:?}"
+    );
     for (what, at) in [
         ("median", count / 2),
         ("nine of ten", count * 9 / 10),
@@ -37,7 +38,7 @@ fn of_the_longest_jobs() {
 /// The job of a record whose list is valid and as long as it may be.
 fn text_of_longest(record: &[u8]) -> Option<String> {
     let lodged = read("words", record).ok()?;
-    let is_longest = lodged.job.list.len() == LONGEST && lodged.check().is_ok();
+    let is_longest = lodged.job.list.len() == MOST_MOVES && lodged.check().is_ok();
     is_longest.then(|| job::write(&lodged.job))
 }
 
