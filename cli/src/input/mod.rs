@@ -16,9 +16,8 @@ use crate::job::{self, Job};
 use crate::library::{self, NoWords, Refusal};
 use crate::options::STANDARD;
 use crate::planner;
-use crate::refusal::{self, Lodging};
+use crate::refusal;
 use crate::sheet;
-use crate::task::Task;
 use content::{content, text, with_line_ends, Content};
 use named::named;
 use std::io::Read;
@@ -79,8 +78,7 @@ impl Lodged {
     }
 
     pub fn refused(&self, refusal: Refusal) -> Failure {
-        let Lodged { sheet, job, origin } = self;
-        refusal::of_list(refusal, &Lodging { sheet, job, origin })
+        refusal::of_list(refusal, self)
     }
 
     /// Sheet and list in the program's form: the list's length stands between them.
@@ -163,12 +161,13 @@ fn no_words(name: &str, why: &NoWords) -> String {
 
 /// Opens words in the program's form; their parts are called by their numbers.
 fn open(origin: Origin, bytes: &[u8]) -> Result<Lodged, Failure> {
-    let (sheet, list) =
-        library::open(bytes).map_err(|refusal| refusal::of_form(refusal, bytes, &origin))?;
+    let (sheet, list) = match library::open(bytes) {
+        Ok(parts) => parts,
+        Err(refusal) => return Err(refusal::of_form(refusal, bytes, origin)),
+    };
     let unnamed = Job {
-        title: None,
-        task: Task::default(),
         list,
+        ..Job::default()
     };
     let mut lodged = accept(sheet, unnamed, origin)?;
     lodged.job.task = sheet::decode(&lodged.sheet);

@@ -18,7 +18,7 @@ pub use writer::write;
 use crate::task::Task;
 
 /// A task and a list of its actions.
-#[derive(Clone, Debug, PartialEq)]
+#[derive(Clone, Debug, Default, PartialEq)]
 pub struct Job {
     pub title: Option<String>,
     pub task: Task,

@@ -1,30 +1,30 @@
 //! Causes 8 to 12: what is wrong with a list.
 
-use super::{quoted, Lodging};
+use super::quoted;
 use crate::course::start;
 use crate::failure::Failure;
-use crate::input::Part;
+use crate::input::{Lodged, Part};
 use crate::library::{self, Refusal};
 use crate::limits::{MOST_MOVES, MOST_UNMARKED};
 use crate::sheet;
 use crate::task::Fact;
 
 /// The refusal of a sheet or of a list.
-pub fn of_list(refusal: Refusal, lodging: &Lodging) -> Failure {
+pub fn of_list(refusal: Refusal, lodged: &Lodged) -> Failure {
     let place = refusal.place as usize;
     let message = match refusal.number {
-        1..=7 => lodging.sheet_message(refusal),
-        8 => return lodging.too_long(refusal, lodging.job.list.len()),
-        9 => lodging.unknown_action(place - 1),
-        11 if place > lodging.job.list.len() => lodging.unmet_goal(),
-        11 => lodging.undoable(place - 1),
-        12 => lodging.unmarked(place),
-        _ => lodging.no_room(),
+        1..=7 => lodged.sheet_message(refusal),
+        8 => return lodged.too_long(refusal, lodged.job.list.len()),
+        9 => lodged.unknown_action(place - 1),
+        11 if place > lodged.job.list.len() => lodged.unmet_goal(),
+        11 => lodged.undoable(place - 1),
+        12 => lodged.unmarked(place),
+        _ => lodged.no_room(),
     };
     Failure::refused(refusal, message)
 }
 
-impl Lodging<'_> {
+impl Lodged {
     /// The index of a move's word, behind the sheet and the list's length.
     fn word_of(&self, move_at: usize) -> usize {
         self.sheet.len() + 1 + move_at
@@ -55,7 +55,7 @@ impl Lodging<'_> {
     }
 
     fn unknown_action(&self, move_at: usize) -> String {
-        let (action, actions) = (self.job.list[move_at], sheet::actions(self.sheet));
+        let (action, actions) = (self.job.list[move_at], sheet::actions(&self.sheet));
         let message = format!(
             "move {} is action {action}, and there are {actions}, counted from 0",
             move_at + 1
@@ -79,7 +79,7 @@ impl Lodging<'_> {
         let moves = self.job.list.len();
         let lacks = self.lacks(&self.job.task.goal, moves);
         let message = format!("the goal is not met after the last move: it asks for {lacks}");
-        self.at(Part::Goal, sheet::part(self.sheet, 2).at, &message)
+        self.at(Part::Goal, sheet::part(&self.sheet, 2).at, &message)
     }
 
     /// Which facts do not hold after the first moves, and what holds instead.
@@ -88,7 +88,7 @@ impl Lodging<'_> {
         let mut state = start(task);
         for &action in &self.job.list[..moves] {
             // Each of these moves can be done: the library has refused a later place.
-            let _ = library::step(self.sheet, &mut state, action);
+            let _ = library::step(&self.sheet, &mut state, action);
         }
         let values = state.values(task.variables.len());
         let lacking = facts

@@ -11,18 +11,11 @@ pub use lists::of_list;
 pub use sheets::of_form;
 pub use texts::of_planner;
 
-use crate::input::{Origin, Part, Spot};
-use crate::job::Job;
+use crate::input::{Lodged, Part, Spot};
 use crate::sheet;
 
-/// What was refused, by what names it has, and where it stands.
-pub struct Lodging<'a> {
-    pub sheet: &'a [u32],
-    pub job: &'a Job,
-    pub origin: &'a Origin,
-}
-
-impl Lodging<'_> {
+/// What was refused is told by the names that it has; where it has none, by its numbers.
+impl Lodged {
     fn variable(&self, v: usize) -> String {
         let named = self.job.task.variables.get(v);
         quoted(named.map_or_else(|| sheet::variable_name(v), |it| it.name.clone()))

@@ -1,20 +1,18 @@
 //! Causes 1 to 7: what is wrong with a sheet.
 
 use super::lists::of_list;
-use super::Lodging;
 use crate::failure::Failure;
-use crate::input::{Origin, Part};
+use crate::input::{Lodged, Origin, Part};
 use crate::job::Job;
 use crate::library::Refusal;
 use crate::limits::{
     MOST_ACTIONS, MOST_PRICE, MOST_VALUES, MOST_VARIABLES, MOST_WORDS, WORD_BYTES,
 };
 use crate::sheet::{self, Extent, EDITION, FIRST_ACTION, HEADER};
-use crate::task::Task;
 
 /// The refusal of words in the program's form: that they are none, or that of their sheet where the
 /// list is too long to be read.
-pub fn of_form(refusal: Refusal, bytes: &[u8], origin: &Origin) -> Failure {
+pub fn of_form(refusal: Refusal, bytes: &[u8], origin: Origin) -> Failure {
     let words = bytes
         .chunks_exact(WORD_BYTES)
         .map(|it| u32::from_le_bytes([it[0], it[1], it[2], it[3]]));
@@ -24,19 +22,14 @@ pub fn of_form(refusal: Refusal, bytes: &[u8], origin: &Origin) -> Failure {
         return Failure::refused(refusal, message);
     }
     let length = sheet::length(&words);
-    let job = Job {
-        title: None,
-        task: Task::default(),
-        list: Vec::new(),
-    };
-    let lodging = Lodging {
-        sheet: &words[..length],
-        job: &job,
+    let lodged = Lodged {
+        sheet: words[..length].to_vec(),
+        job: Job::default(),
         origin,
     };
     match refusal.number {
-        8 => lodging.too_long(refusal, words[length] as usize),
-        _ => of_list(refusal, &lodging),
+        8 => lodged.too_long(refusal, words[length] as usize),
+        _ => of_list(refusal, &lodged),
     }
 }
 
@@ -62,7 +55,7 @@ fn form(words: &[u32], bytes: usize) -> String {
     format!("the list is to have {moves} moves (word {length}), and {behind} words follow")
 }
 
-impl Lodging<'_> {
+impl Lodged {
     /// Why the library does not accept the sheet, and where that stands.
     pub fn sheet_message(&self, refusal: Refusal) -> String {
         let place = refusal.place as usize;
@@ -73,7 +66,7 @@ impl Lodging<'_> {
                 0,
                 &format!(
                     "its edition is {}, and {EDITION} is read",
-                    sheet::word(self.sheet, 0)
+                    sheet::word(&self.sheet, 0)
                 ),
             ),
             3 => self.too_many(),
@@ -90,7 +83,7 @@ impl Lodging<'_> {
     }
 
     fn too_many(&self) -> String {
-        let (variables, actions) = (sheet::variables(self.sheet), sheet::actions(self.sheet));
+        let (variables, actions) = (sheet::variables(&self.sheet), sheet::actions(&self.sheet));
         if (1..=MOST_VARIABLES).contains(&variables) {
             let message = format!("it has {actions} actions, and {MOST_ACTIONS} at most are read");
             return self.at(Part::Action(MOST_ACTIONS), 2, &message);
@@ -100,7 +93,7 @@ impl Lodging<'_> {
     }
 
     fn wrong_pair(&self, pair: usize) -> String {
-        let (sheet, word) = (self.sheet, HEADER + 2 * pair);
+        let (sheet, word) = (&self.sheet, HEADER + 2 * pair);
         let (first, length) = (sheet::first_part(sheet), sheet::length(sheet));
         if first > length {
             let message = format!("its pairs take {first} words, and it has {length}");
@@ -125,7 +118,7 @@ impl Lodging<'_> {
 
     /// What the words of a pair should be and are not.
     fn why_wrong(&self, pair: usize) -> String {
-        let sheet = self.sheet;
+        let sheet = &self.sheet;
         let Extent { at, length } = sheet::part(sheet, pair);
         let due = match pair {
             0 => sheet::first_part(sheet),
@@ -156,10 +149,10 @@ impl Lodging<'_> {
     }
 
     fn wrong_variable(&self, v: usize) -> String {
-        let [size, start] = [0, 1].map(|pair| sheet::part(self.sheet, pair).at + v);
+        let [size, start] = [0, 1].map(|pair| sheet::part(&self.sheet, pair).at + v);
         let (values, value) = (
-            sheet::word(self.sheet, size),
-            sheet::word(self.sheet, start),
+            sheet::word(&self.sheet, size),
+            sheet::word(&self.sheet, start),
         );
         let name = self.variable(v);
         let (word, message) = if (1..=MOST_VALUES).contains(&values) {
@@ -182,9 +175,9 @@ impl Lodging<'_> {
     fn wrong_fact(&self, word: usize) -> String {
         let fact = sheet::fact(self.sheet[word]);
         let (group, part) = self.group_of(word);
-        let size = sheet::word(self.sheet, sheet::part(self.sheet, 0).at + fact.variable);
+        let size = sheet::word(&self.sheet, sheet::part(&self.sheet, 0).at + fact.variable);
         let (number, name) = (self.sheet[word], self.variable(fact.variable));
-        let why = if fact.variable >= sheet::variables(self.sheet) {
+        let why = if fact.variable >= sheet::variables(&self.sheet) {
             format!("there is no variable {}", fact.variable)
         } else if fact.value >= size as usize {
             format!(
@@ -204,7 +197,7 @@ impl Lodging<'_> {
 
     /// The group of facts that a word is in.
     fn group_of(&self, word: usize) -> (String, Part) {
-        let sheet = self.sheet;
+        let sheet = &self.sheet;
         let holds = |pair: &usize| {
             let Extent { at, length } = sheet::part(sheet, *pair);
             (at..at + length).contains(&word)
@@ -220,7 +213,7 @@ impl Lodging<'_> {
     }
 
     fn wrong_price(&self, a: usize) -> String {
-        let word = sheet::part(self.sheet, FIRST_ACTION + a).at;
+        let word = sheet::part(&self.sheet, FIRST_ACTION + a).at;
         let message = format!(
             "{} costs {}; a price is at most {MOST_PRICE}",
             self.action(a),

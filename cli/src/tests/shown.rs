@@ -3,7 +3,7 @@
 use super::{read, SMALL};
 use crate::answer::{Claim, Way};
 use crate::input::{read_files, File, Lodged};
-use crate::shorten::{shorten, Asked};
+use crate::shorten::{claim, shorten, Asked};
 use crate::table::{filled, shown, table, Style};
 
 const PLAIN: Style = Style {
@@ -92,6 +92,24 @@ fn each_way_strikes() {
             "{asked:?}"
         );
     }
+}
+
+/// Of no other list it is said that it may be lodged.
+#[test]
+fn what_may_be_lodged() {
+    let ways = [
+        (Way::Licence(Claim::Least), true),
+        (Way::Licence(Claim::Irreducible), true),
+        (Way::Licence(Claim::Open(21)), false),
+        (Way::Exact, false),
+        (Way::Greedy, false),
+        (Way::Eliminate, false),
+        (Way::Cheaper, false),
+    ];
+    for (way, may_be) in ways {
+        assert_eq!(claim(way).contains("It may be lodged."), may_be, "{way:?}");
+    }
+    assert!(claim(Way::Licence(Claim::Open(21))).contains("21 unmarked moves"));
 }
 
 #[test]
