@@ -1,7 +1,7 @@
 -- Which rows a step changes: a flagged one those that are written behind the unflagged step before it, an unflagged one those of its own block, which was
 -- empty. So the rows that an unflagged step asks for stay as it stamped them, and those that are written grow by the flagged steps behind it and stay from the
 -- next unflagged one on. By induction on the index. Assumes nothing.
-use Prim.Native.Nat.{ℕ, zero, suc, _+_, _*_, _≤_, _<_}
+use Prim.Native.Nat.{ℕ, zero, suc, _+_, _-_, _*_, _≤_, _<_}
 use native.Mathlib.Decide.{le-ind}
 use native.Mathlib.Omega.{arith}
 use mathlib.Core.Path.{_≡_, refl, sym, _∙_, ap}
@@ -13,16 +13,17 @@ use lib.Dec.{ltb}
 use borrow.Author.Tests.{ltb-true, ltb-false, lt-ltb, le-ltb}
 use Rattle.sas.specs.Task.{Fact, Assignment, State}
 use Rattle.sas.specs.Plan.{holds, applicable, written, needed}
-use Rattle.sas.specs.between.WellFormed.{Known, Action-formed}
+use Rattle.sas.specs.between.WellFormed.{Known, Action-formed, Plain}
 use Rattle.sas.proofs.ActionLaws.{applicable-needed}
-use Rattle.sas.proofs.WellFormedLaws.{rising-few}
+use Rattle.sas.proofs.WellFormedLaws.{Actions-plain, rising-few}
 use Rattle.reduction.specs.Reduction.{Reduction}
 use Rattle.reduction.specs.between.Course.{held-after}
-use Rattle.reduction.proofs.HeldLaws.{step-formed}
+use Rattle.reduction.proofs.HeldLaws.{each-step}
 use Rattle.sheet.specs.Decode.{domains, action}
 use Rattle.sheet.proofs.Parts.{accepted-measured}
 use Rattle.sheet.proofs.Accepted.{domains-length}
 use Rattle.plan.specs.Readable.{Readable}
+use Rattle.plan.specs.Valid.{steps}
 use Rattle.plan.proofs.PlanLaws.{steps-at, steps-formed}
 use Rattle.cuts.specs.between.Bits.{bits-hold}
 use Rattle.choice.specs.between.Chosen.{most-choices, open-before}
@@ -129,9 +130,9 @@ pub no-rows-blank : (r : ℕ) → Blank-from no-rows r 0
 no-rows-blank r v above below = zeros-there (most-rows * row-bytes) (r * row-bytes + v)
 
 -- the rows of the steps before an index
-module _ (w l : List ℕ) (flags : Reduction) (wanted used : List ℕ) (readable : Readable w l) (few : open-before flags (length l) ≤ most-choices) where
+module _ (w l : List ℕ) (flags : Reduction) (wanted useless : List ℕ) (readable : Readable w l) (plain : Actions-plain (domains w) (steps w l)) (few : open-before flags (length l) ≤ most-choices) where
   abbrev rows-at : ℕ → List ℕ
-  rows-at i = rows-before w l flags wanted used no-rows i
+  rows-at i = rows-before w l flags wanted useless no-rows i
 
   module _ (i : ℕ) (inside : i < length l) where
     -- the rows behind a flagged step, and behind an unflagged one
@@ -140,7 +141,7 @@ module _ (w l : List ℕ) (flags : Reduction) (wanted used : List ℕ) (readable
     rows-flagged up = rw (le-ltb most-choices (open-before flags i) (omega (arith, open-rises flags i (length l) (omega arith))), up)
 
     rows-unflagged : getD flags i false ≡ false → rows-at (suc i)
-        ≡ block-stamped (rows-at i) (open-before flags i + 1) (getD wanted i 0) (getD used i 0) (written (action w (getD l i 0)))
+        ≡ block-stamped (rows-at i) (open-before flags i + 1) (getD wanted i 0) (all-bits - getD useless i 0) (written (action w (getD l i 0)))
         (needed (action w (getD l i 0)))
     unfolding rows-before noted
     rows-unflagged down =
@@ -161,7 +162,7 @@ module _ (w l : List ℕ) (flags : Reduction) (wanted used : List ℕ) (readable
         by-case false down =
             let apart = unflagged down in
             rw (rows-unflagged down)
-            (block-other (rows-at i) (open-before flags i + 1) (getD wanted i 0) (getD used i 0) (written (action w (getD l i 0)))
+            (block-other (rows-at i) (open-before flags i + 1) (getD wanted i 0) (all-bits - getD useless i 0) (written (action w (getD l i 0)))
             (needed (action w (getD l i 0))) o (apart .0) (apart .1) (apart .2) (apart .3))
 
   -- no step changes how long they are
@@ -175,7 +176,7 @@ module _ (w l : List ℕ) (flags : Reduction) (wanted used : List ℕ) (readable
           ap length (rows-flagged i within up) ∙ both-sized (rows-at i) (open-before flags i) (written (action w (getD l i 0))) ∙ so-far
       by-case so-far false down =
           ap length (rows-unflagged i within down)
-          ∙ block-sized (rows-at i) (open-before flags i + 1) (getD wanted i 0) (getD used i 0) (written (action w (getD l i 0)))
+          ∙ block-sized (rows-at i) (open-before flags i + 1) (getD wanted i 0) (all-bits - getD useless i 0) (written (action w (getD l i 0)))
           (needed (action w (getD l i 0)))
           ∙ so-far
 
@@ -202,7 +203,7 @@ module _ (w l : List ℕ) (flags : Reduction) (wanted used : List ℕ) (readable
 
   -- and from an unflagged step on those of the block before it
   pub rows-done : (i : ℕ) (o : ℕ) → o ≤ kept-row (open-before flags i) → i ≤ length l → (i < length l → getD flags i false ≡ false)
-      → Same-row (rows-before w l flags wanted used no-rows (length l)) (rows-before w l flags wanted used no-rows i) o
+      → Same-row (rows-before w l flags wanted useless no-rows (length l)) (rows-before w l flags wanted useless no-rows i) o
   rows-done i o lower within unflagged = by-case (ltb i (length l)) refl
     where
       by-case : (c : Bool) → ltb i (length l) ≡ c → Same-row (rows-at (length l)) (rows-at i) o
@@ -222,15 +223,19 @@ module _ (w l : List ℕ) (flags : Reduction) (wanted used : List ℕ) (readable
   module _ (i : ℕ) (inside : i < length l) where
     -- the step there is over the domains
     formed-at : Action-formed (domains w) (action w (getD l i 0))
-    formed-at = rw (steps-at w l i inside) at (step-formed (steps-formed w l (readable .accepted) (readable .known)) i (rw (length-map l (action w)) inside))
+    formed-at = rw (steps-at w l i inside) at (each-step (steps-formed w l (readable .accepted) (readable .known)) i (rw (length-map l (action w)) inside))
+
+    -- and plain
+    plain-at : Plain (domains w) (action w (getD l i 0))
+    plain-at = rw (steps-at w l i inside) at (each-step plain i (rw (length-map l (action w)) inside))
 
     sized-there : length (rows-at i) ≡ most-rows * row-bytes
     sized-there = rows-sized i (omega arith)
 
     -- a flagged step is written last behind the unflagged step before it, where that is struck
     pub struck-grows : getD flags i false ≡ true → (b : List ℕ) (f : Fact) → Known (domains w) f
-        → has-byte (written-over (rows-before w l flags wanted used no-rows (suc i)) (struck-row (open-before flags i)) b) f
-        ≡ held-after (action w (getD l i 0)) f (has-byte (written-over (rows-before w l flags wanted used no-rows i) (struck-row (open-before flags i)) b) f)
+        → has-byte (written-over (rows-before w l flags wanted useless no-rows (suc i)) (struck-row (open-before flags i)) b) f
+        ≡ held-after (action w (getD l i 0)) f (has-byte (written-over (rows-before w l flags wanted useless no-rows i) (struck-row (open-before flags i)) b) f)
     struck-grows up b f known =
         let effect : Assignment = written (action w (getD l i 0)) in
         let d : ℕ = open-before flags i in
@@ -240,12 +245,12 @@ module _ (w l : List ℕ) (flags : Reduction) (wanted used : List ℕ) (readable
               (stamped-row-other (struck-stamped (rows-at i) d effect) (kept-row d) all-bits effect (struck-row d) (omega arith)),
         )
         (stamped-held narrow b (rows-at i) (struck-row d) (omega (arith, open-rises flags i (length l) (omega arith))) sized-there (action w (getD l i 0))
-        formed-at f known)
+        plain-at f known)
 
     -- and where that is kept
     pub kept-grows : getD flags i false ≡ true → (b : List ℕ) (f : Fact) → Known (domains w) f
-        → has-byte (written-over (rows-before w l flags wanted used no-rows (suc i)) (kept-row (open-before flags i)) b) f
-        ≡ held-after (action w (getD l i 0)) f (has-byte (written-over (rows-before w l flags wanted used no-rows i) (kept-row (open-before flags i)) b) f)
+        → has-byte (written-over (rows-before w l flags wanted useless no-rows (suc i)) (kept-row (open-before flags i)) b) f
+        ≡ held-after (action w (getD l i 0)) f (has-byte (written-over (rows-before w l flags wanted useless no-rows i) (kept-row (open-before flags i)) b) f)
     kept-grows up b f known =
         let effect : Assignment = written (action w (getD l i 0)) in
         let d : ℕ = open-before flags i in
@@ -255,7 +260,7 @@ module _ (w l : List ℕ) (flags : Reduction) (wanted used : List ℕ) (readable
               (stamped-row-other (rows-at i) (struck-row d) all-bits effect (kept-row d) (omega arith)),
         )
         (stamped-held narrow b (struck-stamped (rows-at i) d effect) (kept-row d) (omega (arith, open-rises flags i (length l) (omega arith)))
-        (stamped-row-length (rows-at i) (struck-row d) all-bits effect ∙ sized-there) (action w (getD l i 0)) formed-at f known)
+        (stamped-row-length (rows-at i) (struck-row d) all-bits effect ∙ sized-there) (action w (getD l i 0)) plain-at f known)
 
     -- an unflagged step has the rows of the next block, which are empty before it
     module _ (down : getD flags i false ≡ false) where
@@ -267,7 +272,7 @@ module _ (w l : List ℕ) (flags : Reduction) (wanted used : List ℕ) (readable
 
       -- where it is struck, nothing is written yet
       pub struck-starts : (b : List ℕ) → length b ≡ state-bytes
-          → written-over (rows-before w l flags wanted used no-rows (suc i)) (struck-row (open-before flags i + 1)) b ≡ b
+          → written-over (rows-before w l flags wanted useless no-rows (suc i)) (struck-row (open-before flags i + 1)) b ≡ b
       struck-starts b sized =
           blank-written (rows-at (suc i)) (struck-row (open-before flags i + 1)) b sized
           (blank-on (rows-at (suc i)) (rows-at i) (struck-row (open-before flags i + 1))
@@ -283,57 +288,57 @@ module _ (w l : List ℕ) (flags : Reduction) (wanted used : List ℕ) (readable
 
       -- where it is kept, what it writes itself
       pub kept-starts : (b : List ℕ) → length b ≡ state-bytes → (f : Fact) → Known (domains w) f
-          → has-byte (written-over (rows-before w l flags wanted used no-rows (suc i)) (kept-row (open-before flags i + 1)) b) f
+          → has-byte (written-over (rows-before w l flags wanted useless no-rows (suc i)) (kept-row (open-before flags i + 1)) b) f
           ≡ held-after (action w (getD l i 0)) f (has-byte b f)
       kept-starts b sized f known =
           let d : ℕ = open-before flags i + 1 in
-          let third : List ℕ = third-stamped (rows-at i) d (getD wanted i 0) (getD used i 0) effect-there precondition-there in
+          let third : List ℕ = third-stamped (rows-at i) d (getD wanted i 0) (all-bits - getD useless i 0) effect-there precondition-there in
           rw (rows-unflagged i inside down)
           (stamped-held narrow b third (kept-row d) block-room
-          (third-sized (rows-at i) d (getD wanted i 0) (getD used i 0) effect-there precondition-there ∙ sized-there) (action w (getD l i 0)) formed-at f
+          (third-sized (rows-at i) d (getD wanted i 0) (all-bits - getD useless i 0) effect-there precondition-there ∙ sized-there) (action w (getD l i 0)) plain-at f
           known
           ∙ ap (λ s. held-after (action w (getD l i 0)) f (has-byte s f))
           (blank-written third (kept-row d) b sized
           (blank-on third (rows-at i) (kept-row d)
-          (third-other (rows-at i) d (getD wanted i 0) (getD used i 0) effect-there precondition-there (kept-row d) (omega arith) (omega arith) (omega arith))
+          (third-other (rows-at i) d (getD wanted i 0) (all-bits - getD useless i 0) effect-there precondition-there (kept-row d) (omega arith) (omega arith) (omega arith))
           (empty-there (kept-row d) (omega arith)))))
 
       -- the rows that it asks for stay as it stamped them
       block-stays : (o : ℕ) → o < struck-row (open-before flags i + 1) → Same-row (rows-at (length l))
-          (block-stamped (rows-at i) (open-before flags i + 1) (getD wanted i 0) (getD used i 0) effect-there precondition-there) o
+          (block-stamped (rows-at i) (open-before flags i + 1) (getD wanted i 0) (all-bits - getD useless i 0) effect-there precondition-there) o
       block-stays o lower =
           rw (rows-unflagged i inside down) at
           (rows-stay (suc i) o (omega (arith, open-unflagged flags i down)) inside)
 
       module _ (b : List ℕ) (u : State) (told : (f : Fact) → Known (domains w) f → has-byte b f ≡ holds u f) where
         -- the state has all that its row of a strike asks for just where what is wanted of its effect holds
-        pub strike-asked : has-all (rows-before w l flags wanted used no-rows (length l)) (strike-row (open-before flags i + 1)) b
+        pub strike-asked : has-all (rows-before w l flags wanted useless no-rows (length l)) (strike-row (open-before flags i + 1)) b
             ≡ bits-hold u (getD wanted i 0) (written (action w (getD l i 0)))
         unfolding written
         strike-asked =
             let d : ℕ = open-before flags i + 1 in
-            let last : List ℕ = block-stamped (rows-at i) d (getD wanted i 0) (getD used i 0) effect-there precondition-there in
-            let first : List ℕ = first-stamped (rows-at i) d (getD wanted i 0) (getD used i 0) effect-there precondition-there in
+            let last : List ℕ = block-stamped (rows-at i) d (getD wanted i 0) (all-bits - getD useless i 0) effect-there precondition-there in
+            let first : List ℕ = first-stamped (rows-at i) d (getD wanted i 0) (all-bits - getD useless i 0) effect-there precondition-there in
             same-asked (rows-at (length l)) first (strike-row d) b
             (same-through (rows-at (length l)) last first (strike-row d) (block-stays (strike-row d) (omega arith))
-            (strike-stays (rows-at i) d (getD wanted i 0) (getD used i 0) effect-there precondition-there))
-            ∙ stamped-asked narrow b u told (rows-at i) (strike-row d) (getD wanted i 0) (omega (arith, block-room)) sized-there (formed-at .effect)
+            (strike-stays (rows-at i) d (getD wanted i 0) (all-bits - getD useless i 0) effect-there precondition-there))
+            ∙ stamped-asked narrow b u told (rows-at i) (strike-row d) (getD wanted i 0) (omega (arith, block-room)) sized-there (plain-at .effect)
             (empty-there (strike-row d) (omega arith))
 
         -- all that its row of a keep asks for just where it is applicable
-        pub keep-asked : has-all (rows-before w l flags wanted used no-rows (length l)) (keep-row (open-before flags i + 1)) b
+        pub keep-asked : has-all (rows-before w l flags wanted useless no-rows (length l)) (keep-row (open-before flags i + 1)) b
             ≡ applicable u (action w (getD l i 0))
         unfolding needed
         keep-asked =
             let d : ℕ = open-before flags i + 1 in
-            let last : List ℕ = block-stamped (rows-at i) d (getD wanted i 0) (getD used i 0) effect-there precondition-there in
-            let second : List ℕ = second-stamped (rows-at i) d (getD wanted i 0) (getD used i 0) effect-there precondition-there in
-            let first : List ℕ = first-stamped (rows-at i) d (getD wanted i 0) (getD used i 0) effect-there precondition-there in
+            let last : List ℕ = block-stamped (rows-at i) d (getD wanted i 0) (all-bits - getD useless i 0) effect-there precondition-there in
+            let second : List ℕ = second-stamped (rows-at i) d (getD wanted i 0) (all-bits - getD useless i 0) effect-there precondition-there in
+            let first : List ℕ = first-stamped (rows-at i) d (getD wanted i 0) (all-bits - getD useless i 0) effect-there precondition-there in
             same-asked (rows-at (length l)) second (keep-row d) b
             (same-through (rows-at (length l)) last second (keep-row d) (block-stays (keep-row d) (omega arith))
-            (keep-stays (rows-at i) d (getD wanted i 0) (getD used i 0) effect-there precondition-there))
+            (keep-stays (rows-at i) d (getD wanted i 0) (all-bits - getD useless i 0) effect-there precondition-there))
             ∙ stamped-asked narrow b u told first (keep-row d) all-bits (omega (arith, block-room))
-            (first-sized (rows-at i) d (getD wanted i 0) (getD used i 0) effect-there precondition-there ∙ sized-there) (formed-at .precondition)
+            (first-sized (rows-at i) d (getD wanted i 0) (all-bits - getD useless i 0) effect-there precondition-there ∙ sized-there) (formed-at .precondition)
             (blank-on first (rows-at i) (keep-row d)
             (stamped-row-other (rows-at i) (strike-row d) (getD wanted i 0) effect-there (keep-row d) (omega arith))
             (empty-there (keep-row d) (omega arith)))
@@ -341,19 +346,19 @@ module _ (w l : List ℕ) (flags : Reduction) (wanted used : List ℕ) (readable
             ∙ sym (applicable-needed u (action w (getD l i 0)))
 
         -- and all that its row of use asks for just where what is of use of its effect holds
-        pub use-asked : has-all (rows-before w l flags wanted used no-rows (length l)) (use-row (open-before flags i + 1)) b
-            ≡ bits-hold u (getD used i 0) (written (action w (getD l i 0)))
+        pub use-asked : has-all (rows-before w l flags wanted useless no-rows (length l)) (use-row (open-before flags i + 1)) b
+            ≡ bits-hold u (all-bits - getD useless i 0) (written (action w (getD l i 0)))
         unfolding written
         use-asked =
             let d : ℕ = open-before flags i + 1 in
-            let last : List ℕ = block-stamped (rows-at i) d (getD wanted i 0) (getD used i 0) effect-there precondition-there in
-            let third : List ℕ = third-stamped (rows-at i) d (getD wanted i 0) (getD used i 0) effect-there precondition-there in
-            let second : List ℕ = second-stamped (rows-at i) d (getD wanted i 0) (getD used i 0) effect-there precondition-there in
+            let last : List ℕ = block-stamped (rows-at i) d (getD wanted i 0) (all-bits - getD useless i 0) effect-there precondition-there in
+            let third : List ℕ = third-stamped (rows-at i) d (getD wanted i 0) (all-bits - getD useless i 0) effect-there precondition-there in
+            let second : List ℕ = second-stamped (rows-at i) d (getD wanted i 0) (all-bits - getD useless i 0) effect-there precondition-there in
             same-asked (rows-at (length l)) third (use-row d) b
             (same-through (rows-at (length l)) last third (use-row d) (block-stays (use-row d) (omega arith))
-            (use-stays (rows-at i) d (getD wanted i 0) (getD used i 0) effect-there precondition-there))
-            ∙ stamped-asked narrow b u told second (use-row d) (getD used i 0) (omega (arith, block-room))
-            (second-sized (rows-at i) d (getD wanted i 0) (getD used i 0) effect-there precondition-there ∙ sized-there) (formed-at .effect)
+            (use-stays (rows-at i) d (getD wanted i 0) (all-bits - getD useless i 0) effect-there precondition-there))
+            ∙ stamped-asked narrow b u told second (use-row d) (all-bits - getD useless i 0) (omega (arith, block-room))
+            (second-sized (rows-at i) d (getD wanted i 0) (all-bits - getD useless i 0) effect-there precondition-there ∙ sized-there) (plain-at .effect)
             (blank-on second (rows-at i) (use-row d)
-            (second-other (rows-at i) d (getD wanted i 0) (getD used i 0) effect-there precondition-there (use-row d) (omega arith) (omega arith))
+            (second-other (rows-at i) d (getD wanted i 0) (all-bits - getD useless i 0) effect-there precondition-there (use-row d) (omega arith) (omega arith))
             (empty-there (use-row d) (omega arith)))

@@ -1,7 +1,7 @@
 -- What the rows of an unflagged step tell of a state in bytes, and write over it: whether the step may be struck, whether it can be done, and whether what of
 -- use it may write holds already; and the state before the next unflagged step, where it is struck and where it is kept, since each flagged step on the way
 -- there was written into these rows. What it costs stands at its number. By induction on the index. Assumes nothing.
-use Prim.Native.Nat.{ℕ, zero, suc, _+_, _%_, _≤_, _<_}
+use Prim.Native.Nat.{ℕ, zero, suc, _+_, _-_, _%_, _≤_, _<_}
 use native.Mathlib.Numerals.{add-one}
 use native.Mathlib.Decide.{le-ind}
 use native.Mathlib.Omega.{arith}
@@ -15,6 +15,7 @@ use borrow.Author.Tests.{lt-ltb}
 use Rattle.sas.specs.Task.{Fact}
 use Rattle.sas.specs.Plan.{holds, applicable, written}
 use Rattle.sas.specs.between.WellFormed.{Known}
+use Rattle.sas.proofs.WellFormedLaws.{Actions-plain}
 use Rattle.reduction.specs.Reduction.{Reduction}
 use Rattle.reduction.specs.Landmark.{step}
 use Rattle.reduction.specs.between.Search.{Visit}
@@ -32,7 +33,7 @@ use Rattle.step.proofs.StateLaws.{array-parts, few-variables}
 use Rattle.cuts.specs.between.Bits.{bits-hold}
 use Rattle.choice.specs.between.Chosen.{most-choices, open-before}
 use Rattle.choice.specs.between.Packed.{has-all, written-over, packed-start, Tells-state}
-use Rattle.choice.specs.between.Rows.{strike-row, keep-row, use-row, struck-row, kept-row, noted-cost, rows-before, costs-before}
+use Rattle.choice.specs.between.Rows.{strike-row, keep-row, use-row, struck-row, kept-row, all-bits, noted-cost, rows-before, costs-before}
 use Rattle.choice.proofs.ChosenLaws.{open-unflagged, open-rises, open-stays, Next-open}
 use Rattle.choice.proofs.RowWriteLaws.{has-byte, over-length, same-written, blank-written}
 use Rattle.choice.proofs.BlockLaws.{open-room, no-rows, no-rows-blank, rows-done}
@@ -74,9 +75,9 @@ module _ (w l : List ℕ) (readable : Readable w l) (n : Reduction) where
             rw (start-at (f .variable) (known .variable), lt-ltb (f .variable) (length (initial w)) (omega (arith, initial-complete, known .variable)));
       }
 
-module _ (w l : List ℕ) (flags : Reduction) (wanted used : List ℕ) (readable : Readable w l) (few : open-before flags (length l) ≤ most-choices) where
+module _ (w l : List ℕ) (flags : Reduction) (wanted useless : List ℕ) (readable : Readable w l) (plain : Actions-plain (domains w) (steps w l)) (few : open-before flags (length l) ≤ most-choices) where
   abbrev rows-to : ℕ → List ℕ
-  rows-to i = rows-before w l flags wanted used no-rows i
+  rows-to i = rows-before w l flags wanted useless no-rows i
 
   module _ (v : Visit) (course : On-course (goal w) (initial w) (steps w l) flags v) (inside : v .index < length l)
       (down : getD flags (v .index) false ≡ false) (b : List ℕ) (told : Tells-state w l (v .so-far) (v .index) b) where
@@ -84,20 +85,20 @@ module _ (w l : List ℕ) (flags : Reduction) (wanted used : List ℕ) (readable
     told-there f known = told .tells f known ∙ sym (course .told f)
 
     -- the row of a strike tells whether what is wanted of what the step may write holds
-    pub strike-row-tells : has-all (rows-before w l flags wanted used no-rows (length l)) (strike-row (open-before flags (v .index) + 1)) b
+    pub strike-row-tells : has-all (rows-before w l flags wanted useless no-rows (length l)) (strike-row (open-before flags (v .index) + 1)) b
         ≡ bits-hold (v .state) (getD wanted (v .index) 0) (written (step (steps w l) (v .index)))
     strike-row-tells =
-        strike-asked w l flags wanted used readable few (v .index) inside down b (v .state) told-there ∙ rw (steps-at w l (v .index) inside)
+        strike-asked w l flags wanted useless readable plain few (v .index) inside down b (v .state) told-there ∙ rw (steps-at w l (v .index) inside)
 
     -- that of a keep tells whether the step can be done
-    pub keep-row-tells : has-all (rows-before w l flags wanted used no-rows (length l)) (keep-row (open-before flags (v .index) + 1)) b
+    pub keep-row-tells : has-all (rows-before w l flags wanted useless no-rows (length l)) (keep-row (open-before flags (v .index) + 1)) b
         ≡ applicable (v .state) (step (steps w l) (v .index))
-    keep-row-tells = keep-asked w l flags wanted used readable few (v .index) inside down b (v .state) told-there ∙ rw (steps-at w l (v .index) inside)
+    keep-row-tells = keep-asked w l flags wanted useless readable plain few (v .index) inside down b (v .state) told-there ∙ rw (steps-at w l (v .index) inside)
 
     -- and that of its use whether what of use it may write holds
-    pub use-row-tells : has-all (rows-before w l flags wanted used no-rows (length l)) (use-row (open-before flags (v .index) + 1)) b
-        ≡ bits-hold (v .state) (getD used (v .index) 0) (written (step (steps w l) (v .index)))
-    use-row-tells = use-asked w l flags wanted used readable few (v .index) inside down b (v .state) told-there ∙ rw (steps-at w l (v .index) inside)
+    pub use-row-tells : has-all (rows-before w l flags wanted useless no-rows (length l)) (use-row (open-before flags (v .index) + 1)) b
+        ≡ bits-hold (v .state) (all-bits - getD useless (v .index) 0) (written (step (steps w l) (v .index)))
+    use-row-tells = use-asked w l flags wanted useless readable plain few (v .index) inside down b (v .state) told-there ∙ rw (steps-at w l (v .index) inside)
 
   -- row r of the block before index i grows by the flagged steps from there on, which n keeps
   module _ (n : Reduction) (i j : ℕ) (next : Next-open flags i (length l) j) (keeps : (k : ℕ) → i ≤ k → k < j → getD n k false ≡ true) (b : List ℕ) where
@@ -121,7 +122,7 @@ module _ (w l : List ℕ) (flags : Reduction) (wanted used : List ℕ) (readable
           sized = over-length (rows-to (length l)) r b;
           tells =
               rw (same-written (rows-to (length l)) (rows-to j) r b
-              (rows-done w l flags wanted used readable few j r (omega (arith, open-rises flags i j (next .later))) (next .within) (next .unflagged)))
+              (rows-done w l flags wanted useless readable plain few j r (omega (arith, open-rises flags i j (next .later))) (next .within) (next .unflagged)))
               there;
         }
 
@@ -134,7 +135,7 @@ module _ (w l : List ℕ) (flags : Reduction) (wanted used : List ℕ) (readable
         passed-tells (struck-row (open-before flags i)) (omega arith)
         (passed-on (struck-row (open-before flags i))
         (λ k later below f known. rw (open-there k later below) at
-        (struck-grows w l flags wanted used readable few k (omega (arith, next .within)) (next .passed k later below) b f known))
+        (struck-grows w l flags wanted useless readable plain few k (omega (arith, next .within)) (next .passed k later below) b f known))
         before)
 
     passed-kept : Bytes-tell w l n i (written-over (rows-to i) (kept-row (open-before flags i)) b)
@@ -143,7 +144,7 @@ module _ (w l : List ℕ) (flags : Reduction) (wanted used : List ℕ) (readable
         passed-tells (kept-row (open-before flags i)) (omega arith)
         (passed-on (kept-row (open-before flags i))
         (λ k later below f known. rw (open-there k later below) at
-        (kept-grows w l flags wanted used readable few k (omega (arith, next .within)) (next .passed k later below) b f known))
+        (kept-grows w l flags wanted useless readable plain few k (omega (arith, next .within)) (next .passed k later below) b f known))
         before)
 
   module _ (i : ℕ) (inside : i < length l) (down : getD flags i false ≡ false) (m n : Reduction) (j : ℕ) (next : Next-open flags (suc i) (length l) j)
@@ -156,27 +157,27 @@ module _ (w l : List ℕ) (flags : Reduction) (wanted used : List ℕ) (readable
 
     -- where the step is struck, its row of that writes the state before the next unflagged step
     pub struck-row-writes : getD n i false ≡ false
-        → Tells-state w l n j (written-over (rows-before w l flags wanted used no-rows (length l)) (struck-row (open-before flags i + 1)) b)
+        → Tells-state w l n j (written-over (rows-before w l flags wanted useless no-rows (length l)) (struck-row (open-before flags i + 1)) b)
     struck-row-writes out =
         rw open-next at
         (passed-struck n (suc i) j next keeps b
-        (rw (open-next, struck-starts w l flags wanted used readable few i inside down b (told .sized))
+        (rw (open-next, struck-starts w l flags wanted useless readable plain few i inside down b (told .sized))
         (λ f known. told-alike f known ∙ sym (held-struck (initial w) (steps w l) n f i out))))
 
     -- where it is kept, its row of that does
     pub kept-row-writes : getD n i false ≡ true
-        → Tells-state w l n j (written-over (rows-before w l flags wanted used no-rows (length l)) (kept-row (open-before flags i + 1)) b)
+        → Tells-state w l n j (written-over (rows-before w l flags wanted useless no-rows (length l)) (kept-row (open-before flags i + 1)) b)
     kept-row-writes up =
         rw open-next at
         (passed-kept n (suc i) j next keeps b
         (rw open-next
         (λ f known.
-        kept-starts w l flags wanted used readable few i inside down b (told .sized) f known
+        kept-starts w l flags wanted useless readable plain few i inside down b (told .sized) f known
         ∙ rw (told-alike f known, ← steps-at w l i inside) (sym (held-kept (initial w) (steps w l) n f i up)))))
 
   -- the state before the first unflagged step
   pub start-row-writes : (n : Reduction) (j : ℕ) → Next-open flags 0 (length l) j → ((k : ℕ) → k < j → getD n k false ≡ true)
-      → Tells-state w l n j (written-over (rows-before w l flags wanted used no-rows (length l)) (struck-row 0) (packed-start (in-array (initial w))))
+      → Tells-state w l n j (written-over (rows-before w l flags wanted useless no-rows (length l)) (struck-row 0) (packed-start (in-array (initial w))))
   unfolding open-before rows-before
   start-row-writes n j next keeps =
       let start : List ℕ = packed-start (in-array (initial w)) in

@@ -16,7 +16,7 @@ use lib.Dec.{ltb, eqb}
 use borrow.Author.Tests.{ltb-true, eqb-true, eqb-false, eq-eqb, ne-eqb, lt-ltb}
 use Rattle.sas.specs.Task.{Fact, Assignment, State, Action}
 use Rattle.sas.specs.Plan.{holds, satisfies, written, assign, apply}
-use Rattle.sas.specs.between.WellFormed.{Known, Rising, Action-formed}
+use Rattle.sas.specs.between.WellFormed.{Known, Rising, Plain}
 use Rattle.sas.specs.between.WellFormed.Rising.{empty, fact}
 use Rattle.sas.proofs.FactLaws.{satisfies-nothing, satisfies-more, satisfies-failing}
 use Rattle.sas.proofs.WellFormedLaws.{rising-few}
@@ -340,7 +340,7 @@ front-holds {domains} b f long known =
     )
 
 module _ {domains : List ℕ} (narrow : length domains ≤ state-bytes) (b : List ℕ) (rows : List ℕ) (r : ℕ) (room : r < most-rows)
-    (sized : length rows ≡ most-rows * row-bytes) (a : Action) (formed : Action-formed domains a) where
+    (sized : length rows ≡ most-rows * row-bytes) (a : Action) (plain : Plain domains a) where
   -- to write a row that was stamped with what an action writes is to write the row and then to do the action
   pub stamped-held : (f : Fact) → Known domains f → has-byte (written-over (stamped-row rows r all-bits (written a)) r b) f
       ≡ held-after a f (has-byte (written-over rows r b) f)
@@ -348,8 +348,8 @@ module _ {domains : List ℕ} (narrow : length domains ≤ state-bytes) (b : Lis
   stamped-held f known =
       let long : length domains ≤ length (written-over rows r b) = omega (arith, over-length rows r b) in
       let longer : length domains ≤ length (assign (written-over rows r b) (a .effect)) = omega (arith, apply-length (written-over rows r b) a) in
-      rw (stamped-written narrow b rows r room sized (formed .effect))
+      rw (stamped-written narrow b rows r room sized (plain .effect))
       (sym (front-holds (assign (written-over rows r b) (a .effect)) f longer known)
-      ∙ ap (λ s. holds s f) (front-assigned (written-over rows r b) (formed .effect))
-      ∙ apply-held a f (take (length domains) (written-over rows r b)) formed (length-take-le (length domains) (written-over rows r b) long)
+      ∙ ap (λ s. holds s f) (front-assigned (written-over rows r b) (plain .effect))
+      ∙ apply-held a f (take (length domains) (written-over rows r b)) plain (length-take-le (length domains) (written-over rows r b) long)
       ∙ ap (held-after a f) (front-holds (written-over rows r b) f long known))

@@ -1,19 +1,23 @@
--- Rows by the cases of the code: a fact put into a row, a row that is filled along a group, the rows of a step, and its cost. What the code calls is a variable
+-- Rows by the cases of the code: a fact put into a row, a row that is filled along facts, the rows of a step, and its cost. What the code calls is a variable
 -- here, with what is known of it as a premise. Assumes nothing.
 use Prim.Native.Nat.{ℕ, suc, _+_, _-_, _*_, _/_, _%_, _≤_, _<_}
 use native.Mathlib.Omega.{arith}
 use mathlib.Core.Path.{_≡_, refl, _∙_}
 use mathlib.Core.Bool.{Bool, true, false}
-use mathlib.Core.List.{List}
+use mathlib.Core.List.{List, [], _∷_}
 use lib.ListN.{length, set, take}
 use lib.Seq.{take-nil}
 use borrow.Author.Tests.{lt-ltb, le-ltb, ne-eqb}
+use Rattle.sas.specs.Task.{Assignment}
 use Rattle.sheet.specs.declared.group.Group.{Group}
+use Rattle.sheet.specs.declared.effects.Effects.{Effects}
 use Rattle.sheet.specs.Limits.{limits}
 use Rattle.sheet.specs.Layout.{cost-word}
 use Rattle.sheet.specs.Decode.{fact-of}
-use Rattle.sheet.specs.between.Group.{written-group, needed-group, facts-in, first-fact, rest-of}
-use Rattle.sheet.proofs.GroupLaws.{group-over, group-next, written-facts, needed-facts}
+use Rattle.sheet.specs.between.Group.{needed-group, facts-in}
+use Rattle.sheet.specs.between.Effects.{effects-of, written-in}
+use Rattle.sheet.proofs.GroupLaws.{needed-facts}
+use Rattle.sheet.proofs.EffectLaws.{effects-written}
 use Rattle.choice.specs.between.Packed.{state-bytes, row-bytes}
 use Rattle.choice.specs.between.Chosen.{most-choices}
 use Rattle.choice.specs.between.Rows.{strike-row, keep-row, use-row, struck-row, kept-row, all-bits}
@@ -36,40 +40,39 @@ module _ (rows : List ℕ) (r bits x : ℕ) where
   unfolding laid
   laid-unasked even = rw (ne-eqb (bits % 2) 1 even)
 
-module _ (w : List ℕ) where
-  -- k facts of the group g are seen, `rest` is what is left of it, and what it lays is the rest of what row r gets
-  pub record Stamping (rows₀ : List ℕ) (r bits : ℕ) (g : Group) (rows : List ℕ) (left : ℕ) (rest : Group) (k : ℕ) : Type 0 where
-    pub room : k ≤ state-bytes
-    pub sized : length rows ≡ length rows₀
-    pub whole : laid-all rows r left (take (state-bytes - k) (facts-in w rest)) ≡ stamped-row rows₀ r bits (facts-in w g)
+-- k facts are seen, those of q are left, and what they lay is the rest of what row r gets of all
+pub record Stamping (rows₀ : List ℕ) (r bits : ℕ) (all : Assignment) (rows : List ℕ) (left : ℕ) (q : Assignment) (k : ℕ) : Type 0 where
+  pub room : k ≤ state-bytes
+  pub sized : length rows ≡ length rows₀
+  pub whole : laid-all rows r left (take (state-bytes - k) q) ≡ stamped-row rows₀ r bits all
 
-  module _ (rows₀ : List ℕ) (r bits : ℕ) (g : Group) where
-    -- no fact is seen
-    pub stamping-start : Stamping rows₀ r bits g rows₀ bits g 0
-    stamping-start = record { room = omega arith; sized = refl; whole = refl }
+module _ (rows₀ : List ℕ) (r bits : ℕ) (all : Assignment) where
+  -- no fact is seen
+  pub stamping-start : Stamping rows₀ r bits all rows₀ bits all 0
+  stamping-start = record { room = omega arith; sized = refl; whole = refl }
 
-    module _ (rows : List ℕ) (left : ℕ) (rest : Group) (k : ℕ) (so-far : Stamping rows₀ r bits g rows left rest k) where
-      -- no fact is left
-      pub row-over : rest .end ≤ rest .at → rows ≡ stamped-row rows₀ r bits (facts-in w g)
-      unfolding laid-all
-      row-over over = rw (group-over w rest over, take-nil) at (so-far .whole)
+  module _ (rows : List ℕ) (left : ℕ) (q : Assignment) (k : ℕ) (so-far : Stamping rows₀ r bits all rows left q k) where
+    -- no fact is left
+    pub row-over : q ≡ [] → rows ≡ stamped-row rows₀ r bits all
+    unfolding laid-all
+    row-over over = rw (over, take-nil) at (so-far .whole)
 
-      -- the row has no room for more
-      pub row-full : state-bytes ≤ k → rows ≡ stamped-row rows₀ r bits (facts-in w g)
-      unfolding laid-all
-      row-full full = let none : state-bytes - k ≡ 0 = omega arith in rw none at (so-far .whole)
+    -- the row has no room for more
+    pub row-full : state-bytes ≤ k → rows ≡ stamped-row rows₀ r bits all
+    unfolding laid-all
+    row-full full = let none : state-bytes - k ≡ 0 = omega arith in rw none at (so-far .whole)
 
-      -- one more fact is seen
-      pub stamping-more : rest .at < rest .end → k < state-bytes → (x : ℕ) (after : List ℕ) → x ≡ first-fact w rest → after ≡ laid rows r left (fact-of x)
-          → length after ≡ length rows → (rest′ : Group) → rest′ ≡ rest-of w rest → Stamping rows₀ r bits g after (left / 2) rest′ (k + 1)
-      unfolding laid-all
-      stamping-more some low x after read lays same rest′ e =
-          let more : state-bytes - k ≡ suc (state-bytes - (k + 1)) = omega arith in
-          record {
-            room = omega arith;
-            sized = same ∙ so-far .sized;
-            whole = rw (e, lays, read) (rw (more, group-next w rest some) at (so-far .whole));
-          }
+    -- one more fact is seen
+    pub stamping-more : k < state-bytes → (x y : ℕ) (after : List ℕ) (q′ : Assignment) → q ≡ fact-of y ∷ q′ → x ≡ y → after ≡ laid rows r left (fact-of x)
+        → length after ≡ length rows → Stamping rows₀ r bits all after (left / 2) q′ (k + 1)
+    unfolding laid-all
+    stamping-more low x y after q′ next read lays same =
+        let more : state-bytes - k ≡ suc (state-bytes - (k + 1)) = omega arith in
+        record {
+          room = omega arith;
+          sized = same ∙ so-far .sized;
+          whole = rw (lays, read) (rw (more, next) at (so-far .whole));
+        }
 
 module _ (w : List ℕ) (a d wants uses : ℕ) (rows : List ℕ) where
   -- a step that there is no block for has no rows
@@ -78,25 +81,25 @@ module _ (w : List ℕ) (a d wants uses : ℕ) (rows : List ℕ) where
   noted-beyond flagged beyond = rw (lt-ltb most-choices d beyond)
 
   module _ (flagged : Bool) (room : d ≤ most-choices) where
-    module _ (effect : Group) (writes : effect ≡ written-group w a) where
+    module _ (effects : Effects) (writes : effects ≡ effects-of w a) where
       -- what a flagged one writes is written behind the step before it
       pub noted-flagged : (r s : ℕ) (one two : List ℕ) → flagged ≡ true → r ≡ struck-row d → s ≡ kept-row d
-          → one ≡ stamped-row rows r all-bits (facts-in w effect) → two ≡ stamped-row one s all-bits (facts-in w effect)
+          → one ≡ stamped-row rows r all-bits (written-in w effects) → two ≡ stamped-row one s all-bits (written-in w effects)
           → two ≡ noted w a flagged d wants uses rows
       unfolding noted
       noted-flagged r s one two up struck kept first second =
-          rw (le-ltb most-choices d room, up, second, first, struck, kept, writes, written-facts w a)
+          rw (le-ltb most-choices d room, up, second, first, struck, kept, writes, effects-written w a)
 
       -- an unflagged one has a block of its own
       pub noted-open : (precondition : Group) → precondition ≡ needed-group w a → (r s t u : ℕ) (one two three four : List ℕ) → flagged ≡ false
           → d < most-choices → r ≡ strike-row (d + 1) → s ≡ keep-row (d + 1) → t ≡ use-row (d + 1) → u ≡ kept-row (d + 1)
-          → one ≡ stamped-row rows r wants (facts-in w effect) → two ≡ stamped-row one s all-bits (facts-in w precondition)
-          → three ≡ stamped-row two t uses (facts-in w effect) → four ≡ stamped-row three u all-bits (facts-in w effect)
+          → one ≡ stamped-row rows r wants (written-in w effects) → two ≡ stamped-row one s all-bits (facts-in w precondition)
+          → three ≡ stamped-row two t uses (written-in w effects) → four ≡ stamped-row three u all-bits (written-in w effects)
           → four ≡ noted w a flagged d wants uses rows
       unfolding noted
       noted-open precondition needs r s t u one two three four down inside strike keep use-there kept first second third fourth =
           rw (le-ltb most-choices d room, down, lt-ltb d most-choices inside, fourth, third, second, first, strike, keep, use-there, kept, writes, needs)
-          (rw (written-facts w a, needed-facts w a))
+          (rw (effects-written w a, needed-facts w a))
 
     -- unless there is none left
     pub noted-last : flagged ≡ false → most-choices ≤ d → rows ≡ noted w a flagged d wants uses rows

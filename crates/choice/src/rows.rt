@@ -8,6 +8,7 @@ use access::flag;
 use access::put;
 use access::put8;
 use access::word64;
+use sheet::effects::Effects;
 use sheet::group::Group;
 use sheet::group::facts_of;
 use sheet::layout::cost;
@@ -17,6 +18,7 @@ ghost use Prim.Native.Nat.{_≤_, _<_};
 ghost use mathlib.Core.Bool.{not};
 ghost use Rattle.mask.specs.Mask.{digit};
 ghost use Rattle.sheet.specs.Decode.{fact-of};
+ghost use Rattle.sheet.specs.between.Effects.{written-in};
 ghost use Rattle.sheet.specs.between.Group.{facts-in};
 ghost use Rattle.choice.specs.between.Packed.{most-rows};
 ghost use Rattle.choice.specs.between.Rows.{laid, stamped-row, noted, noted-cost, Rowed};
@@ -71,6 +73,26 @@ fn stamp_row(words: &[u32], rows: &mut [u8], r: usize, group: Group, bits: u64)
         }
         lay(rows, r, left, rest.first(words));
         left /= 2;
+        rest = rest.rest();
+        k += 1;
+    }
+}
+
+// The same of the facts that effects may write.
+fn stamp_effects(words: &[u32], rows: &mut [u8], r: usize, effects: Effects, bits: u64)
+    requires { ⌜ r < most-rows ⌝ }
+    ensures { λ _. ⌜ now (rows .exit)
+        ≡ stamped-row (now (rows .entry)) r bits (written-in (now (words .entry)) effects) ⌝ }
+{
+    let mut left = bits;
+    let mut rest = effects;
+    let mut k = 0;
+    while k < STATE {
+        if rest.end <= rest.at {
+            return;
+        }
+        lay(rows, r, left, rest.first(words));
+        left /= 2;
         rest = rest.rest(words);
         k += 1;
     }
@@ -83,22 +105,22 @@ fn note(words: &[u32], a: u32, flagged: bool, d: usize, wants: u64, uses: u64, r
         ≡ noted (now (words .entry)) a flagged d wants uses (now (rows .entry)) ⌝ }
 {
     let facts = facts_of(words, a);
-    let effect = facts.effect;
+    let effects = facts.effects;
     if MOST < d {
         return;
     }
     let block = KINDS * d;
     if flagged {
-        stamp_row(words, rows, block + STRUCK, effect, ALL);
-        stamp_row(words, rows, block + KEPT, effect, ALL);
+        stamp_effects(words, rows, block + STRUCK, effects, ALL);
+        stamp_effects(words, rows, block + KEPT, effects, ALL);
         return;
     }
     if d < MOST {
         let own = block + KINDS;
-        stamp_row(words, rows, own + STRIKE, effect, wants);
+        stamp_effects(words, rows, own + STRIKE, effects, wants);
         stamp_row(words, rows, own + KEEP, facts.precondition, ALL);
-        stamp_row(words, rows, own + USE, effect, uses);
-        stamp_row(words, rows, own + KEPT, effect, ALL);
+        stamp_effects(words, rows, own + USE, effects, uses);
+        stamp_effects(words, rows, own + KEPT, effects, ALL);
     }
 }
 
@@ -119,18 +141,19 @@ pub fn open(flagged: bool) -> usize
     if flagged { 0 } else { 1 }
 }
 
-// Fills the rows of all unflagged steps and their costs, and returns how many there are.
+// Fills the rows of all unflagged steps and their costs, and returns how many there are. The bits of what is needed are
+// those that are left of all.
 pub fn fill_rows(
     words: &[u32],
     plan: &[u32],
     flags: &[bool],
     wanted: &[u64],
-    needed: &[u64],
+    useless: &[u64],
     costs: &mut [u32],
     rows: &mut [u8],
 ) -> usize
     ensures { λ r. ⌜ Rowed (now (words .entry)) (now (plan .entry)) (now (flags .entry)) (now (wanted .entry))
-        (now (needed .entry)) (now (costs .entry)) (now (rows .entry)) r (now (costs .exit)) (now (rows .exit)) ⌝ }
+        (now (useless .entry)) (now (costs .entry)) (now (rows .entry)) r (now (costs .exit)) (now (rows .exit)) ⌝ }
 {
     let mut d = 0;
     let mut i = 0;
@@ -143,7 +166,7 @@ pub fn fill_rows(
             flagged,
             d,
             word64(wanted, i),
-            word64(needed, i),
+            ALL - word64(useless, i),
             rows,
         );
         note_cost(words, a, flagged, d, costs);

@@ -54,7 +54,7 @@ zeros = replicate most-steps 0
 
 module _ (w l before : List ℕ) (lodged : Tally) (others : ℕ) (further : Goes-further w l before lodged others) where
   readable : Readable w l
-  readable = passed-readable _ w l (further .passes)
+  readable = passed-readable _ _ w l (further .passes)
 
   plan : Plan (task w) (steps w l)
   plan = lodged-plan _ w l (further .passes)

@@ -18,6 +18,7 @@ use Rattle.reduction.proofs.ReductionLaws.{kept-length, left-length}
 use Rattle.mask.specs.Mask.{mask-bits}
 use Rattle.mask.proofs.MaskTheorem.{front-and-rest}
 use Rattle.sheet.specs.Decode.{action, task}
+use Rattle.plan.specs.Limits.{most-steps}
 use Rattle.plan.specs.Valid.{steps}
 use Rattle.plan.specs.Readable.{Readable}
 use Rattle.plan.specs.declared.check.Answer.{Answer}
@@ -55,7 +56,7 @@ refuses-all w l before refusal r fires refuses =
 -- none does
 module _ (w l before : List ℕ) (passed : licence-refusal w l before ≡ none) where
   readable : Readable w l
-  readable = passed-readable _ w l passed
+  readable = passed-readable _ _ w l passed
 
   plan : Plan (task w) (steps w l)
   plan = lodged-plan _ w l passed
@@ -111,7 +112,7 @@ may-be-lodged w l before r after licenses readable plan roomy =
 
 -- what the check of a list answers where its room is asked besides
 module _ (w l before : List ℕ) (v : Verdict) (given : Answer) (state : List ℕ) (asked : told v ≡ answer (room-checks (length l) (length before)))
-    (checks : Checks-lodged w l v given state) where
+    (checks : Checks-lodged most-steps w l v given state) where
   pub lodged-refuses : (refusal : Refusal) (r : Licensed) → given ≡ Refused refusal → Refuses-licence refusal r → Licenses w l before r before
   lodged-refuses refusal r is = refuses-all w l before refusal r (sym (room-checked w l (length before) v given state asked checks) ∙ ap told-answer is)
 

@@ -6,6 +6,7 @@ use crate::further::license_further;
 use minimal::reduce::minimal_reduction;
 use plan::check::Answer;
 use plan::check::check_lodged;
+use plan::limits::Plan;
 use refusal::Refusal;
 use service::room::check_room;
 ghost use mathlib.Core.Path.{_≡_};
@@ -20,7 +21,7 @@ fn license_refused(words: &[u32], plan: &[u32], out: &mut [u32], refusal: Refusa
     requires { ⌜ minimal-refusal most-unmarked (now words) (now plan) (now out) ≡ some (told-refusal refusal) ⌝ }
     ensures { λ r. ⌜ Licenses (now (words .entry)) (now (plan .entry)) (now (out .entry)) r (now (out .exit)) ⌝ }
 {
-    let checked = check_lodged(words, plan, check_room(plan.len(), out.len()));
+    let checked = check_lodged(words, plan, Plan::STEPS, check_room(plan.len(), out.len()));
     let answer = checked.answer;
     match answer {
         Answer::Refused(earlier) => refuse(earlier),

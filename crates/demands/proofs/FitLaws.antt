@@ -31,10 +31,10 @@ pub record Flags-each (l : List ℕ) (m : Reduction) (room : ℕ) : Type 0 where
 module _ (w l : List ℕ) (room : ℕ) where
   passed-flags : (m : Reduction) → answer (reduction-checks w l room) ≡ none → length m ≡ length (steps w l) → Flags-each l m room
   passed-flags m passed fits =
-      record { fits = fits ∙ length-map l (action w); few = passed-readable _ w l passed .few; roomy = roomy w l room passed }
+      record { fits = fits ∙ length-map l (action w); few = passed-readable _ _ w l passed .few; roomy = roomy w l room passed }
 
   pub elimination-flags : (by : Elimination) → answer (reduction-checks w l room) ≡ none → Flags-each l (left-by by w l) room
-  elimination-flags by passed = passed-flags (left-by by w l) passed (left-fits w l (passed-readable _ w l passed) (lodged-valid _ w l passed) by)
+  elimination-flags by passed = passed-flags (left-by by w l) passed (left-fits w l (passed-readable _ _ w l passed) (lodged-valid _ w l passed) by)
 
   -- what passes all the checks of the minimal reduction passes those of every reduction
   pub first-pass : answer (minimal-checks most-unmarked w l room) ≡ none → answer (reduction-checks w l room) ≡ none
@@ -47,4 +47,4 @@ module _ (w l : List ℕ) (room : ℕ) where
       passed-flags (minimal-of w l) passed (minimal-found (meets (goal w)) (initial w) (steps w l) (lodged-valid _ w l passed) .valid .fits)
 
   pub licensed-flags : answer (reduction-checks w l room) ≡ none → Flags-each l (licensed-of w l) room
-  licensed-flags passed = passed-flags (licensed-of w l) passed (licence-of w l (passed-readable _ w l passed) (lodged-plan _ w l passed) .valid-left .fits)
+  licensed-flags passed = passed-flags (licensed-of w l) passed (licence-of w l (passed-readable _ _ w l passed) (lodged-plan _ w l passed) .valid-left .fits)

@@ -74,8 +74,8 @@ module _ (w l : List ℕ) where
         tally = tally-truly (whole l) (told-answer given) (told-tally given) (rw (← lodged-whole, checks .refusal) (checks .tally));
         end = λ h. (
           final (initial w) (steps w l),
-          plan-theorem w l (passed-readable _ w l (passed h)) .reached (passed h),
-          rw (passed h) at (checks .end) ∙ plan-theorem w l (passed-readable _ w l (passed h)) .end,
+          plan-theorem w l (passed-readable _ _ w l (passed h)) .reached (passed h),
+          rw (passed h) at (checks .end) ∙ plan-theorem w l (passed-readable _ _ w l (passed h)) .end,
         );
         zeros = λ t h. rw (refused t h) at (checks .end);
       }

@@ -106,10 +106,10 @@ module _ (w l before before′ : List ℕ) (v : Verdict) (first second : Tally) 
     nothing-refused = sym (both .refusal) ∙ ap told passed
 
     fits-first : length (elimination-of w l) ≡ length l
-    fits-first = fits-both w l (passed-readable _ w l nothing-refused) (lodged-valid _ w l nothing-refused) Plain
+    fits-first = fits-both w l (passed-readable _ _ w l nothing-refused) (lodged-valid _ w l nothing-refused) Plain
 
     fits-second : length (greedy-elimination-of w l) ≡ length l
-    fits-second = fits-both w l (passed-readable _ w l nothing-refused) (lodged-valid _ w l nothing-refused) Greedy
+    fits-second = fits-both w l (passed-readable _ _ w l nothing-refused) (lodged-valid _ w l nothing-refused) Greedy
 
     room : length l ≤ min (length before) (length before′)
     room = roomy w l (min (length before) (length before′)) nothing-refused

@@ -34,7 +34,7 @@ pub fn cheaper(words: &[u32], plan: &[u32], first: &mut [u32], second: &mut [u32
         (r .verdict) (r .first) (r .second) (now (first .exit)) (now (second .exit)) ⌝ }
 {
     let room = shorter(first.len(), second.len());
-    let checked = check_lodged(words, plan, check_room(plan.len(), room));
+    let checked = check_lodged(words, plan, Plan::STEPS, check_room(plan.len(), room));
     let answer = checked.answer;
     if let Answer::Refused(refusal) = answer {
         return Both {

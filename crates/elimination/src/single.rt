@@ -43,7 +43,7 @@ pub fn eliminate_plan(words: &[u32], plan: &[u32], out: &mut [u32], by: Eliminat
         (left-by by (now (words .entry)) (now (plan .entry)))
         (now (out .entry)) (r .answer) (r .mask .words) (now (out .exit)) ⌝ }
 {
-    let checked = check_lodged(words, plan, check_room(plan.len(), out.len()));
+    let checked = check_lodged(words, plan, Plan::STEPS, check_room(plan.len(), out.len()));
     let answer = checked.answer;
     if let Answer::Refused(refusal) = answer {
         return refused(refusal);

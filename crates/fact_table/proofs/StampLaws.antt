@@ -1,4 +1,4 @@
--- A table stamped with facts: by the cases of a loop along a group, and what stands at a fact afterwards, by list induction, since two facts with values below
+-- A table stamped with facts: by the cases of a loop along a group or an action's effects, and what stands at a fact afterwards, by list induction, since two facts with values below
 -- the limit have one word only where they are the same. Assumes nothing.
 use Prim.Native.Nat.{ℕ, _≤_, _<_}
 use native.Mathlib.Omega.{arith}
@@ -11,11 +11,14 @@ use Rattle.sas.specs.Task.{Fact, Assignment}
 use Rattle.reduction.specs.between.Wanted.{some-fact, same-fact, has}
 use Rattle.reduction.proofs.MemberLaws.{same-fact-true, same-fact-refl}
 use Rattle.sheet.specs.declared.group.Group.{Group}
+use Rattle.sheet.specs.declared.effects.Effects.{Effects}
 use Rattle.sheet.specs.Limits.{limits}
 use Rattle.sheet.specs.between.Encode.{fact-word}
 use Rattle.sheet.specs.between.Group.{facts-in, first-fact, rest-of}
 use Rattle.sheet.proofs.EncodeLaws.{word-of-fact}
+use Rattle.sheet.specs.between.Effects.{written-in, first-written, rest-effects}
 use Rattle.sheet.proofs.GroupLaws.{group-over, group-next}
+use Rattle.sheet.proofs.EffectLaws.{effects-over, effects-next}
 use Rattle.fact_table.specs.between.Tables.{stamped}
 
 module _ (t w : List ℕ) (g : Group) (x : ℕ) where
@@ -25,9 +28,20 @@ module _ (t w : List ℕ) (g : Group) (x : ℕ) where
   stamped-over h = rw (group-over w g h)
 
   -- before the end, the fact here is stamped first
-  pub stamped-next : (y : ℕ) → g .at < g .end → y ≡ first-fact w g → stamped t (facts-in w g) x ≡ stamped (set t y x) (facts-in w (rest-of w g)) x
+  pub stamped-next : (y : ℕ) → g .at < g .end → y ≡ first-fact w g → stamped t (facts-in w g) x ≡ stamped (set t y x) (facts-in w (rest-of g)) x
   unfolding stamped
-  stamped-next y h read = rw (group-next w g h, ← read) (ap (λ j. stamped (set t j x) (facts-in w (rest-of w g)) x) (word-of-fact y))
+  stamped-next y h read = rw (group-next w g h, ← read) (ap (λ j. stamped (set t j x) (facts-in w (rest-of g)) x) (word-of-fact y))
+
+-- the same of an action's effects
+module _ (t w : List ℕ) (e : Effects) (x : ℕ) where
+  pub stamped-effects-over : e .end ≤ e .at → stamped t (written-in w e) x ≡ t
+  unfolding stamped
+  stamped-effects-over h = rw (effects-over w e h)
+
+  pub stamped-effects-next : (y : ℕ) → e .at < e .end → y ≡ first-written w e
+      → stamped t (written-in w e) x ≡ stamped (set t y x) (written-in w (rest-effects w e)) x
+  unfolding stamped
+  stamped-effects-next y h read = rw (effects-next w e h, ← read) (ap (λ j. stamped (set t j x) (written-in w (rest-effects w e)) x) (word-of-fact y))
 
 pub stamped-length : (t : List ℕ) (q : Assignment) (x : ℕ) → length (stamped t q x) ≡ length t
 unfolding stamped

@@ -2,19 +2,21 @@
 // is a byte, since to fill tables of words costs more than the walks along a plan of small actions.
 use access::byte;
 use access::put8;
+use sheet::effects::Effects;
 use sheet::group::ActionFacts;
 use sheet::group::Group;
 use sheet::limits::Sheet;
 ghost use mathlib.Core.Path.{_≡_};
+ghost use Rattle.sheet.specs.between.Effects.{written-in};
 ghost use Rattle.sheet.specs.between.Group.{facts-in};
-ghost use Rattle.fact_table.specs.between.Tables.{stamped, has-wanted, passed-back};
+ghost use Rattle.fact_table.specs.between.Tables.{stamped, has-fact, passed-back};
 
 // The size of a table: an accepted task has no fact past it.
 pub const FACTS: usize = Sheet::VARIABLES * Sheet::VALUES;
-// What stands at a fact that is wanted, and at one that is not.
-pub const WANTED: u8 = 1;
+// What stands at a fact that a table has, and at one that it has not.
+pub const IN: u8 = 1;
 
-pub const UNWANTED: u8 = 0;
+pub const OUT: u8 = 0;
 
 // Writes x at each fact of a group.
 pub fn stamp(words: &[u32], table: &mut [u8], group: Group, x: u8)
@@ -23,15 +25,26 @@ pub fn stamp(words: &[u32], table: &mut [u8], group: Group, x: u8)
     let mut rest = group;
     while rest.at < rest.end {
         put8(table, rest.first(words) as usize, x);
+        rest = rest.rest();
+    }
+}
+
+// Writes x at each fact that an action's effects may write.
+pub fn stamp_effects(words: &[u32], table: &mut [u8], effects: Effects, x: u8)
+    ensures { λ _. ⌜ now (table .exit) ≡ stamped (now (table .entry)) (written-in (now (words .entry)) effects) x ⌝ }
+{
+    let mut rest = effects;
+    while rest.at < rest.end {
+        put8(table, rest.first(words) as usize, x);
         rest = rest.rest(words);
     }
 }
 
-// Whether the table has a fact as wanted.
-pub fn is_wanted(table: &[u8], fact: u32) -> bool
-    ensures { λ r. ⌜ r ≡ has-wanted (now (table .entry)) fact ⌝ }
+// Whether the table has a fact.
+pub fn has(table: &[u8], fact: u32) -> bool
+    ensures { λ r. ⌜ r ≡ has-fact (now (table .entry)) fact ⌝ }
 {
-    byte(table, fact as usize) == WANTED
+    byte(table, fact as usize) == IN
 }
 
 // Makes a table of the facts that are wanted behind a step one of those that are wanted before it: what the step may
@@ -39,10 +52,10 @@ pub fn is_wanted(table: &[u8], fact: u32) -> bool
 pub fn pass_back(words: &[u32], table: &mut [u8], facts: ActionFacts, flagged: bool)
     ensures { λ _. ⌜ now (table .exit) ≡ passed-back (now (table .entry))
         (facts-in (now (words .entry)) (facts .precondition))
-        (facts-in (now (words .entry)) (facts .effect)) flagged ⌝ }
+        (written-in (now (words .entry)) (facts .effects)) flagged ⌝ }
 {
-    stamp(words, table, facts.effect, UNWANTED);
+    stamp_effects(words, table, facts.effects, OUT);
     if flagged {
-        stamp(words, table, facts.precondition, WANTED);
+        stamp(words, table, facts.precondition, IN);
     }
 }

@@ -40,14 +40,14 @@ pub marks-leave : (w l : List ℕ) (flags : Reduction) → flags ≡ held l (mar
 unfolding marks
 marks-leave w l flags is = leaves w l (marks w l) (marks w l) flags (landmarks-length (initial w) (goal w) (steps w l)) refl is
 
-module _ (w l : List ℕ) (v : Verdict) (given : Answer) (state : List ℕ) (checks : Checks-lodged w l v given state) where
+module _ (w l : List ℕ) (v : Verdict) (given : Answer) (state : List ℕ) (checks : Checks-lodged most-steps w l v given state) where
   -- a list is refused, with no flag
   pub lodged-refused : (r : Refusal) → given ≡ Refused r → Marks-lodged w l v (Refused r) (replicate most-steps false)
   lodged-refused r is =
       record {
         checked = λ besides asked.
-            let all : Checks (lodged-checks besides w l) w l given state = checks .checked besides asked in
-            let refuses : answer (lodged-checks besides w l) ≡ some (told-refusal r) = sym (all .refusal) ∙ ap told-answer is in
+            let all : Checks (lodged-checks most-steps besides w l) w l given state = checks .checked besides asked in
+            let refuses : answer (lodged-checks most-steps besides w l) ≡ some (told-refusal r) = sym (all .refusal) ∙ ap told-answer is in
             record { refusal = sym refuses; tally = rw is at (all .tally); flagged = rw refuses };
       }
 
@@ -56,9 +56,9 @@ module _ (w l : List ℕ) (v : Verdict) (given : Answer) (state : List ℕ) (che
   lodged-marked t flags is flagged =
       record {
         checked = λ besides asked.
-            let all : Checks (lodged-checks besides w l) w l given state = checks .checked besides asked in
-            let passes : answer (lodged-checks besides w l) ≡ none = sym (all .refusal) ∙ ap told-answer is in
-            record { refusal = sym passes; tally = rw is at (all .tally); flagged = rw passes (flagged (passed-readable besides w l passes)) };
+            let all : Checks (lodged-checks most-steps besides w l) w l given state = checks .checked besides asked in
+            let passes : answer (lodged-checks most-steps besides w l) ≡ none = sym (all .refusal) ∙ ap told-answer is in
+            record { refusal = sym passes; tally = rw is at (all .tally); flagged = rw passes (flagged (passed-readable _ besides w l passes)) };
       }
 
 -- the service, where nothing is asked besides

@@ -52,6 +52,6 @@ pub bits-just-marked : (w l : List ℕ) (verdict : Verdict) (mask : List ℕ) �
     → (i : ℕ) → bit-up mask i ≡ true ↔ Landmark (initial w) (goal w) (steps w l) i
 bits-just-marked w l verdict mask masks passes i =
     let passed : answer (plan-checks w l) ≡ none = sym (masks .refusal) ∙ passes in
-    let few : length (marks w l) ≤ mask-bits = omega (arith, marks-length w l, passed-readable [] w l passed .few) in
+    let few : length (marks w l) ≤ mask-bits = omega (arith, marks-length w l, passed-readable _ [] w l passed .few) in
     let flag : bit-up mask i ≡ getD (marks w l) i false = rw (rw passed at (masks .told-by)) (up-is-flag (marks w l) few i) in
     rw flag (marks-theorem w l i)

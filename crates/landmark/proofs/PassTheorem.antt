@@ -19,7 +19,7 @@ use Rattle.reduction.specs.Landmark.{step}
 use Rattle.reduction.specs.between.Order.{Contains}
 use Rattle.reduction.specs.between.Landmarks.{rounds, ends-alone, landmarks}
 use Rattle.reduction.proofs.ReductionLaws.{kept-inside}
-use Rattle.reduction.proofs.HeldLaws.{step-formed}
+use Rattle.reduction.proofs.HeldLaws.{each-step}
 use Rattle.reduction.proofs.FrameLaws.{framed-start, framed-step, framed-end, framed-past}
 use Rattle.reduction.proofs.LinkLaws.{either, before-or-at}
 use Rattle.reduction.proofs.RoundLaws.{up-more, up-why, same-flags}
@@ -71,7 +71,7 @@ module _ (w l : List ℕ) (readable : Readable w l) where
       ⊎-elim
       (λ low.
       let inside : i < length p = ltb-true i (length p) low in
-      rw (framed-step (initial w) (goal w) p i inside) (rising _ (step-formed formed i inside .precondition)))
+      rw (framed-step (initial w) (goal w) p i inside) (rising _ (each-step formed i inside .precondition)))
       (λ high.
       ⊎-elim
       (λ past. rw (framed-past (initial w) (goal w) p i past) none)
@@ -112,7 +112,7 @@ module _ (w l : List ℕ) (readable : Readable w l) where
         }
 
     steps-there : (i : ℕ) → i < length p → (step q (1 + i) ≡ step p i) × Action-formed (domains w) (step p i)
-    steps-there i h = let next : 1 + i ≡ suc i = omega arith in (rw next (framed-step (initial w) (goal w) p i h), step-formed formed i h)
+    steps-there i h = let next : 1 + i ≡ suc i = omega arith in (rw next (framed-step (initial w) (goal w) p i h), each-step formed i h)
 
     -- what the code makes of the flags
     pub pass-made : (starts traces latest rows rows′ rows″ : List ℕ) (g : Group) (next : Reduction) → length rows ≡ row-start most-positions
@@ -123,7 +123,7 @@ module _ (w l : List ℕ) (readable : Readable w l) where
     pass-made starts traces latest rows rows′ rows″ g next sized begins walks group notes closes =
         let t : Walk = walk-tables traces latest rows′ in
         let along : Told w accepted q m few-needs known-needs (1 + length p) (walked m 1 p (begun rows))
-        = told-along w accepted q m few-needs known-needs p 1 (begun rows) (omega (arith, p-length, readable .few)) steps-there (begun-told rows sized) in
+        = told-along w accepted q m few-needs known-needs p 1 (begun rows) (omega arith) (omega (arith, p-length, readable .few)) steps-there (begun-told rows sized) in
         let behind : 1 + length p ≡ suc (length p) = omega arith in
         let told : Told w accepted q m few-needs known-needs (suc (length p)) t = rw (walks, begins, ← behind) along in
         let place : length l + 1 ≡ suc (length p) = omega (arith, p-length) in

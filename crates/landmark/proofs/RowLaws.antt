@@ -30,17 +30,17 @@ module _ (t w rows : List ℕ) (i : ℕ) (g : Group) where
 
   -- before it, the support y of the fact x here is noted first
   module _ (h : g .at < g .end) (x y : ℕ) (read : x ≡ first-fact w g) (support : y ≡ getD t (trace-start x + 1) 0) where
-    pub noted-next : noted t i (facts-in w g) rows ≡ noted t (i + 1) (facts-in w (rest-of w g)) (set rows i y)
+    pub noted-next : noted t i (facts-in w g) rows ≡ noted t (i + 1) (facts-in w (rest-of g)) (set rows i y)
     unfolding noted
     noted-next =
         rw (support, group-next w g h, ← read)
-        (ap (λ j. noted t (i + 1) (facts-in w (rest-of w g)) (set rows i (getD t (trace-start j + 1) 0))) (word-of-fact x))
+        (ap (λ j. noted t (i + 1) (facts-in w (rest-of g)) (set rows i (getD t (trace-start j + 1) 0))) (word-of-fact x))
 
-    pub noted-past : length (set rows i y) ≤ i → noted t i (facts-in w g) rows ≡ noted t i (facts-in w (rest-of w g)) (set rows i y)
+    pub noted-past : length (set rows i y) ≤ i → noted t i (facts-in w g) rows ≡ noted t i (facts-in w (rest-of g)) (set rows i y)
     noted-past past =
         noted-next
-        ∙ noted-none t (i + 1) (facts-in w (rest-of w g)) (set rows i y) (omega arith)
-        ∙ sym (noted-none t i (facts-in w (rest-of w g)) (set rows i y) past)
+        ∙ noted-none t (i + 1) (facts-in w (rest-of g)) (set rows i y) (omega arith)
+        ∙ sym (noted-none t i (facts-in w (rest-of g)) (set rows i y) past)
 
 -- past the last place the same flag is raised at each
 raised-alike : (rows : List ℕ) (i : ℕ) (e : Assignment) (m : Reduction) → length rows ≤ i → row-raised rows (i + 1) e m ≡ row-raised rows i e m
@@ -58,9 +58,9 @@ module _ (rows w : List ℕ) (i : ℕ) (g : Group) (m : Reduction) where
 
   -- before it, the flag of the support y that stands here is raised first
   module _ (h : g .at < g .end) (y : ℕ) (support : y ≡ getD rows i 0) where
-    pub raised-next : row-raised rows i (facts-in w g) m ≡ row-raised rows (i + 1) (facts-in w (rest-of w g)) (set m y true)
+    pub raised-next : row-raised rows i (facts-in w g) m ≡ row-raised rows (i + 1) (facts-in w (rest-of g)) (set m y true)
     unfolding row-raised
     raised-next = rw (support, group-next w g h)
 
-    pub raised-past : length rows ≤ i → row-raised rows i (facts-in w g) m ≡ row-raised rows i (facts-in w (rest-of w g)) (set m y true)
-    raised-past past = raised-next ∙ raised-alike rows i (facts-in w (rest-of w g)) (set m y true) past
+    pub raised-past : length rows ≤ i → row-raised rows i (facts-in w g) m ≡ row-raised rows i (facts-in w (rest-of g)) (set m y true)
+    raised-past past = raised-next ∙ raised-alike rows i (facts-in w (rest-of g)) (set m y true) past

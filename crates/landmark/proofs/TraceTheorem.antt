@@ -1,25 +1,23 @@
 -- The tables of a walk tell the trace of each known fact: behind a step they tell what the trace is behind it, since each fact that the step writes has numbers
--- of its own, and no two of them have one variable. For one fact by the places that are set, then by induction on an assignment whose variables rise.
--- Assumes nothing.
+-- of its own, its support is told before the step's own writes count, and one that stands twice among its effects is written once. For one fact by the places
+-- that are set, then along the facts. Assumes nothing.
 use Prim.Native.Nat.{ℕ, suc, _+_, _/_, _≤_, _<_}
 use native.Mathlib.Numerals.{add-one}
 use native.Mathlib.Omega.{arith}
 use mathlib.Core.Path.{_≡_, refl, sym, _∙_, ap}
-use mathlib.Core.Logic.{_≢_, ⊎-elim}
-use mathlib.Core.Bool.{Bool, true, false, true≢false, cond, not, _&&_, _||_, or-false, and-eq-true-iff}
-use mathlib.Core.List.{List, [], _∷_}
+use mathlib.Core.Logic.{_≢_, _⊎_, inl, inr, ⊎-elim}
+use mathlib.Core.Bool.{Bool, true, false, true≢false, cond, _&&_, _||_}
+use mathlib.Core.List.{List, [], _∷_, List·Memᴰ, List·Memᴰ·head, List·Memᴰ·tail}
 use lib.ListN.{length, getD, set, length-set}
 use lib.Seq.{getD-set-same, getD-set-other}
 use lib.Dec.{ltb, eqb}
 use borrow.Author.Tests.{eqb-true, eqb-false, eq-eqb, ne-eqb}
 use Rattle.sas.specs.Task.{Fact, Assignment, Action}
 use Rattle.sas.specs.Plan.{written}
-use Rattle.sas.specs.between.WellFormed.{Known, Rising, Action-formed}
-use Rattle.sas.specs.between.WellFormed.Rising.{fact}
-use Rattle.sas.proofs.WellFormedLaws.{rising-above}
+use Rattle.sas.specs.between.WellFormed.{Known, Action-formed}
 use Rattle.reduction.specs.between.Wanted.{some-fact, same-fact, has}
 use Rattle.reduction.specs.between.Landmarks.{other-value, sets-other, Trace, passed}
-use Rattle.reduction.proofs.MemberLaws.{same-fact-true, same-fact-refl, found-passes, no-member-has}
+use Rattle.reduction.proofs.MemberLaws.{same-fact-true, same-fact-refl}
 use Rattle.reduction.proofs.LinkLaws.{either}
 use Rattle.sheet.specs.Limits.{limits}
 use Rattle.sheet.specs.Decode.{domains}
@@ -27,7 +25,7 @@ use Rattle.sheet.specs.between.Encode.{fact-word}
 use Rattle.sheet.specs.Causes.{Accepted}
 use Rattle.fact_table.specs.between.Tables.{most-facts}
 use Rattle.fact_table.proofs.WantsLaws.{fits}
-use Rattle.landmark.specs.between.Traces.{trace-start, latest-start, until-at, supporting, Tables, latest-wrote, wrote, wrote-each}
+use Rattle.landmark.specs.between.Traces.{trace-start, latest-start, until-at, supporting, trace-wrote, traces-wrote, latest-wrote, latest-each, Tables, tables, wrote-each}
 
 -- what the tables tell of a fact
 abbrev pub read : Tables → Fact → Trace
@@ -42,22 +40,6 @@ read t g =
 pub record Sized (t : Tables) : Type 0 where
   pub traces : length (t .traces) ≡ trace-start most-facts
   pub latest : length (t .latest) ≡ latest-start (limits .variables)
-
--- the trace of g behind a step at position j that writes the facts of e
-abbrev passed-if : Bool → Bool → ℕ → Trace → Trace
-passed-if writes other j t =
-    record {
-      last = cond writes j (t .last);
-      until = cond other (suc j) (t .until);
-      support = cond writes (cond (ltb (t .last) (t .until)) j 0) (t .support);
-    }
-
-abbrev passed-by : Assignment → ℕ → Bool → Fact → Trace → Trace
-passed-by e j marked g t = passed-if (has e g) (marked && some-fact (other-value g) e) j t
-
-passed-action : (a : Action) (j : ℕ) (marked : Bool) (g : Fact) (t : Trace) → passed a j marked g t ≡ passed-by (written a) j marked g t
-unfolding passed sets-other
-passed-action a j marked g t = refl
 
 -- three places that are set one after the other, and two
 module _ (l : List ℕ) (i x y z : ℕ) where
@@ -134,33 +116,12 @@ module _ (w : List ℕ) (accepted : Accepted w) where
   variable-room f known = let below : fact-word f < most-facts = fits w accepted f known .1 in omega arith
 
   -- one fact f is written, and the tables tell of g
-  module _ (t : Tables) (sized : Sized t) (j : ℕ) (marked : Bool) (f g : Fact) (known : Known (domains w) f) (known′ : Known (domains w) g) where
+  module _ (t : Tables) (sized : Sized t) (j : ℕ) (f g : Fact) (known : Known (domains w) f) (known′ : Known (domains w) g) where
     abbrev x : ℕ
     x = fact-word f
 
     abbrev y : ℕ
     y = fact-word g
-
-    abbrev traces′ : List ℕ
-    traces′ = wrote j marked x t .traces
-
-    room-there : fact-word g < most-facts
-    room-there = fits w accepted g known′ .1
-
-    same-writes : f ≡ g → (getD traces′ (trace-start y) 0 ≡ j) × (getD traces′ (trace-start y + 1) 0 ≡ supporting (read t g .last) (read t g .until) j)
-    unfolding wrote
-    same-writes e =
-        let support : ℕ = supporting (read t g .last) (read t g .until) j in
-        let room : trace-start y + 1 < length (t .traces) = omega (arith, sized .traces, room-there) in
-        rw e (here-set (t .traces) (trace-start y) support j room, behind-set (t .traces) (trace-start y) support j room)
-
-    other-stays : x ≢ y → (getD traces′ (trace-start y) 0 ≡ read t g .last) × (getD traces′ (trace-start y + 1) 0 ≡ read t g .support)
-    unfolding wrote
-    other-stays other =
-        let support : ℕ = supporting (read t f .last) (read t f .until) j in (
-          both-stay (t .traces) (trace-start x) support j (trace-start y) (λ h. other (omega arith)) (λ h. omega arith),
-          both-stay (t .traces) (trace-start x) support j (trace-start y + 1) (λ h. omega arith) (λ h. other (omega arith)),
-        )
 
     -- the number that tells the last marked writer of another value
     until-marked : until-at (latest-wrote j x (t .latest)) y ≡ cond (other-value g f) (suc j) (read t g .until)
@@ -220,109 +181,179 @@ module _ (w : List ℕ) (accepted : Accepted w) where
             )
             (sym (until-parts (t .latest) y (g .variable) there))
 
-    until-wrote : until-at (wrote j marked x t .latest) y ≡ cond (marked && some-fact (other-value g) (f ∷ [])) (suc j) (read t g .until)
-    unfolding wrote some-fact
-    until-wrote = by-mark marked
+  module _ (j : ℕ) where
+    -- tables keep their size
+    latest-sized : (e : Assignment) (latest : List ℕ) → length (latest-each j e latest) ≡ length latest
+    unfolding latest-each latest-wrote
+    latest-sized [] latest = refl
+    latest-sized (f ∷ e) latest = latest-sized e (latest-wrote j (fact-word f) latest) ∙ simp length-set
+
+    trace-sized : (latest : List ℕ) (x : ℕ) (traces : List ℕ) → length (trace-wrote j latest x traces) ≡ length traces
+    unfolding trace-wrote
+    trace-sized latest x traces = by-case (eqb (getD traces (trace-start x) 0) j)
       where
-        by-mark : (b : Bool) → until-at (cond b (latest-wrote j x (t .latest)) (t .latest)) y ≡ cond (b && (other-value g f || false)) (suc j) (read t g .until)
-        by-mark false = refl
-        by-mark true = rw or-false until-marked
+        support : ℕ
+        support = supporting (getD traces (trace-start x) 0) (until-at latest x) j
 
-    -- the tables tell the trace of g behind the step that writes f
-    wrote-read : read (wrote j marked x t) g ≡ passed-by (f ∷ []) j marked g (read t g)
-    unfolding has some-fact supporting
-    wrote-read = λ i. record { last = last-wrote i; until = until-wrote i; support = support-wrote i }
+        by-case : (b : Bool) → length (cond b traces (set (set traces (trace-start x + 1) support) (trace-start x) j)) ≡ length traces
+        by-case true = refl
+        by-case false = simp length-set
+
+    traces-sized : (latest : List ℕ) (e : Assignment) (traces : List ℕ) → length (traces-wrote j latest e traces) ≡ length traces
+    unfolding traces-wrote
+    traces-sized latest [] traces = refl
+    traces-sized latest (f ∷ e) traces = traces-sized latest e (trace-wrote j latest (fact-word f) traces) ∙ trace-sized latest (fact-word f) traces
+
+    -- the numbers of one fact g, where `latest` has what earlier steps wrote
+    module _ (latest : List ℕ) (g : Fact) (known : Known (domains w) g) where
+      abbrev last-of : List ℕ → ℕ
+      last-of traces = getD traces (trace-start (fact-word g)) 0
+
+      abbrev support-of : List ℕ → ℕ
+      support-of traces = getD traces (trace-start (fact-word g) + 1) 0
+
+      abbrev new-support : List ℕ → ℕ
+      new-support traces = supporting (last-of traces) (until-at latest (fact-word g)) j
+
+      -- one that the step has written already stays
+      written-stays : (traces : List ℕ) → last-of traces ≡ j → trace-wrote j latest (fact-word g) traces ≡ traces
+      unfolding trace-wrote
+      written-stays traces e = rw (eq-eqb (last-of traces) j e)
+
+      -- one that it has not gets its support and its writer
+      new-written : (traces : List ℕ) → length traces ≡ trace-start most-facts → last-of traces ≢ j
+          → (last-of (trace-wrote j latest (fact-word g) traces) ≡ j) × (support-of (trace-wrote j latest (fact-word g) traces) ≡ new-support traces)
+      unfolding trace-wrote
+      new-written traces sized other =
+          let room : trace-start (fact-word g) + 1 < length traces = omega (arith, fits w accepted g known .1) in
+          rw (ne-eqb (last-of traces) j other)
+          (here-set traces (trace-start (fact-word g)) (new-support traces) j room, behind-set traces (trace-start (fact-word g)) (new-support traces) j room)
+
+      -- to write another fact leaves both
+      others-stay : (f : Fact) (traces : List ℕ) → fact-word f ≢ fact-word g
+          → (last-of (trace-wrote j latest (fact-word f) traces) ≡ last-of traces) × (support-of (trace-wrote j latest (fact-word f) traces) ≡ support-of traces)
+      unfolding trace-wrote
+      others-stay f traces other = by-case (eqb (getD traces (trace-start (fact-word f)) 0) j)
+        where
+          put : List ℕ
+          put = set (set traces (trace-start (fact-word f) + 1) (supporting (getD traces (trace-start (fact-word f)) 0) (until-at latest (fact-word f)) j)) (trace-start (fact-word f)) j
+
+          by-case : (b : Bool) → (last-of (cond b traces put) ≡ last-of traces) × (support-of (cond b traces put) ≡ support-of traces)
+          by-case true = (refl, refl)
+          by-case false = (
+            both-stay traces (trace-start (fact-word f)) _ j (trace-start (fact-word g)) (λ h. other (omega arith)) (λ h. omega arith),
+            both-stay traces (trace-start (fact-word f)) _ j (trace-start (fact-word g) + 1) (λ h. omega arith) (λ h. other (omega arith)),
+          )
+
+      -- a fact is g, or has another word
+      same-or-apart : (f : Fact) → Known (domains w) f → (g ≡ f) ⊎ ((same-fact g f ≡ false) × (fact-word f ≢ fact-word g))
+      same-or-apart f here =
+          ⊎-elim
+          (λ e. inl (same-fact-true g f e))
+          (λ e. inr (e, λ same. true≢false (sym (rw (one-word f g here known same) (same-fact-refl g)) ∙ e)))
+          (either (same-fact g f))
+
+      abbrev Knows : Assignment → Type 0
+      Knows e = (f : Fact) → List·Memᴰ f e → Known (domains w) f
+
+      -- along the facts that a step writes, g has the step as its last writer where it is one of them
+      last-each : (e : Assignment) (traces : List ℕ) → length traces ≡ trace-start most-facts → Knows e
+          → last-of (traces-wrote j latest e traces) ≡ cond (has e g) j (last-of traces)
+      unfolding traces-wrote has some-fact
+      last-each [] traces sized knows = refl
+      last-each (f ∷ e) traces sized knows =
+          last-each e after (trace-sized latest (fact-word f) traces ∙ sized) (λ h m. knows h (List·Memᴰ·tail m))
+          ∙ ⊎-elim by-same (λ (different, other). rw (different, others-stay f traces other .0)) (same-or-apart f (knows f (List·Memᴰ·head refl)))
+        where
+          after : List ℕ
+          after = trace-wrote j latest (fact-word f) traces
+
+          written-last : last-of (trace-wrote j latest (fact-word g) traces) ≡ j
+          written-last =
+              ⊎-elim
+              (λ up. let is : last-of traces ≡ j = eqb-true _ _ up in rw (written-stays traces is) is)
+              (λ down. new-written traces sized (eqb-false _ _ down) .0)
+              (either (eqb (last-of traces) j))
+
+          one : (b : Bool) → cond b j j ≡ j
+          one true = refl
+          one false = refl
+
+          by-same : g ≡ f → cond (has e g) j (last-of after) ≡ cond (same-fact g f || has e g) j (last-of traces)
+          by-same same = rw (← same, same-fact-refl g, written-last) (one (has e g))
+
+      -- once it is, its support stays
+      support-stays : (e : Assignment) (traces : List ℕ) → last-of traces ≡ j → Knows e → support-of (traces-wrote j latest e traces) ≡ support-of traces
+      unfolding traces-wrote
+      support-stays [] traces written knows = refl
+      support-stays (f ∷ e) traces written knows =
+          ⊎-elim
+          (λ same. rw (← same, written-stays traces written) (support-stays e traces written (λ h m. knows h (List·Memᴰ·tail m))))
+          (λ (different, other).
+          support-stays e (trace-wrote j latest (fact-word f) traces) (others-stay f traces other .0 ∙ written) (λ h m. knows h (List·Memᴰ·tail m))
+          ∙ others-stay f traces other .1)
+          (same-or-apart f (knows f (List·Memᴰ·head refl)))
+
+      -- and it is the one that it gets where it is written first
+      support-each : (e : Assignment) (traces : List ℕ) → length traces ≡ trace-start most-facts → last-of traces ≢ j → Knows e
+          → support-of (traces-wrote j latest e traces) ≡ cond (has e g) (new-support traces) (support-of traces)
+      unfolding traces-wrote has some-fact
+      support-each [] traces sized unwritten knows = refl
+      support-each (f ∷ e) traces sized unwritten knows =
+          ⊎-elim
+          (λ same.
+          let (last, support) = new-written traces sized unwritten in
+          rw (← same, same-fact-refl g) (support-stays e (trace-wrote j latest (fact-word g) traces) last (λ h m. knows h (List·Memᴰ·tail m)) ∙ support))
+          (λ (different, other).
+          let (last, support) = others-stay f traces other in
+          support-each e (trace-wrote j latest (fact-word f) traces) (trace-sized latest (fact-word f) traces ∙ sized) (λ is. unwritten (sym last ∙ is))
+          (λ h m. knows h (List·Memᴰ·tail m))
+          ∙ rw (different, last, support))
+          (same-or-apart f (knows f (List·Memᴰ·head refl)))
+
+    -- the words of the variables along the facts that a marked step writes
+    until-each : (e : Assignment) (t : Tables) → Sized t → ((f : Fact) → List·Memᴰ f e → Known (domains w) f) → (g : Fact) → Known (domains w) g
+        → until-at (latest-each j e (t .latest)) (fact-word g) ≡ cond (some-fact (other-value g) e) (suc j) (read t g .until)
+    unfolding latest-each latest-wrote some-fact
+    until-each [] t sized knows g known = refl
+    until-each (f ∷ e) t sized knows g known =
+        let next : Tables = tables (t .traces) (latest-wrote j (fact-word f) (t .latest)) in
+        until-each e next (record { traces = sized .traces; latest = wrote-sized }) (λ h m. knows h (List·Memᴰ·tail m)) g known
+        ∙ rw (until-marked t sized j f g (knows f (List·Memᴰ·head refl)) known) (either-other (some-fact (other-value g) e) (other-value g f))
       where
-        apart : same-fact g f ≡ false → x ≢ y
-        apart e same = true≢false (sym (rw (one-word f g known known′ same) (same-fact-refl g)) ∙ e)
+        wrote-sized : length (latest-wrote j (fact-word f) (t .latest)) ≡ latest-start (limits .variables)
+        wrote-sized = simp length-set (sized .latest)
 
-        last-wrote : getD traces′ (trace-start y) 0 ≡ cond (same-fact g f || false) j (read t g .last)
-        last-wrote =
-            ⊎-elim
-            (λ e. rw e (same-writes (sym (same-fact-true g f e)) .0))
-            (λ e. rw e (other-stays (apart e) .0))
-            (either (same-fact g f))
+        either-other : (later here : Bool) → cond later (suc j) (cond here (suc j) (read t g .until)) ≡ cond (here || later) (suc j) (read t g .until)
+        either-other true true = refl
+        either-other true false = refl
+        either-other false true = refl
+        either-other false false = refl
 
-        support-wrote : getD traces′ (trace-start y + 1) 0 ≡ cond (same-fact g f || false) (cond (ltb (read t g .last) (read t g .until)) j 0) (read t g .support)
-        support-wrote =
-            ⊎-elim
-            (λ e. rw e (same-writes (sym (same-fact-true g f e)) .1))
-            (λ e. rw e (other-stays (apart e) .1))
-            (either (same-fact g f))
-
-  -- tables keep their size
-  sized-wrote : (t : Tables) (j : ℕ) (marked : Bool) (x : ℕ) → Sized t → Sized (wrote j marked x t)
-  unfolding wrote latest-wrote
-  sized-wrote t j marked x sized =
-      record {
-        traces = length-set (set (t .traces) (trace-start x + 1) _) (trace-start x) j ∙ length-set (t .traces) (trace-start x + 1) _ ∙ sized .traces;
-        latest = by-mark marked;
-      }
-    where
-      by-mark : (b : Bool) → length (cond b (latest-wrote j x (t .latest)) (t .latest)) ≡ latest-start (limits .variables)
-      by-mark false = sized .latest
-      by-mark true = simp length-set (sized .latest)
-
-  -- an assignment whose variables lie above that of g says nothing of g
-  above-apart : {v : ℕ} {e : Assignment} (g : Fact) → Rising (domains w) (suc v) e → g .variable ≡ v → (has e g ≡ false) × (some-fact (other-value g) e ≡ false)
-  above-apart {v} {e} g rising same = (no-member-has e g (λ m. let high : suc v ≤ g .variable = rising-above rising m in omega arith), ⊎-elim one (λ down. down) (either (some-fact (other-value g) e)))
-    where
-      one : some-fact (other-value g) e ≡ true → some-fact (other-value g) e ≡ false
-      one up =
-          let (f, m, passes) = found-passes (other-value g) e up in
-          let (variable, value) = and-eq-true-iff (eqb (f .variable) (g .variable)) (not (eqb (f .value) (g .value))) .0 passes in
-          let high : suc v ≤ f .variable = rising-above rising m in
-          absurd (omega (arith, eqb-true (f .variable) (g .variable) variable))
-
-  -- one fact more in front
-  first-alone : (same other marked : Bool) (j : ℕ) (t : Trace)
-      → passed-if false (marked && false) j (passed-if (same || false) (marked && (other || false)) j t) ≡ passed-if (same || false) (marked && (other || false)) j t
-  first-alone same other true j t = refl
-  first-alone same other false j t = refl
-
-  rest-alone : (has-it other marked : Bool) (j : ℕ) (t : Trace)
-      → passed-if has-it (marked && other) j (passed-if false (marked && false) j t) ≡ passed-if has-it (marked && other) j t
-  rest-alone has-it other true j t = refl
-  rest-alone has-it other false j t = refl
-
-  passed-more : (f g : Fact) (e : Assignment) (j : ℕ) (marked : Bool) (t : Trace) → Rising (domains w) (suc (f .variable)) e
-      → passed-by e j marked g (passed-by (f ∷ []) j marked g t) ≡ passed-by (f ∷ e) j marked g t
-  unfolding has some-fact same-fact
-  passed-more f g e j marked t rising = ⊎-elim shared apart (either (eqb (f .variable) (g .variable)))
-    where
-      shared : eqb (f .variable) (g .variable) ≡ true → passed-by e j marked g (passed-by (f ∷ []) j marked g t) ≡ passed-by (f ∷ e) j marked g t
-      shared h =
-          let (none, none-other) = above-apart g rising (sym (eqb-true (f .variable) (g .variable) h)) in
-          rw (none, none-other) (first-alone (same-fact g f) (other-value g f) marked j t)
-
-      apart : eqb (f .variable) (g .variable) ≡ false → passed-by e j marked g (passed-by (f ∷ []) j marked g t) ≡ passed-by (f ∷ e) j marked g t
-      apart h =
-          let back : eqb (g .variable) (f .variable) ≡ false = ne-eqb _ _ (λ same. eqb-false (f .variable) (g .variable) h (sym same)) in
-          rw (h, back) (rest-alone (has e g) (some-fact (other-value g) e) marked j t)
-
-  each-sized : (e : Assignment) (j : ℕ) (marked : Bool) (t : Tables) → Sized t → Sized (wrote-each j marked e t)
-  unfolding wrote-each
-  each-sized [] j marked t sized = sized
-  each-sized (f ∷ e) j marked t sized = each-sized e j marked (wrote j marked (fact-word f) t) (sized-wrote t j marked (fact-word f) sized)
-
-  each-read : {from : ℕ} (e : Assignment) (g : Fact) (j : ℕ) (marked : Bool) (t : Tables) → Rising (domains w) from e → Known (domains w) g → Sized t
-      → read (wrote-each j marked e t) g ≡ passed-by e j marked g (read t g)
-  unfolding wrote-each has some-fact
-  each-read [] g j marked t rising known sized = unwritten marked
-    where
-      unwritten : (b : Bool) → read t g ≡ passed-if false (b && false) j (read t g)
-      unwritten true = refl
-      unwritten false = refl
-  each-read (f ∷ e) g j marked t (fact here above rest) known sized =
-      each-read e g j marked (wrote j marked (fact-word f) t) rest known (sized-wrote t j marked (fact-word f) sized)
-      ∙ ap (passed-by e j marked g) (wrote-read t sized j marked f g here known)
-      ∙ passed-more f g e j marked (read t g) rest
-
-  -- behind a step whose effect is written the tables tell the traces behind it
+  -- behind a step whose effects are written the tables tell the traces behind it
   module _ (a : Action) (j : ℕ) (marked : Bool) (t : Tables) (sized : Sized t) where
     pub step-sized : Sized (wrote-each j marked (written a) t)
-    step-sized = each-sized (written a) j marked t sized
+    unfolding wrote-each
+    step-sized = record { traces = traces-sized j (t .latest) (written a) (t .traces) ∙ sized .traces; latest = by-mark marked }
+      where
+        by-mark : (b : Bool) → length (cond b (latest-each j (written a) (t .latest)) (t .latest)) ≡ latest-start (limits .variables)
+        by-mark false = sized .latest
+        by-mark true = latest-sized j (written a) (t .latest) ∙ sized .latest
 
-    pub step-read : (g : Fact) → Action-formed (domains w) a → Known (domains w) g → read (wrote-each j marked (written a) t) g ≡ passed a j marked g (read t g)
-    unfolding written
-    step-read g formed known = each-read (a .effect) g j marked t (formed .effect) known sized ∙ sym (passed-action a j marked g (read t g))
+    pub step-read : (g : Fact) → Action-formed (domains w) a → Known (domains w) g → read t g .last ≢ j
+        → read (wrote-each j marked (written a) t) g ≡ passed a j marked g (read t g)
+    unfolding wrote-each passed sets-other supporting
+    step-read g formed known unwritten =
+        λ i. record { last = last i; until = until marked i; support = support i }
+      where
+        last : getD (traces-wrote j (t .latest) (written a) (t .traces)) (trace-start (fact-word g)) 0 ≡ cond (has (written a) g) j (read t g .last)
+        last = last-each j (t .latest) g known (written a) (t .traces) (sized .traces) (formed .known)
+
+        until : (b : Bool) → until-at (cond b (latest-each j (written a) (t .latest)) (t .latest)) (fact-word g)
+            ≡ cond (b && some-fact (other-value g) (written a)) (suc j) (read t g .until)
+        until false = refl
+        until true = until-each j (written a) t sized (formed .known) g known
+
+        support : getD (traces-wrote j (t .latest) (written a) (t .traces)) (trace-start (fact-word g) + 1) 0
+            ≡ cond (has (written a) g) (cond (ltb (read t g .last) (read t g .until)) j 0) (read t g .support)
+        support = support-each j (t .latest) g known (written a) (t .traces) (sized .traces) unwritten (formed .known)

@@ -10,8 +10,10 @@ use Rattle.sas.specs.Plan.{written, needed}
 use Rattle.reduction.specs.Reduction.{Reduction}
 use Rattle.sheet.specs.declared.group.ActionFacts.{ActionFacts}
 use Rattle.sheet.specs.Decode.{action}
-use Rattle.sheet.specs.between.Group.{needed-group, written-group, facts-in}
-use Rattle.sheet.proofs.GroupLaws.{needed-facts, written-facts}
+use Rattle.sheet.specs.between.Group.{needed-group, facts-in}
+use Rattle.sheet.specs.between.Effects.{effects-of, written-in}
+use Rattle.sheet.proofs.GroupLaws.{needed-facts}
+use Rattle.sheet.proofs.EffectLaws.{effects-written}
 use Rattle.plan.specs.Limits.{most-steps}
 use Rattle.plan.specs.Valid.{steps}
 use Rattle.plan.proofs.FaultLaws.{drop-next}
@@ -35,8 +37,8 @@ module _ (w l : List ℕ) (m : Reduction) (traces₀ latest₀ rows₀ : List �
   module _ (i : ℕ) (traces latest rows : List ℕ) (along : Walking w l m traces₀ latest₀ rows₀ i traces latest rows) where
     -- one step more
     pub walking-more : i < length l → (facts : ActionFacts) (marked : Bool) (traces′ latest′ rows′ : List ℕ) → facts .precondition ≡ needed-group w (getD l i 0)
-        → facts .effect ≡ written-group w (getD l i 0) → rows′ ≡ noted traces (row-start (i + 1)) (facts-in w (facts .precondition)) rows → marked ≡ getD m (i + 1) false
-        → tables traces′ latest′ ≡ wrote-each (i + 1) marked (facts-in w (facts .effect)) (tables traces latest) → length traces′ ≡ length traces
+        → facts .effects ≡ effects-of w (getD l i 0) → rows′ ≡ noted traces (row-start (i + 1)) (facts-in w (facts .precondition)) rows → marked ≡ getD m (i + 1) false
+        → tables traces′ latest′ ≡ wrote-each (i + 1) marked (written-in w (facts .effects)) (tables traces latest) → length traces′ ≡ length traces
         → length latest′ ≡ length latest → length rows′ ≡ length rows → Walking w l m traces₀ latest₀ rows₀ (i + 1) traces′ latest′ rows′
     unfolding walked walked-step
     walking-more some facts marked traces′ latest′ rows′ needs writes notes is wrote-all same-traces same-latest same-rows =
@@ -52,7 +54,7 @@ module _ (w l : List ℕ) (m : Reduction) (traces₀ latest₀ rows₀ : List �
         }
       where
         behind : tables traces′ latest′ ≡ wrote-each (i + 1) (getD m (i + 1) false) (written (action w (getD l i 0))) (tables traces latest)
-        behind = wrote-all ∙ rw (is, writes, written-facts w (getD l i 0))
+        behind = wrote-all ∙ rw (is, writes, effects-written w (getD l i 0))
 
         row : rows′ ≡ noted traces (row-start (i + 1)) (needed (action w (getD l i 0))) rows
         row = notes ∙ rw (needs, needed-facts w (getD l i 0))

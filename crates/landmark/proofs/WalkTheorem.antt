@@ -5,17 +5,18 @@ use native.Mathlib.Nat.{add-zero}
 use native.Mathlib.Numerals.{add-one}
 use native.Mathlib.Omega.{arith}
 use mathlib.Core.Path.{_≡_, refl, _∙_, ap}
-use mathlib.Core.Logic.{⊎-elim}
-use mathlib.Core.Bool.{true, false, cond}
+use mathlib.Core.Logic.{_≢_, ⊎-elim}
+use mathlib.Core.Bool.{Bool, true, false, cond}
 use mathlib.Core.List.{List, [], _∷_, List·Memᴰ, List·Memᴰ·head, List·Memᴰ·tail}
 use lib.ListN.{length, getD, set, length-set}
 use lib.Seq.{getD-set-same, getD-set-other}
 use Rattle.sas.specs.Task.{Fact, Assignment, Action}
-use Rattle.sas.specs.Plan.{needed, needs}
+use Rattle.sas.specs.Plan.{written, needed, needs}
 use Rattle.sas.specs.between.WellFormed.{Known, Action-formed}
 use Rattle.reduction.specs.Reduction.{Reduction}
 use Rattle.reduction.specs.Landmark.{step}
-use Rattle.reduction.specs.between.Landmarks.{trace, support, raised, supported}
+use Rattle.reduction.specs.between.Wanted.{has}
+use Rattle.reduction.specs.between.Landmarks.{passed, trace, support, raised, supported}
 use Rattle.reduction.proofs.LinkLaws.{before-or-at}
 use Rattle.sheet.specs.Limits.{limits}
 use Rattle.sheet.specs.Decode.{domains}
@@ -25,6 +26,21 @@ use Rattle.landmark.specs.between.Traces.{trace-start, Tables, tables}
 use Rattle.landmark.specs.between.Rows.{most-positions, row-start, noted, row-raised}
 use Rattle.landmark.specs.between.Passes.{Walk, walked-step, walked, closed, pass-from}
 use Rattle.landmark.proofs.TraceTheorem.{read, Sized, step-sized, step-read}
+
+-- the last writer of a fact before a position behind the start stands before it
+last-before : (q : List Action) (m : Reduction) (g : Fact) (j : ℕ) → 1 ≤ j → trace q m g j .last < j
+unfolding trace passed
+last-before q m g zero later = absurd (omega arith)
+last-before q m g (suc zero) later = by-case (has (written (step q 0)) g)
+  where
+    by-case : (b : Bool) → cond b 0 0 < 1
+    by-case true = omega arith
+    by-case false = omega arith
+last-before q m g (suc (suc j)) later = by-case (has (written (step q (suc j))) g) (last-before q m g (suc j) (omega arith))
+  where
+    by-case : (b : Bool) → trace q m g (suc j) .last < suc j → cond b (suc j) (trace q m g (suc j) .last) < suc (suc j)
+    by-case true earlier = omega arith
+    by-case false earlier = omega arith
 
 -- the places from i on have what `at` gives for the facts of an assignment
 abbrev pub Noted-row : List ℕ → ℕ → Assignment → (Fact → ℕ) → Type 0
@@ -93,29 +109,33 @@ module _ (w : List ℕ) (accepted : Accepted w) (q : List Action) (m : Reduction
       (λ f need. ap (λ k. k .support) (told .reads f (known j f need)))))
       (before-or-at x j h)
 
-  told-step : (j : ℕ) (t : Walk) → j < most-positions → Action-formed (domains w) (step q j) → Told j t → Told (suc j) (walked-step m j (step q j) t)
+  told-step : (j : ℕ) (t : Walk) → 1 ≤ j → j < most-positions → Action-formed (domains w) (step q j) → Told j t → Told (suc j) (walked-step m j (step q j) t)
   unfolding walked-step trace
-  told-step j t inside formed told =
+  told-step j t later inside formed told =
       let before : Tables = tables (t .traces) (t .latest) in
       record {
         sized = step-sized w accepted (step q j) j (getD m j false) before (told .sized);
         rows-sized = noted-length (t .traces) (row-start j) (needed (step q j)) (t .rows) ∙ told .rows-sized;
-        reads = λ g here. step-read w accepted (step q j) j (getD m j false) before (told .sized) g formed here ∙ rw (told .reads g here);
+        reads = λ g here. step-read w accepted (step q j) j (getD m j false) before (told .sized) g formed here (unwritten g here) ∙ rw (told .reads g here);
         rows-told = more-noted j t inside told;
       }
+    where
+      -- no step before the one at j stands at j
+      unwritten : (g : Fact) → Known (domains w) g → read (tables (t .traces) (t .latest)) g .last ≢ j
+      unwritten g here same = omega (arith, last-before q m g j later, ap (λ k. k .last) (told .reads g here))
 
   -- the walk along the steps p, which stand from position j on
-  pub told-along : (p : List Action) (j : ℕ) (t : Walk) → j + length p ≤ most-positions
+  pub told-along : (p : List Action) (j : ℕ) (t : Walk) → 1 ≤ j → j + length p ≤ most-positions
       → ((i : ℕ) → i < length p → (step q (j + i) ≡ step p i) × Action-formed (domains w) (step p i)) → Told j t → Told (j + length p) (walked m j p t)
   unfolding walked
-  told-along [] j t room there told = rw (add-zero j) told
-  told-along (a ∷ p) j t room there told =
+  told-along [] j t later room there told = rw (add-zero j) told
+  told-along (a ∷ p) j t later room there told =
       let (is, formed) = there 0 (omega arith) in
       let here : step q j ≡ a = rw (add-zero j) at is in
-      let next : Told (j + 1) (walked-step m j a t) = rw add-one (rw here at (told-step j t (omega arith) (rw here formed) told)) in
+      let next : Told (j + 1) (walked-step m j a t) = rw add-one (rw here at (told-step j t later (omega arith) (rw here formed) told)) in
       let length-more : j + suc (length p) ≡ j + 1 + length p = omega arith in
       rw length-more
-      (told-along p (j + 1) (walked-step m j a t) (omega arith)
+      (told-along p (j + 1) (walked-step m j a t) (omega arith) (omega arith)
       (λ i h. let further : j + 1 + i ≡ j + suc i = omega arith in rw further (there (suc i) (omega arith)))
       next)
 

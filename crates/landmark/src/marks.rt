@@ -21,7 +21,7 @@ pub struct Marked {
 pub fn mark_lodged(words: &[u32], plan: &[u32], besides: Verdict) -> Marked
     ensures { λ r. ⌜ Marks-lodged (now (words .entry)) (now (plan .entry)) besides (r .answer) (r .flags) ⌝ }
 {
-    let checked = check_lodged(words, plan, besides);
+    let checked = check_lodged(words, plan, Plan::STEPS, besides);
     let answer = checked.answer;
     match answer {
         Answer::Refused(refusal) => Marked {

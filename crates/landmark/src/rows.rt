@@ -37,7 +37,7 @@ pub(crate) fn note(words: &[u32], traces: &[u8], rows: &mut [u8], at: usize, gro
             to,
             byte(traces, TRACE * rest.first(words) as usize + SUPPORT),
         );
-        rest = rest.rest(words);
+        rest = rest.rest();
         if to < rows.len() {
             to += 1;
         }
@@ -55,7 +55,7 @@ fn raise_row(words: &[u32], rows: &[u8], flags: &mut [bool], at: usize, group: G
     let mut rest = group;
     while rest.at < rest.end {
         raise(flags, byte(rows, from) as usize);
-        rest = rest.rest(words);
+        rest = rest.rest();
         if from < rows.len() {
             from += 1;
         }

@@ -4,15 +4,16 @@ use access::put;
 use access::put8;
 use access::word;
 use fact_table::FACTS;
-use sheet::group::Group;
+use sheet::effects::Effects;
 use sheet::limits::Sheet;
 use step::state::initial;
 ghost use mathlib.Core.Path.{_≡_};
 ghost use Rattle.sheet.specs.Limits.{limits};
 ghost use Rattle.sheet.specs.Decode.{initial as initial-of};
-ghost use Rattle.sheet.specs.between.Group.{facts-in};
+ghost use Rattle.sheet.specs.between.Effects.{written-in};
 ghost use Rattle.step.specs.State.{in-array};
-ghost use Rattle.landmark.specs.between.Traces.{until-at, supporting, tables, wrote, wrote-each, started};
+ghost use Rattle.landmark.specs.between.Traces.{until-at, supporting, trace-wrote, traces-wrote};
+ghost use Rattle.landmark.specs.between.Traces.{latest-wrote, latest-each, tables, wrote-each, started};
 
 // The bytes of a fact: the position of its last writer, and its support, which is that writer where a marked step wrote
 // another value since the writer before; 0 for none. A position fits a byte, since a plan has at most 255 steps.
@@ -50,41 +51,73 @@ fn support(last: u8, until: u32, at: u8) -> u8
     if (last as u32) < until { at } else { 0 }
 }
 
-// The step at this position writes a fact.
-fn write_fact(traces: &mut [u8], latest: &mut [u32], at: u8, marked: bool, fact: u32)
-    ensures { λ _. ⌜ tables (now (traces .exit)) (now (latest .exit))
-        ≡ wrote at marked fact (tables (now (traces .entry)) (now (latest .entry))) ⌝ }
+// The step at this position writes a fact: its support, told by what earlier steps wrote, and the step as its last
+// writer. A fact that the step has written already stays as it is.
+fn note_fact(traces: &mut [u8], latest: &[u32], at: u8, fact: u32)
+    ensures { λ _. ⌜ now (traces .exit) ≡ trace-wrote at (now (latest .entry)) fact (now (traces .entry)) ⌝ }
 {
-    let seen = until(latest, fact);
     let here = TRACE * fact as usize;
     let last = byte(traces, here);
+    if last == at {
+        return;
+    }
+    let seen = until(latest, fact);
     put8(traces, here + SUPPORT, support(last, seen, at));
     put8(traces, here, at);
-    if marked {
-        let v = VARIABLE * (fact as usize / Sheet::VALUES);
-        put(latest, v, fact);
-        put(latest, v + AT, at as u32 + 1);
-        put(latest, v + OTHER, seen);
+}
+
+// The same of all facts that its effects may write.
+fn note_effects(words: &[u32], traces: &mut [u8], latest: &[u32], at: u8, effects: Effects)
+    ensures { λ _. ⌜ now (traces .exit) ≡ traces-wrote at (now (latest .entry))
+        (written-in (now (words .entry)) effects) (now (traces .entry)) ⌝ }
+{
+    let mut rest = effects;
+    while rest.at < rest.end {
+        note_fact(traces, latest, at, rest.first(words));
+        rest = rest.rest(words);
     }
 }
 
-// The step at this position writes the facts of a group.
-pub(crate) fn write_facts(
+// The marked step at this position writes a fact, as the last one that wrote its variable.
+fn mark_fact(latest: &mut [u32], at: u8, fact: u32)
+    ensures { λ _. ⌜ now (latest .exit) ≡ latest-wrote at fact (now (latest .entry)) ⌝ }
+{
+    let seen = until(latest, fact);
+    let v = VARIABLE * (fact as usize / Sheet::VALUES);
+    put(latest, v, fact);
+    put(latest, v + AT, at as u32 + 1);
+    put(latest, v + OTHER, seen);
+}
+
+// The same of all facts that its effects may write.
+fn mark_effects(words: &[u32], latest: &mut [u32], at: u8, effects: Effects)
+    ensures { λ _. ⌜ now (latest .exit) ≡ latest-each at
+        (written-in (now (words .entry)) effects) (now (latest .entry)) ⌝ }
+{
+    let mut rest = effects;
+    while rest.at < rest.end {
+        mark_fact(latest, at, rest.first(words));
+        rest = rest.rest(words);
+    }
+}
+
+// The step at this position writes what its effects may write. All supports are told before any write of the step counts
+// as one of a marked step, so that it is never its own earlier writer.
+pub(crate) fn write_effects(
     words: &[u32],
     traces: &mut [u8],
     latest: &mut [u32],
     at: u8,
     marked: bool,
-    group: Group,
+    effects: Effects,
 )
     ensures { λ _. ⌜ tables (now (traces .exit)) (now (latest .exit))
-        ≡ wrote-each at marked (facts-in (now (words .entry)) group)
+        ≡ wrote-each at marked (written-in (now (words .entry)) effects)
         (tables (now (traces .entry)) (now (latest .entry))) ⌝ }
 {
-    let mut rest = group;
-    while rest.at < rest.end {
-        write_fact(traces, latest, at, marked, rest.first(words));
-        rest = rest.rest(words);
+    note_effects(words, traces, latest, at, effects);
+    if marked {
+        mark_effects(words, latest, at, effects);
     }
 }
 

@@ -2,7 +2,7 @@
 // needs, and back to raise the supports of each marked one.
 use crate::rows::note;
 use crate::rows::raise_marked;
-use crate::traces::write_facts;
+use crate::traces::write_effects;
 use access::flag;
 use sheet::group::Group;
 use sheet::group::facts_of;
@@ -48,7 +48,7 @@ pub(crate) fn walk(
         let facts = facts_of(words, plan[i]);
         note(words, traces, rows, i + 1, facts.precondition);
         let marked = flag(flags, i + 1);
-        write_facts(words, traces, latest, (i + 1) as u8, marked, facts.effect);
+        write_effects(words, traces, latest, (i + 1) as u8, marked, facts.effects);
         i += 1;
     }
 }

@@ -57,7 +57,7 @@ module _ (w l : List ℕ) (readable : Readable w l) (plan : Plan (task w) (steps
   checks-pass room roomy =
       let passes : answer (plan-checks w l) ≡ none = plan-theorem w l readable .plan-passes plan in
       let fits-in : answer (room-checks (length l) room) ≡ none = answer-passes _ [] (rw (le-ltb room (length l) roomy)) ∙ answer-nothing in
-      faultless-passes _ w l readable fits-in (passes-faultless [] w l readable answer-nothing passes)
+      faultless-passes _ _ w l readable fits-in (passes-faultless _ [] w l readable answer-nothing passes)
 
   -- so only the number of unmarked steps decides
   module _ (limit room : ℕ) (roomy : length l ≤ room) where

@@ -78,7 +78,7 @@ module _ (limit : ℕ) (w l before : List ℕ) (v : Verdict) (given : Answer) (f
     passed = sym (checked .refusal) ∙ ap told-answer valid
 
     readable : Readable w l
-    readable = passed-readable _ w l passed
+    readable = passed-readable _ _ w l passed
 
     only-unmarked : answer (minimal-checks limit w l (length before)) ≡ answer (unmarked-checks limit w l)
     unfolding minimal-checks

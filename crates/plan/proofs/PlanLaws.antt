@@ -16,20 +16,19 @@ use Rattle.refusal.proofs.CheckLaws.{none-fires, answer-fires, answer-passes, a
 use Rattle.sas.specs.Task.{Action, idle}
 use Rattle.sas.specs.Plan.{cost}
 use Rattle.sas.specs.between.WellFormed.{Rising}
-use Rattle.sas.proofs.WellFormedLaws.{Actions-formed}
-use Rattle.tally.specs.Tally.{nothing, after}
+use Rattle.sas.proofs.WellFormedLaws.{Actions-formed, Actions-plain, each-behind}
+use Rattle.tally.specs.Tally.{bounds, nothing, after}
 use Rattle.tally.proofs.TallyLaws.{total, plain-tally}
 use Rattle.sheet.specs.Limits.{limits}
 use Rattle.sheet.specs.Layout.{actions, cost-word}
 use Rattle.sheet.specs.Decode.{domains, initial, goal, action, task}
 use Rattle.sheet.specs.Causes.{sheet-checks, Accepted}
-use Rattle.sheet.proofs.Accepted.{action-known, accepted-well-formed, cost-limit}
-use Rattle.plan.specs.Limits.{most-steps}
+use Rattle.sheet.proofs.Accepted.{action-known, accepted-well-formed, accepted-plain, cost-limit}
 use Rattle.plan.specs.Valid.{steps}
 use Rattle.plan.specs.between.Fault.{fault}
 use Rattle.plan.specs.Checked.{unknown-place, list-checks, read-checks, valid-checks, lodged-checks}
 use Rattle.plan.proofs.FaultLaws.{steps-drop}
-use Rattle.plan.specs.Readable.{Entries-known, Readable-within, Readable}
+use Rattle.plan.specs.Readable.{Entries-known, Readable-within}
 
 -- the sum of the cost words is the cost of the actions
 total-cost : (w l : List ℕ) → total (map (cost-word w) l) ≡ cost (steps w l)
@@ -67,11 +66,6 @@ steps-at w [] i h = absurd (omega arith)
 steps-at w (a ∷ l) zero h = refl
 steps-at w (a ∷ l) (suc i) h = steps-at w l i (omega arith)
 
-dropped-formed : {domains : List ℕ} (i : ℕ) (p : List Action) → Actions-formed domains p → Actions-formed domains (drop i p)
-dropped-formed zero p formed = formed
-dropped-formed (suc i) [] formed = formed
-dropped-formed (suc i) (a ∷ p) formed = dropped-formed i p (λ b m. formed b (List·Memᴰ·tail m))
-
 module _ (w l : List ℕ) (accepted : Accepted w) (known : Entries-known w l) where
   -- each step is one of the task's actions
   pub steps-known : (a : Action) → List·Memᴰ a (steps w l) → List·Memᴰ a (task w .actions)
@@ -83,14 +77,18 @@ module _ (w l : List ℕ) (accepted : Accepted w) (known : Entries-known w l) wh
 
   -- and so is each step from index k on
   pub rest-formed : (k : ℕ) → Actions-formed (domains w) (steps w (drop k l))
-  rest-formed k = rw (← steps-drop w l k) at (dropped-formed k (steps w l) steps-formed)
+  rest-formed k = rw (← steps-drop w l k) at (each-behind steps-formed k)
 
   cost-words-limit : (c : ℕ) → List·Memᴰ c (map (cost-word w) l) → c ≤ limits .cost
   unfolding action
   cost-words-limit c m = let (k, in-list, same) = Memᴰ·of-map (cost-word w) l m in rw (← same) (cost-limit w accepted (action-known w k (known k in-list)))
 
-  -- the tally of a list that is not too long is its cost and its number of steps
-  pub walked-tally : length l ≤ most-steps → after nothing (map (cost-word w) l) ≡ record { cost = cost (steps w l); steps = length l }
+  -- each is plain
+  pub steps-plain : Actions-plain (domains w) (steps w l)
+  steps-plain a m = accepted-plain w accepted (steps-known a m)
+
+  -- the tally of a list that is not too long for one is its cost and its number of steps
+  pub walked-tally : length l ≤ bounds .steps → after nothing (map (cost-word w) l) ≡ record { cost = cost (steps w l); steps = length l }
   walked-tally few = plain-tally (limits .cost) (map (cost-word w) l) cost-words-limit (omega arith) (rw length-map few) ∙ rw (total-cost w l, length-map)
 
 -- a list that passes its own checks has no more steps than the limit, and each of its entries is known
@@ -126,48 +124,48 @@ module _ (limit : ℕ) (w l : List ℕ) where
   pub readable-read : Readable-within limit w l → answer (read-checks limit w l) ≡ none
   readable-read readable = list-answers (readable .accepted) ∙ entries-listed limit w l (readable .few) (readable .known)
 
-module _ (besides : List Check) (w l : List ℕ) where
+module _ (limit : ℕ) (besides : List Check) (w l : List ℕ) where
   -- what is read is looked at first, then what is asked besides
-  pub read-answers : {t : Told} → answer (read-checks most-steps w l) ≡ some t → answer (lodged-checks besides w l) ≡ some t
+  pub read-answers : {t : Told} → answer (read-checks limit w l) ≡ some t → answer (lodged-checks limit besides w l) ≡ some t
   unfolding lodged-checks
-  read-answers h = answer-first (read-checks most-steps w l) (besides ++ valid-checks w l) h
+  read-answers h = answer-first (read-checks limit w l) (besides ++ valid-checks w l) h
 
   -- a list that passes can be read
-  pub passed-readable : answer (lodged-checks besides w l) ≡ none → Readable w l
+  pub passed-readable : answer (lodged-checks limit besides w l) ≡ none → Readable-within limit w l
   unfolding lodged-checks
-  passed-readable h = read-readable most-steps w l (first-none (read-checks most-steps w l) (besides ++ valid-checks w l) _ h refl)
+  passed-readable h = read-readable limit w l (first-none (read-checks limit w l) (besides ++ valid-checks w l) _ h refl)
 
-  module _ (readable : Readable w l) where
-    pub rest-answers : answer (lodged-checks besides w l) ≡ answer (besides ++ valid-checks w l)
+  module _ (readable : Readable-within limit w l) where
+    pub rest-answers : answer (lodged-checks limit besides w l) ≡ answer (besides ++ valid-checks w l)
     unfolding lodged-checks
-    rest-answers = answer-second (read-checks most-steps w l) (besides ++ valid-checks w l) (readable-read most-steps w l readable)
+    rest-answers = answer-second (read-checks limit w l) (besides ++ valid-checks w l) (readable-read limit w l readable)
 
-    pub besides-answers : {t : Told} → answer besides ≡ some t → answer (lodged-checks besides w l) ≡ some t
+    pub besides-answers : {t : Told} → answer besides ≡ some t → answer (lodged-checks limit besides w l) ≡ some t
     besides-answers h = rest-answers ∙ answer-first besides (valid-checks w l) h
 
     -- where both pass, it is left to the fault
     module _ (passed : answer besides ≡ none) where
-      only-valid : answer (lodged-checks besides w l) ≡ answer (valid-checks w l)
+      only-valid : answer (lodged-checks limit besides w l) ≡ answer (valid-checks w l)
       only-valid = rest-answers ∙ answer-second besides (valid-checks w l) passed
 
-      pub fault-answers : (k : ℕ) → fault (goal w) (initial w) 1 (steps w l) ≡ At k → answer (lodged-checks besides w l) ≡ some (told-refusal (NotAPlan k))
+      pub fault-answers : (k : ℕ) → fault (goal w) (initial w) 1 (steps w l) ≡ At k → answer (lodged-checks limit besides w l) ≡ some (told-refusal (NotAPlan k))
       unfolding valid-checks
       fault-answers k e = only-valid ∙ answer-fires _ _ k e
 
-      pub passes-faultless : answer (lodged-checks besides w l) ≡ none → fault (goal w) (initial w) 1 (steps w l) ≡ Nowhere
+      pub passes-faultless : answer (lodged-checks limit besides w l) ≡ none → fault (goal w) (initial w) 1 (steps w l) ≡ Nowhere
       unfolding valid-checks
       passes-faultless h = none-fires _ _ (sym only-valid ∙ h) .0
 
-      pub faultless-passes : fault (goal w) (initial w) 1 (steps w l) ≡ Nowhere → answer (lodged-checks besides w l) ≡ none
+      pub faultless-passes : fault (goal w) (initial w) 1 (steps w l) ≡ Nowhere → answer (lodged-checks limit besides w l) ≡ none
       unfolding valid-checks
       faultless-passes e = only-valid ∙ answer-passes _ _ e ∙ answer-nothing
 
 -- a list that passes the checks of a service passes what it asks besides, and the check of a list
-module _ (besides : List Check) (w l : List ℕ) (passed : answer (lodged-checks besides w l) ≡ none) where
+module _ (limit : ℕ) (besides : List Check) (w l : List ℕ) (passed : answer (lodged-checks limit besides w l) ≡ none) where
   pub besides-pass : answer besides ≡ none
-  besides-pass = first-none besides (valid-checks w l) _ (sym (rest-answers besides w l (passed-readable besides w l passed)) ∙ passed) refl
+  besides-pass = first-none besides (valid-checks w l) _ (sym (rest-answers limit besides w l (passed-readable limit besides w l passed)) ∙ passed) refl
 
-  pub plan-passes : answer (lodged-checks [] w l) ≡ none
+  pub plan-passes : answer (lodged-checks limit [] w l) ≡ none
   plan-passes =
-      let readable : Readable w l = passed-readable besides w l passed in
-      faultless-passes [] w l readable answer-nothing (passes-faultless besides w l readable besides-pass passed)
+      let readable : Readable-within limit w l = passed-readable limit besides w l passed in
+      faultless-passes limit [] w l readable answer-nothing (passes-faultless limit besides w l readable besides-pass passed)

@@ -30,7 +30,7 @@ use Rattle.plan.specs.Readable.{Readable}
 
 module _ (w l : List ℕ) (readable : Readable w l) where
   no-fault : answer (plan-checks w l) ≡ none → fault (goal w) (initial w) 1 (steps w l) ≡ Nowhere
-  no-fault h = passes-faultless [] w l readable answer-nothing h
+  no-fault h = passes-faultless _ [] w l readable answer-nothing h
 
   passed-is-plan : answer (plan-checks w l) ≡ none → Plan (task w) (steps w l)
   unfolding task
@@ -40,13 +40,13 @@ module _ (w l : List ℕ) (readable : Readable w l) where
 
   plan-is-passed : Plan (task w) (steps w l) → answer (plan-checks w l) ≡ none
   unfolding task
-  plan-is-passed p = faultless-passes [] w l readable answer-nothing (runs-faultless (goal w) (initial w) 1 (steps w l) (p .reached) (p .goal))
+  plan-is-passed p = faultless-passes _ [] w l readable answer-nothing (runs-faultless (goal w) (initial w) 1 (steps w l) (p .reached) (p .goal))
 
   refused-where : (t : Told) → answer (plan-checks w l) ≡ some t → (p : Place) → fault (goal w) (initial w) 1 (steps w l) ≡ p
       → (t .number ≡ 11) × Fails-at w l (t .place)
-  refused-where t h Nowhere e = absurd (Option·some-ne-none t (sym h ∙ faultless-passes [] w l readable answer-nothing e))
+  refused-where t h Nowhere e = absurd (Option·some-ne-none t (sym h ∙ faultless-passes _ [] w l readable answer-nothing e))
   refused-where t h (At k) e =
-      let same : told-refusal (NotAPlan k) ≡ t = Option·some-injective _ _ (sym (fault-answers [] w l readable answer-nothing k e) ∙ h) in
+      let same : told-refusal (NotAPlan k) ≡ t = Option·some-injective _ _ (sym (fault-answers _ [] w l readable answer-nothing k e) ∙ h) in
       rw (← same) (refl, rw (← length-map l (action w)) (fault-told (goal w) (initial w) (steps w l) k e))
 
   failing-fault : (k : ℕ) → Fails-at w l k → fault (goal w) (initial w) 1 (steps w l) ≡ At k
@@ -59,7 +59,7 @@ module _ (w l : List ℕ) (readable : Readable w l) where
 
   failing-refused : (t : Told) → t .number ≡ 11 → Fails-at w l (t .place) → answer (plan-checks w l) ≡ some t
   failing-refused t number fails =
-      fault-answers [] w l readable answer-nothing (t .place) (failing-fault (t .place) fails) ∙ ap some (told-parts t 11 (sym number))
+      fault-answers _ [] w l readable answer-nothing (t .place) (failing-fault (t .place) fails) ∙ ap some (told-parts t 11 (sym number))
 
   ends : end-state w l ≡ final (initial w) (steps w l) ++ replicate (limits .variables - variables w) 0
   ends =
@@ -80,7 +80,7 @@ module _ (w l : List ℕ) (readable : Readable w l) where
 
 -- of all words and all lists, just the plans that can be read pass
 pub passes-exactly : (w l : List ℕ) → answer (plan-checks w l) ≡ none ↔ (Readable w l × Plan (task w) (steps w l))
-passes-exactly w l = (λ h. passed (passed-readable [] w l h) h, λ (readable, plan). plan-is-passed w l readable plan)
+passes-exactly w l = (λ h. passed (passed-readable _ [] w l h) h, λ (readable, plan). plan-is-passed w l readable plan)
   where
     passed : Readable w l → answer (plan-checks w l) ≡ none → Readable w l × Plan (task w) (steps w l)
     passed readable h = (readable, passed-is-plan w l readable h)

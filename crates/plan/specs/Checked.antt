@@ -44,14 +44,14 @@ read-checks limit w l = sheet-checks w ++ list-checks limit w l
 unfoldable pub valid-checks : List ℕ → List ℕ → List Check
 valid-checks w l = record { number = 11; fires = fault (goal w) (initial w) 1 (steps w l) } ∷ []
 
--- the checks of a service of a list, in the order in which they run: of what is read; of what the service asks besides;
--- of the list's validity
-unfoldable pub lodged-checks : List Check → List ℕ → List ℕ → List Check
-lodged-checks besides w l = read-checks most-steps w l ++ (besides ++ valid-checks w l)
+-- the checks of a service of a list of at most so many steps, in the order in which they run: of what is read; of what
+-- the service asks besides; of the list's validity
+unfoldable pub lodged-checks : ℕ → List Check → List ℕ → List ℕ → List Check
+lodged-checks limit besides w l = read-checks limit w l ++ (besides ++ valid-checks w l)
 
 -- the checks of the check of a list
 abbrev pub plan-checks : List ℕ → List ℕ → List Check
-plan-checks w l = lodged-checks [] w l
+plan-checks w l = lodged-checks most-steps [] w l
 
 -- the refusal in an answer, if it is one
 abbrev pub told-answer : Answer → Option Told

@@ -11,6 +11,8 @@ use step::state::initial;
 use step::state::size;
 use tally::Tally;
 ghost use mathlib.Core.Path.{_≡_};
+ghost use Prim.Native.Nat.{_≤_};
+ghost use Rattle.tally.specs.Tally.{bounds};
 ghost use Rattle.plan.specs.declared.check.Answer.the-variants.{Refused};
 ghost use Rattle.plan.specs.Checked.{plan-checks, no-state, Checks};
 ghost use Rattle.plan.specs.between.Lodged.{Checks-lodged};
@@ -39,12 +41,14 @@ fn refused(refusal: Refusal) -> Checked
     }
 }
 
-// Checks a plan of a task. `besides` is the verdict on what a service asks besides, after what is read and before the
-// plan's validity.
-pub fn check_lodged(words: &[u32], plan: &[u32], besides: Verdict) -> Checked
-    ensures { λ r. ⌜ Checks-lodged (now (words .entry)) (now (plan .entry)) besides (r .answer) (r .state .values) ⌝ }
+// Checks a plan of a task, of at most `limit` steps, for which a tally must have room. `besides` is the verdict on what a
+// service asks besides, after what is read and before the plan's validity.
+pub fn check_lodged(words: &[u32], plan: &[u32], limit: usize, besides: Verdict) -> Checked
+    requires { ⌜ limit ≤ bounds .steps ⌝ }
+    ensures { λ r. ⌜ Checks-lodged limit (now (words .entry)) (now (plan .entry)) besides
+        (r .answer) (r .state .values) ⌝ }
 {
-    let read = check_read(words, plan, Plan::STEPS);
+    let read = check_read(words, plan, limit);
     if let Verdict::Refused(refusal) = read {
         return refused(refusal);
     }
@@ -72,5 +76,5 @@ pub fn check_plan(words: &[u32], plan: &[u32]) -> Checked
     ensures { λ r. ⌜ Checks (plan-checks (now (words .entry)) (now (plan .entry)))
         (now (words .entry)) (now (plan .entry)) (r .answer) (r .state .values) ⌝ }
 {
-    check_lodged(words, plan, Verdict::Passed)
+    check_lodged(words, plan, Plan::STEPS, Verdict::Passed)
 }

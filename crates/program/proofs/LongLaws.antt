@@ -41,5 +41,5 @@ module _ (w : List ℕ) where
   as-checked l long = by-case (answer (sheet-checks w)) refl
     where
       by-case : (o : Option Told) → answer (sheet-checks w) ≡ o → answer (plan-checks w l) ≡ some (long-refusal w)
-      by-case (some t) e = rw (long-sheet t e) (read-answers [] w l (sheet-answers most-steps w l e))
-      by-case none e = rw (long-plan e) (read-answers [] w l (list-answers most-steps w l e ∙ answer-fires _ _ most-steps (rw (lt-ltb most-steps (length l) long))))
+      by-case (some t) e = rw (long-sheet t e) (read-answers _ [] w l (sheet-answers most-steps w l e))
+      by-case none e = rw (long-plan e) (read-answers _ [] w l (list-answers most-steps w l e ∙ answer-fires _ _ most-steps (rw (lt-ltb most-steps (length l) long))))

@@ -1,7 +1,7 @@
 -- A search that passes over flagged steps stays on course: what is wanted from a visit's index on holds there, and what is kept so far tells which facts hold. So a
 -- flagged step can be done and is passed without a test, many of them at once, and at the end of the plan the goal holds. A kept step unsets nothing that is
 -- wanted behind it, for it would unset that in the lodged plan too, which is valid; a struck one lacks nothing, by its test. By the laws of wanted facts, along
--- the lodged plan's own run. Assumes nothing.
+-- the lodged plan's own run; what plain actions leave is told by what they write. Assumes nothing.
 use Prim.Native.Nat.{ℕ, zero, suc, _+_, _-_, _≤_, _<_}
 use native.Mathlib.Numerals.{add-one}
 use native.Mathlib.Omega.{arith}
@@ -13,8 +13,8 @@ use lib.Seq.{drop-cons, drop-drop, getD-set-same, set-getD, take-set-le}
 use borrow.Author.Tests.{not-true}
 use Rattle.sas.specs.Task.{Fact, Assignment, State, Action, idle}
 use Rattle.sas.specs.Plan.{holds, applicable, apply, needed, written, needs}
-use Rattle.sas.specs.between.WellFormed.{Action-formed}
-use Rattle.sas.proofs.WellFormedLaws.{Actions-formed}
+use Rattle.sas.specs.between.WellFormed.{Plain}
+use Rattle.sas.proofs.WellFormedLaws.{Actions-plain}
 use Rattle.sas.proofs.ActionLaws.{applicable-needed, apply-length}
 use Rattle.reduction.specs.Reduction.{Reduction, whole, valid-for, Valid-for, meets, Before}
 use Rattle.reduction.specs.Landmark.{step}
@@ -26,7 +26,7 @@ use Rattle.reduction.specs.between.Course.{held-after, held, On-course}
 use Rattle.reduction.proofs.ReductionLaws.{whole-valid, contains-behind, alike-behind}
 use Rattle.reduction.proofs.MemberLaws.{found, has-member, member-has, has-no-member}
 use Rattle.reduction.proofs.WantedLaws.{wanted-holds, wanted-before, first-wanted}
-use Rattle.reduction.proofs.HeldLaws.{all-satisfied, run-length, step-formed, apply-held, held-more, held-kept, held-struck, held-alike}
+use Rattle.reduction.proofs.HeldLaws.{all-satisfied, run-length, each-step, apply-held, held-more, held-kept, held-struck, held-alike}
 use Rattle.reduction.proofs.BeforeLaws.{before-first, rest-valid, before-next}
 use Rattle.reduction.proofs.TurnLaws.{turns, strike-flagged, keep-goes-on}
 use Rattle.reduction.proofs.SearchTheorem.{struck-visited, done-visited}
@@ -45,7 +45,7 @@ pub record Moves-to (goal : Assignment) (s : State) (p : List Action) (flags : R
   pub turned : turns (tests goal p flags) p (drop (v .index) p) v ≡ turns (tests goal p flags) p (drop j p) (moved v j state)
   pub course : On-course goal s p flags (moved v j state)
 
-module _ (goal : Assignment) (s : State) (p : List Action) (flags : Reduction) (domains : List ℕ) (formed : Actions-formed domains p)
+module _ (goal : Assignment) (s : State) (p : List Action) (flags : Reduction) (domains : List ℕ) (plain : Actions-plain domains p)
     (sized : length s ≡ length domains) (valid : valid-for (meets goal) s p ≡ true) (flagged : Flags-kept (meets goal) s p flags)
     (fits : length flags ≡ length p) where
   -- the lodged plan, of which nothing is struck, leads on by each of its steps
@@ -146,18 +146,18 @@ module _ (goal : Assignment) (s : State) (p : List Action) (flags : Reduction) (
           here : Action
           here = step p (v .index)
 
-          here-formed : Action-formed domains here
-          here-formed = step-formed formed (v .index) inside
+          here-plain : Plain domains here
+          here-plain = each-step plain (v .index) inside
 
           after : (f : Fact) → holds (apply (v .state) here) f ≡ held-after here f (holds (v .state) f)
-          after f = apply-held here f (v .state) here-formed (course .sized ∙ sized)
+          after f = apply-held here f (v .state) here-plain (course .sized ∙ sized)
 
           lodged-after : (f : Fact) → wanted goal (drop (v .index + 1) p) (drop (v .index + 1) flags) f ≡ true
               → (u : State) × (held-after here f (holds u f) ≡ true)
           lodged-after f want =
               let (u, reached) = lodged-before (v .index) (omega arith) in
               let there = lodged-supplied (suc (v .index)) (lodged-next (v .index) inside reached) f (rw (← add-one (v .index)) want) in
-              (u, sym (apply-held here f u here-formed (run-length s _ reached ∙ sized)) ∙ there)
+              (u, sym (apply-held here f u here-plain (run-length s _ reached ∙ sized)) ∙ there)
 
           by-case : (f : Fact) → wanted goal (drop (v .index + 1) p) (drop (v .index + 1) flags) f ≡ true → (b : Bool) → has (written here) f ≡ b
               → holds (apply (v .state) here) f ≡ true

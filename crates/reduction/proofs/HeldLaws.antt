@@ -1,24 +1,24 @@
 -- Whether a fact holds after an action is told by whether it held before: what the action writes holds, a fact of a variable that it sets otherwise does not,
--- and every other one is as before. So what a search has decided before an index tells which facts hold there. An assignment all of whose facts hold is
--- satisfied, a run keeps the number of variables, and the actions of a plan over the domains are so behind each index and at it. By the laws of `apply`, and
--- by list induction. Assumes nothing.
+-- and every other one is as before. So what a search has decided before an index tells which facts hold there. This is of plain actions alone. An assignment
+-- all of whose facts hold is satisfied, a run keeps the number of variables, and what holds of each action of a plan holds of the one at an
+-- index. By the laws of `apply`, and by list induction. Assumes nothing.
 use Prim.Native.Nat.{ℕ, zero, suc, _<_}
 use native.Mathlib.Omega.{arith}
 use mathlib.Core.Path.{_≡_, refl, sym, _∙_, ap}
 use mathlib.Core.Logic.{⊎-elim}
 use mathlib.Core.Bool.{Bool, true, false, true≢false, not, _&&_, _||_, and-eq-true-iff, or-true}
 use mathlib.Core.Option.{some}
-use mathlib.Core.List.{List, [], _∷_, List·Memᴰ, List·Memᴰ·head, List·Memᴰ·tail, Memᴰ·cast, Memᴰ·append-right}
-use lib.ListN.{length, getD, take, drop, take-append-drop}
+use mathlib.Core.List.{List, [], _∷_, List·Memᴰ, List·Memᴰ·head, List·Memᴰ·tail, Memᴰ·cast}
+use lib.ListN.{length, getD, take}
 use lib.Seq.{drop-cons, take-take}
 use lib.Dec.{eqb}
 use borrow.Author.Tests.{eqb-true, eq-eqb}
 use Rattle.sas.specs.Task.{Fact, Assignment, State, Action, idle}
 use Rattle.sas.specs.Plan.{holds, satisfies, apply, run, written, may-write}
-use Rattle.sas.specs.between.WellFormed.{Action-formed}
+use Rattle.sas.specs.between.WellFormed.{Plain}
 use Rattle.sas.proofs.FactLaws.{holds-value, satisfies-nothing, satisfies-more}
-use Rattle.sas.proofs.WellFormedLaws.{Actions-formed}
-use Rattle.sas.proofs.ActionLaws.{result-assigned, apply-length, apply-other, apply-holds, written-known}
+use Rattle.sas.proofs.WellFormedLaws.{plain-known, each-behind}
+use Rattle.sas.proofs.ActionLaws.{result-assigned, apply-length, apply-other, apply-holds}
 use Rattle.sas.proofs.RunLaws.{run-end, run-first}
 use Rattle.reduction.specs.Reduction.{Reduction}
 use Rattle.reduction.specs.Landmark.{step}
@@ -37,14 +37,9 @@ pub run-length : {t : State} (s : State) (p : List Action) → run s p ≡ some 
 run-length {t} s [] h = ap length (sym (run-end s t h))
 run-length s (a ∷ p) h = let (u, first, rest) = run-first s a p h in run-length u p rest ∙ ap length (result-assigned s a first) ∙ apply-length s a
 
-module _ {domains : List ℕ} {p : List Action} (formed : Actions-formed domains p) (i : ℕ) where
-  -- where a plan's actions are over the domains, so are those from an index on
-  pub formed-behind : Actions-formed domains (drop i p)
-  formed-behind a m = formed a (rw take-append-drop at (Memᴰ·append-right (take i p) m))
-
-  -- and so is the one at the index
-  pub step-formed : i < length p → Action-formed domains (step p i)
-  step-formed inside = formed-behind (step p i) (rw (drop-cons p i idle inside) (List·Memᴰ·head refl))
+-- what holds of each action of a plan holds of the one at an index
+pub each-step : {P : Action → Type 0} {p : List Action} → ((a : Action) → List·Memᴰ a p → P a) → (i : ℕ) → i < length p → P (step p i)
+each-step {p = p} each i inside = each-behind each i (step p i) (rw (drop-cons p i idle inside) (List·Memᴰ·head refl))
 
 -- of one variable one fact holds
 one-value : (t : State) (f g : Fact) → f .variable ≡ g .variable → holds t f ≡ true → holds t g ≡ true → f ≡ g
@@ -61,13 +56,13 @@ untouched-held a f t h = rw (apply-length t a, apply-other t a (f .variable) oth
     other g w same = true≢false (sym (found (λ g. eqb (g .variable) (f .variable)) w (eq-eqb _ _ same)) ∙ h)
 
 -- whether a fact holds after an action, by whether it held before
-pub apply-held : {domains : List ℕ} (a : Action) (f : Fact) (t : State) → Action-formed domains a → length t ≡ length domains
+pub apply-held : {domains : List ℕ} (a : Action) (f : Fact) (t : State) → Plain domains a → length t ≡ length domains
     → holds (apply t a) f ≡ held-after a f (holds t f)
 unfolding held-after touches
-apply-held {domains} a f t formed fits = by-case (has (written a) f) (touches a f) refl refl
+apply-held {domains} a f t plain fits = by-case (has (written a) f) (touches a f) refl refl
   where
     written-holds : (g : Fact) → may-write a g → holds (apply t a) g ≡ true
-    written-holds g w = apply-holds a formed t w (omega (arith, written-known a formed w .variable))
+    written-holds g w = apply-holds a t plain w (omega (arith, plain-known plain w .variable))
 
     set-otherwise : (b : Bool) → has (written a) f ≡ false → touches a f ≡ true → holds (apply t a) f ≡ b → b ≡ false
     set-otherwise false e h k = refl

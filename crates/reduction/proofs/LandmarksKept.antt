@@ -26,7 +26,7 @@ use Rattle.reduction.proofs.ValidLaws.{valid-end}
 use Rattle.reduction.proofs.ReductionLaws.{whole-valid, count-whole, strike-count, kept-inside}
 use Rattle.reduction.proofs.WinsLaws.{full-whole}
 use Rattle.reduction.proofs.BeforeLaws.{before-first, rest-valid, Passes, before-next}
-use Rattle.reduction.proofs.HeldLaws.{step-formed}
+use Rattle.reduction.proofs.HeldLaws.{each-step}
 use Rattle.reduction.proofs.FrameLaws.{framed-start, framed-step, framed-end, framed-past, start-other-false, end-needs-goal}
 use Rattle.reduction.proofs.LinkLaws.{either, before-or-at}
 use Rattle.reduction.proofs.LandmarkTheorem.{flagged-just-marked}
@@ -74,7 +74,7 @@ module _ {domains : List ℕ} (s : State) (goal : Assignment) (p : List Action) 
         let up : keeps m y = earlier y is below in
         let (t, reached) = reach y (omega arith) in
         let (g, w, variable, value) : Writes-other (step p y) f = rw (is, framed-step s goal p y below) at (link .other-earlier) in
-        (apply t (step p y), next y t below reached .kept-next up, other-fails (step p y) (step-formed formed y below) t f w variable value)
+        (apply t (step p y), next y t below reached .kept-next up, other-fails (step p y) t f (each-step formed y below) w variable value)
 
     -- it stays false at each step between
     false-next : (z : ℕ) → i ≤ z → z < length p → suc z < j → False-before z → False-before (suc z)

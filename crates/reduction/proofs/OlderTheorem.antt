@@ -10,12 +10,11 @@ use lib.ListN.{length}
 use Rattle.sas.specs.Task.{Fact, Assignment, State, Action}
 use Rattle.sas.specs.Plan.{holds, may-write, needs}
 use Rattle.sas.proofs.WellFormedLaws.{Actions-formed}
-use Rattle.sas.proofs.ActionLaws.{written-known}
 use Rattle.reduction.specs.Landmark.{step, framed, Link, Landmark}
 use Rattle.reduction.specs.Landmark.Marked.{start-marked, end-marked, linked}
 use Rattle.reduction.specs.OlderRule.{Sole-writer, Older-marked}
 use Rattle.reduction.specs.OlderRule.Older-marked.{for-goal, for-step}
-use Rattle.reduction.proofs.HeldLaws.{step-formed}
+use Rattle.reduction.proofs.HeldLaws.{each-step}
 use Rattle.reduction.proofs.FrameLaws.{framed-start, framed-step, framed-end, start-other, goal-end-needs}
 
 module _ {domains : List ℕ} (s : State) (goal : Assignment) (p : List Action) (formed : Actions-formed domains p) (sized : length s ≡ length domains) where
@@ -24,7 +23,7 @@ module _ {domains : List ℕ} (s : State) (goal : Assignment) (p : List Action) 
       → Link (framed s goal p) 0 (suc i) (suc z) f
   sole-link {i} {f} z few unheld sole need =
       let inside : i < length p = omega (arith, sole .before) in
-      let below : f .variable < length s = omega (arith, written-known (step p i) (step-formed formed i inside) (sole .writes) .variable) in
+      let below : f .variable < length s = omega (arith, each-step formed i inside .known f (sole .writes) .variable) in
       record {
         earlier = omega arith;
         later = omega (arith, sole .before);

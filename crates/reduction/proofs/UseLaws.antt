@@ -1,5 +1,5 @@
 -- A step that sets nothing which is needed later and does not hold yet is never kept: every valid list stays valid without it, at no higher price and one step
--- shorter. By one walk along the rest: of two states, where the second holds all that is needed of what the first holds, what is valid from the first is valid
+-- shorter, where its actions are plain. By one walk along the rest: of two states, where the second holds all that is needed of what the first holds, what is valid from the first is valid
 -- from the second. With the bound and the wanted facts, what the search is told is sound. Assumes nothing.
 use Prim.Native.Nat.{ℕ, _+_, _<_}
 use native.Mathlib.Numerals.{add-one}
@@ -14,9 +14,9 @@ use lib.Dec.{eqb}
 use borrow.Author.Tests.{eqb-true, eqb-false, not-true, not-false}
 use Rattle.sas.specs.Task.{Fact, Assignment, State, Action, idle}
 use Rattle.sas.specs.Plan.{holds, applicable, apply, needed, written, may-write, needs}
-use Rattle.sas.specs.between.WellFormed.{Action-formed}
+use Rattle.sas.specs.between.WellFormed.{Plain}
 use Rattle.sas.proofs.FactLaws.{satisfied-holds}
-use Rattle.sas.proofs.WellFormedLaws.{Actions-formed}
+use Rattle.sas.proofs.WellFormedLaws.{Actions-plain, each-behind}
 use Rattle.sas.proofs.ActionLaws.{result-applied, applicable-needed, needed-holds, apply-length, written-or-held}
 use Rattle.sas.proofs.RunLaws.{run-nothing}
 use Rattle.reduction.specs.Reduction.{Reduction, keeps, kept, Valid-for, meets, Before}
@@ -28,7 +28,7 @@ use Rattle.reduction.specs.between.Sound.{Flags-kept, Visited, Cut, Lack
 use Rattle.reduction.specs.between.Cuts.{wanted-held, needed-in, useful, unless-flagged, tests}
 use Rattle.reduction.proofs.ValidLaws.{runs-valid, valid-end}
 use Rattle.reduction.proofs.MemberLaws.{or-neither, found, found-passes, member-has}
-use Rattle.reduction.proofs.HeldLaws.{all-satisfied, run-length, formed-behind, apply-held, held-more}
+use Rattle.reduction.proofs.HeldLaws.{all-satisfied, run-length, apply-held, held-more}
 use Rattle.reduction.proofs.BeforeLaws.{completed-valid}
 use Rattle.reduction.proofs.WinsLaws.{not-lower-through}
 use Rattle.reduction.proofs.MinimalTheorem.{struck-valid, kept-valid, valid-struck, valid-kept}
@@ -49,31 +49,31 @@ unfolding needed-in
 first-needed goal a p f need = rw (member-has need)
 
 -- what is valid from a state is valid from one that supplies what is needed
-supplied-valid : {domains : List ℕ} (goal : Assignment) (p : List Action) (n : Reduction) (t u : State) → Actions-formed domains p → length t ≡ length domains
+supplied-valid : {domains : List ℕ} (goal : Assignment) (p : List Action) (n : Reduction) (t u : State) → Actions-plain domains p → length t ≡ length domains
     → length u ≡ length domains → Supplies goal p t u → Valid-for (meets goal) t p n → Valid-for (meets goal) u p n
 unfolding kept needed-in
-supplied-valid goal [] n t u formed sized other-sized supplies v =
+supplied-valid goal [] n t u plain sized other-sized supplies v =
     record {
       fits = v .fits;
       valid-left =
           runs-valid (meets goal) u u [] (run-nothing u)
           ∙ all-satisfied u goal (λ f m. supplies f (member-has m) (satisfied-holds t (valid-end (meets goal) t (v .valid-left)) m));
     }
-supplied-valid goal (a ∷ p) [] t u formed sized other-sized supplies v = absurd (omega (arith, v .fits))
-supplied-valid goal (a ∷ p) (false ∷ n) t u formed sized other-sized supplies v =
+supplied-valid goal (a ∷ p) [] t u plain sized other-sized supplies v = absurd (omega (arith, v .fits))
+supplied-valid goal (a ∷ p) (false ∷ n) t u plain sized other-sized supplies v =
     struck-valid (meets goal) u a p
-    (supplied-valid goal p n t u (λ b m. formed b (List·Memᴰ·tail m)) sized other-sized (λ f need. supplies f (later-needed goal a p f need))
+    (supplied-valid goal p n t u (λ b m. plain b (List·Memᴰ·tail m)) sized other-sized (λ f need. supplies f (later-needed goal a p f need))
     (valid-struck (meets goal) t a p v))
-supplied-valid goal (a ∷ p) (true ∷ n) t u formed sized other-sized supplies v =
+supplied-valid goal (a ∷ p) (true ∷ n) t u plain sized other-sized supplies v =
     let (able, rest) = valid-kept (meets goal) t a p v in
-    let here : Action-formed _ a = formed a (List·Memᴰ·head refl) in
+    let here : Plain _ a = plain a (List·Memᴰ·head refl) in
     let carried : Supplies goal p (apply t a) (apply u a) =
     λ f need h.
     apply-held a f u here other-sized
     ∙ held-more a f (supplies f (later-needed goal a p f need)) (sym (apply-held a f t here sized) ∙ h) in
     kept-valid (meets goal) u a p
     (applicable-needed u a ∙ all-satisfied u (needed a) (λ f need. supplies f (first-needed goal a p f need) (needed-holds t a able need)))
-    (supplied-valid goal p n (apply t a) (apply u a) (λ b m. formed b (List·Memᴰ·tail m)) (apply-length t a ∙ sized) (apply-length u a ∙ other-sized) carried
+    (supplied-valid goal p n (apply t a) (apply u a) (λ b m. plain b (List·Memᴰ·tail m)) (apply-length t a ∙ sized) (apply-length u a ∙ other-sized) carried
     rest)
 
 -- a reduction keeps all that it keeps with one step more struck
@@ -93,9 +93,9 @@ unless-flagged-cut {flags = flags} x cut v inside visited tried barred =
 module _ {s : State} {p : List Action} {flags : Reduction} (goal : Assignment) where
   -- The use. Where a step sets nothing that is needed behind it and does not hold yet, every valid reduction that keeps it is valid without it, and that is to
   -- strike the step, which has no chance any more.
-  pub use-cut : (domains : List ℕ) → Actions-formed domains p → length s ≡ length domains → Cut (meets goal) s p flags true (useful goal p)
+  pub use-cut : (domains : List ℕ) → Actions-plain domains p → length s ≡ length domains → Cut (meets goal) s p flags true (useful goal p)
   unfolding useful
-  use-cut domains formed sized v inside visited tried barred r follows =
+  use-cut domains plain sized v inside visited tried barred r follows =
       not-lower-through (kept r p) (kept without p) (kept (v .best) p)
       (contains-not-lower p r without (follows .valid .fits) (length-set r (v .index) false ∙ follows .valid .fits) (strikes-more r (v .index) fewer))
       (tried refl without
@@ -134,7 +134,7 @@ module _ {s : State} {p : List Action} {flags : Reduction} (goal : Assignment) w
       rest : Valid-for (meets goal) (v .state) later (drop (v .index + 1) r)
       rest =
           let long : length (v .state) ≡ length domains = run-length s _ (visited .reached) ∙ sized in
-          supplied-valid goal later (drop (v .index + 1) r) (apply (v .state) here) (v .state) (formed-behind formed (v .index + 1))
+          supplied-valid goal later (drop (v .index + 1) r) (apply (v .state) here) (v .state) (each-behind plain (v .index + 1))
           (apply-length (v .state) here ∙ long) long supplies (kept-there .1)
 
       without-valid : Valid-for (meets goal) s p without
@@ -158,11 +158,11 @@ module _ {s : State} {p : List Action} {flags : Reduction} (goal : Assignment) w
             record { fact = f; wanted-behind = want; unheld = not-true _ unheld }
 
     -- so what the search is told is sound
-    pub tests-sound : {domains : List ℕ} → length flags ≡ length p → Actions-formed domains p → length s ≡ length domains → Sound (tests goal p flags) s p
-    tests-sound {domains} fits formed sized =
+    pub tests-sound : {domains : List ℕ} → length flags ≡ length p → Actions-plain domains p → length s ≡ length domains → Sound (tests goal p flags) s p
+    tests-sound {domains} fits plain sized =
         record {
           fits = fits;
           flagged = flagged;
           strikes = wanted-held-cut;
-          keeps = unless-flagged-cut (both (bound p) (useful goal p)) (both-cut (bound p) (useful goal p) (bound-cut flagged) (use-cut domains formed sized));
+          keeps = unless-flagged-cut (both (bound p) (useful goal p)) (both-cut (bound p) (useful goal p) (bound-cut flagged) (use-cut domains plain sized));
         }

@@ -1,7 +1,7 @@
 -- What the service tells of a list is what the program prints for it: the claim and the report of the reduction, or the line of the refusal. Assumes nothing.
 use Prim.Native.Nat.{ℕ, _+_, _≤_}
 use native.Mathlib.Omega.{arith}
-use mathlib.Core.Path.{_≡_, sym, _∙_, ap}
+use mathlib.Core.Path.{_≡_, sym, _∙_, ap, subst}
 use mathlib.Core.Option.{none, some}
 use mathlib.Core.List.{List, _++_}
 use lib.ListN.{length, length-map, length-append}
@@ -43,7 +43,7 @@ module _ (w l before : List ℕ) (r : Licensed) (after : List ℕ) (room : lengt
     passes = nothing-fires _ w l _ before (r .told) after (licenses .answers) kept is
 
     readable : Readable w l
-    readable = passed-readable (room-checks (length l) (length before)) w l passes
+    readable = passed-readable _ (room-checks (length l) (length before)) w l passes
 
     pub reports-licensed : Reports w l (licensed-of w l) (r .told) kept
     reports-licensed =
@@ -59,7 +59,8 @@ module _ (w l before : List ℕ) (r : Licensed) (after : List ℕ) (room : lengt
         let claims : Puts-lines 1 (claim-line (claim-of w l)) 0 out between middle = rw claimed at first in
         let long = length-append (claim-line (claim-of w l)) (report w l (licensed-of w l)) in
         let fits : length (claim-line (claim-of w l) ++ report w l (licensed-of w l)) ≤ licence-room = omega (arith, long, claims .short, rest .short, readable .few) in
-        rw (licensed, ← room, passes) (prints-both (claims .prints) (rest .prints), fits)
+        let here : answer (reduction-checks w l most-steps) ≡ none = subst (λ n. answer (reduction-checks w l n) ≡ none) room passes in
+        rw (licensed, here) (prints-both (claims .prints) (rest .prints), fits)
 
   -- or refused
   pub licensed-refusal : (refusal : Refusal) → r .told .answer ≡ Refused refusal → {out out′ : List ℕ} {end : ℕ}
@@ -69,4 +70,5 @@ module _ (w l before : List ℕ) (r : Licensed) (after : List ℕ) (room : lengt
   licensed-refusal refusal is prints short =
       let fires : answer (reduction-checks w l (length before)) ≡ some (told-refusal refusal) = sym (licenses .answers .refusal) ∙ ap told-answer is in
       let fits : length (refusal-line (told-refusal refusal)) ≤ licence-room = omega (arith, short) in
-      rw (licensed, ← room, fires) (prints, fits)
+      let here : answer (reduction-checks w l most-steps) ≡ some (told-refusal refusal) = subst (λ n. answer (reduction-checks w l n) ≡ some (told-refusal refusal)) room fires in
+      rw (licensed, here) (prints, fits)

@@ -50,7 +50,7 @@ module _ (w l before : List ℕ) (r : Shortened) (after : List ℕ) (room : leng
 
     readable : Readable w l
     unfolding minimal-checks
-    readable = passed-readable (room-checks (length l) (length before)) w l (first-none (reduction-checks w l (length before)) (unmarked-checks most-unmarked w l) _ passes refl)
+    readable = passed-readable _ (room-checks (length l) (length before)) w l (first-none (reduction-checks w l (length before)) (unmarked-checks most-unmarked w l) _ passes refl)
 
     pub reports-minimal : Reports w l (minimal-of w l) r kept
     reports-minimal =

@@ -10,9 +10,9 @@ use mathlib.Core.List.{List, List·Memᴰ·not-nil}
 use lib.ListN.{length, getD}
 use Rattle.sas.specs.Task.{Fact, State, Action, idle}
 use Rattle.sas.specs.Plan.{holds, satisfies, applicable, apply, result, written, needed, may-write, needs}
-use Rattle.sas.specs.between.WellFormed.{Known, Action-formed}
+use Rattle.sas.specs.between.WellFormed.{Known, Agreeing, Action-formed, Plain}
 use Rattle.sas.proofs.FactLaws.{holds-variable, holds-value, satisfied-holds}
-use Rattle.sas.proofs.WellFormedLaws.{rising-known}
+use Rattle.sas.proofs.WellFormedLaws.{rising-known, plain-agrees}
 use Rattle.sas.proofs.AssignLaws.{assign-length, assign-other, assigned-holds, assigned-or-held}
 
 pub result-applied : (s : State) (a : Action) → applicable s a ≡ true → result s a ≡ some (apply s a)
@@ -71,15 +71,20 @@ pub apply-other : (s : State) (a : Action) (v : ℕ) → ((f : Fact) → may-wri
 unfolding apply written
 apply-other s a v h = assign-other s (a .effect) v h
 
-module _ {domains : List ℕ} {f : Fact} (a : Action) (formed : Action-formed domains a) where
-  -- what an action over the domains writes holds after it
-  pub apply-holds : (s : State) → may-write a f → f .variable < length s → holds (apply s a) f ≡ true
+module _ {f : Fact} (a : Action) (s : State) where
+  -- what agrees and is written holds after the action
+  agreed-holds : Agreeing (written a) → may-write a f → f .variable < length s → holds (apply s a) f ≡ true
   unfolding apply written
-  apply-holds s w below = assigned-holds s (formed .effect) w below
+  agreed-holds agree w below = assigned-holds s agree w below
 
-  -- so that another value of the same variable fails
-  pub other-fails : (s : State) (g : Fact) → may-write a f → f .variable ≡ g .variable → f .value ≢ g .value → holds (apply s a) g ≡ false
-  other-fails s g w same other = by-case (holds (apply s a) g) refl
+  -- so all that a plain action may write does
+  pub apply-holds : {domains : List ℕ} → Plain domains a → may-write a f → f .variable < length s → holds (apply s a) f ≡ true
+  apply-holds plain = agreed-holds (plain-agrees plain)
+
+  -- and where an action over the domains writes another value of a fact's variable, the fact fails after it
+  pub other-fails : {domains : List ℕ} (g : Fact) → Action-formed domains a → may-write a f → f .variable ≡ g .variable → f .value ≢ g .value
+      → holds (apply s a) g ≡ false
+  other-fails g formed w same other = by-case (holds (apply s a) g) refl
     where
       t : State
       t = apply s a
@@ -88,17 +93,13 @@ module _ {domains : List ℕ} {f : Fact} (a : Action) (formed : Action-formed do
       by-case false e = refl
       by-case true e =
           let below : f .variable < length s = rw (same, ← apply-length s a) (holds-variable t g e) in
-          let here : getD t (f .variable) 0 ≡ f .value = holds-value t f (apply-holds s w below) in
+          let here : getD t (f .variable) 0 ≡ f .value = holds-value t f (agreed-holds (formed .agreeing) w below) in
           absurd (other (sym here ∙ ap (λ v. getD t v 0) same ∙ holds-value t g e))
 
-  -- and is known, as is what it needs
-  pub written-known : may-write a f → Known domains f
-  unfolding written
-  written-known w = rising-known (formed .effect) w
-
-  pub needed-known : needs a f → Known domains f
-  unfolding needed
-  needed-known n = rising-known (formed .precondition) n
+-- what an action over the domains needs is known; that what it may write is so is its `known`
+pub needed-known : {domains : List ℕ} {f : Fact} (a : Action) → Action-formed domains a → needs a f → Known domains f
+unfolding needed
+needed-known a formed n = rising-known (formed .precondition) n
 
 module _ {t : State} (s : State) (a : Action) (applied : result s a ≡ some t) where
   pub written-or-held : (f : Fact) → holds t f ≡ true → may-write a f ⊎ (holds s f ≡ true)

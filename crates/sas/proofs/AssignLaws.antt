@@ -1,21 +1,18 @@
 -- What `assign` does to a state: it keeps the length and every variable that it does not name, a fact that holds after it was assigned or held
--- before, and where variables rise strictly each fact assigned holds after it. By list induction, one `set` at a time. Assumes nothing.
-use Prim.Native.Nat.{ℕ, suc, _<_}
-use native.Mathlib.Omega.{arith}
+-- before, and where its facts agree each fact assigned holds after it. By list induction, one `set` at a time. Assumes nothing.
+use Prim.Native.Nat.{ℕ, _<_}
 use mathlib.Core.Path.{_≡_, refl, sym, _∙_, ap}
 use mathlib.Core.Logic.{_⊎_, inl, inr, ⊎-elim, _≢_}
 use mathlib.Core.Bool.{Bool, true, false}
-use mathlib.Core.List.{List, [], _∷_, List·Memᴰ, List·Memᴰ·head, List·Memᴰ·tail}
+use mathlib.Core.List.{[], _∷_, List·Memᴰ, List·Memᴰ·head, List·Memᴰ·tail}
 use lib.ListN.{length, getD, set, length-set}
 use lib.Seq.{getD-set-same, getD-set-other}
 use lib.Dec.{eqb}
 use borrow.Author.Tests.{eqb-true, eqb-false}
 use Rattle.sas.specs.Task.{Fact, Assignment, State}
 use Rattle.sas.specs.Plan.{holds, assign}
-use Rattle.sas.specs.between.WellFormed.{Rising}
-use Rattle.sas.specs.between.WellFormed.Rising.{fact}
+use Rattle.sas.specs.between.WellFormed.{Agreeing}
 use Rattle.sas.proofs.FactLaws.{holds-variable, holds-value, holds-there}
-use Rattle.sas.proofs.WellFormedLaws.{rising-above}
 
 pub assign-length : (s : State) (e : Assignment) → length (assign s e) ≡ length s
 unfolding assign
@@ -57,20 +54,35 @@ assign-other s (g ∷ e) v h =
     assign-other (set s (g .variable) (g .value)) e v (λ f m. h f (List·Memᴰ·tail m))
     ∙ getD-set-other s (g .variable) v (g .value) 0 (λ same. h g (List·Memᴰ·head refl) (sym same))
 
--- a variable below all those that an assignment names keeps the value that it was set to just before
-set-then-kept : {domains : List ℕ} {e : Assignment} (s : State) (g : Fact) → g .variable < length s → Rising domains (suc (g .variable)) e
-    → holds (assign (set s (g .variable) (g .value)) e) g ≡ true
-set-then-kept {e = e} s g below rest = holds-there (assign t e) g (simp (assign-length, length-set) below) (kept ∙ getD-set-same s (g .variable) (g .value) 0 below)
-  where
-    t : State
-    t = set s (g .variable) (g .value)
-
-    kept : getD (assign t e) (g .variable) 0 ≡ getD t (g .variable) 0
-    kept = assign-other t e (g .variable) (λ f m same. omega (arith, rising-above rest m))
-
--- where variables rise, each fact assigned holds after the assignment
-pub assigned-holds : {domains : List ℕ} {from : ℕ} {e : Assignment} {f : Fact} (s : State) → Rising domains from e → List·Memᴰ f e → f .variable < length s
+-- a fact that holds stays so under facts that give its variable no other value
+stays-held : (s : State) (e : Assignment) (f : Fact) → holds s f ≡ true → ((g : Fact) → List·Memᴰ g e → g .variable ≡ f .variable → g .value ≡ f .value)
     → holds (assign s e) f ≡ true
 unfolding assign
-assigned-holds s (fact {f = g} known above rest) (List·Memᴰ·head same) below = rw same (set-then-kept s g (rw same at below) rest)
-assigned-holds s (fact {f = g} known above rest) (List·Memᴰ·tail later) below = assigned-holds (set s (g .variable) (g .value)) rest later (simp length-set below)
+stays-held s [] f h agree = h
+stays-held s (g ∷ e) f h agree = stays-held (set s (g .variable) (g .value)) e f (by-case (eqb (f .variable) (g .variable)) refl) (λ k m. agree k (List·Memᴰ·tail m))
+  where
+    below : f .variable < length s
+    below = holds-variable s f h
+
+    sized : f .variable < length (set s (g .variable) (g .value))
+    sized = rw length-set below
+
+    by-case : (b : Bool) → eqb (f .variable) (g .variable) ≡ b → holds (set s (g .variable) (g .value)) f ≡ true
+    by-case true e =
+        let same : f .variable ≡ g .variable = eqb-true _ _ e in
+        holds-there _ f sized
+        (ap (λ v. getD (set s (g .variable) (g .value)) v 0) same
+        ∙ getD-set-same s (g .variable) (g .value) 0 (rw same at below)
+        ∙ agree g (List·Memᴰ·head refl) (sym same))
+    by-case false e = holds-there _ f sized (getD-set-other s (g .variable) (f .variable) (g .value) 0 (eqb-false _ _ e) ∙ holds-value s f h)
+
+-- where facts agree, each fact assigned holds after the assignment
+pub assigned-holds : {e : Assignment} {f : Fact} (s : State) → Agreeing e → List·Memᴰ f e → f .variable < length s → holds (assign s e) f ≡ true
+unfolding assign
+assigned-holds {f = f} s agree (List·Memᴰ·head {x = g} {xs = e} same) below =
+    rw same
+    (stays-held (set s (g .variable) (g .value)) e g
+    (holds-there _ g (rw length-set (rw same at below)) (getD-set-same s (g .variable) (g .value) 0 (rw same at below)))
+    (λ k m. agree k g (List·Memᴰ·tail m) (List·Memᴰ·head refl)))
+assigned-holds s agree (List·Memᴰ·tail {x = g} later) below =
+    assigned-holds (set s (g .variable) (g .value)) (λ h k m n. agree h k (List·Memᴰ·tail m) (List·Memᴰ·tail n)) later (simp length-set below)

@@ -42,7 +42,7 @@ use Rattle.search.specs.between.Told.{Tells, Chooses, Lent, Lent-rows, B
 use Rattle.search.specs.between.Unpacked.{Unpacks}
 use Rattle.search.proofs.SoFarLaws.{tally-told}
 use Rattle.search.proofs.UnpackLaws.{unpacked-same}
-use Rattle.search.proofs.TurnsLaws.{all-formed, starts-sized, flags-fit, Comes-to, comes-to, Both-told}
+use Rattle.search.proofs.TurnsLaws.{all-plain, starts-sized, flags-fit, Comes-to, comes-to, Both-told}
 
 -- the choices that keep all unflagged steps
 module _ (count : ℕ) (few : count ≤ most-choices) where
@@ -96,35 +96,35 @@ module _ (w l : List ℕ) (flags : Reduction) (lent : Lent w l flags) where
   unfolding open-before
   found-chosen rows kept whole-plan after begins lodged both =
       let first : Visit = first-visit (tests (goal w) (steps w l) flags) (initial w) (steps w l) in
-      let course = course-begins (goal w) (initial w) (steps w l) flags (domains w) (all-formed w l flags lent) (starts-sized w l flags lent) (lent .valid) (lent .flagged)
+      let course = course-begins (goal w) (initial w) (steps w l) flags (domains w) (all-plain w l flags lent) (starts-sized w l flags lent) (lent .valid) (lent .flagged)
       (flags-fit w l flags lent) in
       let comes : Comes-to w l flags lent first 0 = comes-to w l flags lent first 0 (omega arith) refl course in
       let whole-steps : whole (steps w l) ≡ whole l = rw length-map in
       rw (
         ← search-finds (tests (goal w) (steps w l) flags) (initial w) (steps w l)
-            (tests-sound (goal w) (lent .flagged) (flags-fit w l flags lent) (all-formed w l flags lent) (starts-sized w l flags lent)),
+            (tests-sound (goal w) (lent .flagged) (flags-fit w l flags lent) (all-plain w l flags lent) (starts-sized w l flags lent)),
         search-turns,
         comes .turned,
       )
       (both .tells w l flags rows (comes .at) (comes .choice) (comes .course)
       (rw (comes .so-far, rows .filled)
-      (start-row-writes w l flags (rows .wanted) (rows .needed) (lent .readable) (lent .few) flags (comes .at .index) (comes .next)
+      (start-row-writes w l flags (rows .wanted) (rows .useless) (lent .readable) (all-plain w l flags lent) (lent .few) flags (comes .at .index) (comes .next)
       (λ k below. comes .next .passed k (omega arith) below)))
       (rw (comes .so-far) begins) (rw (comes .best, whole-steps) lodged))
 
-pub begins : (w l : List ℕ) (flags : Reduction) (wanted needed : List ℕ) → Told-behind w l flags wanted needed → (count : ℕ) (costs cells : List ℕ)
-    → Rowed w l flags wanted needed (replicate most-choices 0) (replicate (most-rows * row-bytes) 0) count costs cells
+pub begins : (w l : List ℕ) (flags : Reduction) (wanted useless : List ℕ) → Told-behind w l flags wanted useless → (count : ℕ) (costs cells : List ℕ)
+    → Rowed w l flags wanted useless (replicate most-choices 0) (replicate (most-rows * row-bytes) 0) count costs cells
     → (start state : List ℕ) → start ≡ packed-start (in-array (initial w)) → state ≡ written-over cells (struck-row 0) start
     → (kept whole-plan after : Chosen) → kept .tally ≡ tallied w l flags → kept .bits ≡ 1
     → whole-plan .bits ≡ 2 ^ (count + 1) - 1 → Both-told (take count costs) cells 0 state kept whole-plan after → Begins w l flags (whole-plan .tally) (after .bits)
-begins w l flags wanted needed behind count costs cells rowed start state starts writes kept whole-plan after counts one ones both =
+begins w l flags wanted useless behind count costs cells rowed start state starts writes kept whole-plan after counts one ones both =
     record {
       found = λ lent lodged.
           let rows : Lent-rows w l flags (take count costs) cells =
           record {
             lent = lent;
             wanted = wanted;
-            needed = needed;
+            useless = useless;
             behind = behind;
             filled = rowed .filled;
             priced = rw (rowed .counted, rowed .priced);
@@ -134,15 +134,15 @@ begins w l flags wanted needed behind count costs cells rowed start state starts
     }
 
 -- the costs of the unflagged steps are as many
-pub costs-counted : (w l : List ℕ) (flags : Reduction) (wanted needed : List ℕ) (count : ℕ) (needs₀ costs needs : List ℕ)
-    → Rowed w l flags wanted needed (replicate most-choices 0) needs₀ count costs needs → count ≤ most-choices → length (take count costs) ≡ count
-costs-counted w l flags wanted needed count needs₀ costs needs rowed few =
+pub costs-counted : (w l : List ℕ) (flags : Reduction) (wanted useless : List ℕ) (count : ℕ) (needs₀ costs needs : List ℕ)
+    → Rowed w l flags wanted useless (replicate most-choices 0) needs₀ count costs needs → count ≤ most-choices → length (take count costs) ≡ count
+costs-counted w l flags wanted useless count needs₀ costs needs rowed few =
     length-take-le count costs (rw (rowed .priced, costs-long w l flags (replicate most-choices 0) (length l), length-replicate {A = ℕ} most-choices 0) few)
 
 -- too many unflagged steps are not lent
-pub too-many : (w l : List ℕ) (flags : Reduction) (lodged : Tally) (wanted needed : List ℕ) (count bits : ℕ) (costs₀ needs₀ costs needs : List ℕ)
-    → Rowed w l flags wanted needed costs₀ needs₀ count costs needs → most-choices < count → Begins w l flags lodged bits
-too-many w l flags lodged wanted needed count bits costs₀ needs₀ costs needs rowed many =
+pub too-many : (w l : List ℕ) (flags : Reduction) (lodged : Tally) (wanted useless : List ℕ) (count bits : ℕ) (costs₀ needs₀ costs needs : List ℕ)
+    → Rowed w l flags wanted useless costs₀ needs₀ count costs needs → most-choices < count → Begins w l flags lodged bits
+too-many w l flags lodged wanted useless count bits costs₀ needs₀ costs needs rowed many =
     record { found = λ lent told. absurd (omega (arith, rowed .counted, lent .few)) }
 
 -- what is unpacked of the choices found

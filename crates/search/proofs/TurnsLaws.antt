@@ -14,7 +14,8 @@ use lib.Bits.{bitOr}
 use borrow.Author.Tests.{ltb-true, ltb-false, eqb-true, eqb-false, not-true, not-false}
 use Rattle.sas.specs.Task.{idle}
 use Rattle.sas.specs.Plan.{applicable}
-use Rattle.sas.proofs.WellFormedLaws.{Actions-formed}
+use Rattle.sas.specs.between.WellFormed.{Plain}
+use Rattle.sas.proofs.WellFormedLaws.{Actions-plain}
 use Rattle.reduction.specs.Reduction.{Reduction}
 use Rattle.reduction.specs.Landmark.{step}
 use Rattle.reduction.specs.between.Order.{Contains}
@@ -25,12 +26,13 @@ use Rattle.reduction.specs.between.Course.{On-course}
 use Rattle.reduction.proofs.TurnLaws.{turns, strike-met, strike-not-lower, keep-end, strike-barred, strike-goes-on, keep-stuck, keep-barred, keep-goes-on}
 use Rattle.reduction.proofs.CourseLaws.{Moves-to, moved, course-handed, course-ends, course-struck, course-done, course-runs}
 use Rattle.reduction.proofs.ReductionLaws.{alike-behind}
+use Rattle.reduction.proofs.HeldLaws.{each-step}
 use Rattle.tally.specs.Tally.{one-more, comparison}
 use Rattle.sheet.specs.Layout.{cost-word}
 use Rattle.sheet.specs.Decode.{domains, initial, goal, action, task}
 use Rattle.sheet.proofs.Accepted.{accepted-well-formed}
 use Rattle.plan.specs.Valid.{steps}
-use Rattle.plan.proofs.PlanLaws.{steps-formed}
+use Rattle.plan.proofs.PlanLaws.{steps-at, steps-plain}
 use Rattle.cuts.proofs.BitTheorem.{wanted-told, useful-told}
 use Rattle.service.specs.between.Tallied.{is-less}
 use Rattle.choice.specs.between.Chosen.{most-choices, open-before}
@@ -45,8 +47,8 @@ use Rattle.search.proofs.SoFarLaws.{chooses-more, chooses-lower}
 
 -- what the search's laws ask of a list that is lent
 module _ (w l : List ℕ) (flags : Reduction) (lent : Lent w l flags) where
-  pub all-formed : Actions-formed (domains w) (steps w l)
-  all-formed = steps-formed w l (lent .readable .accepted) (lent .readable .known)
+  pub all-plain : Actions-plain (domains w) (steps w l)
+  all-plain = steps-plain w l (lent .readable .accepted) (lent .readable .known)
 
   pub starts-sized : length (initial w) ≡ length (domains w)
   unfolding task
@@ -81,7 +83,7 @@ module _ (w l : List ℕ) (flags : Reduction) (lent : Lent w l flags) where
       to-next (j, next) =
           let end : v .index + (length l - v .index) ≡ length l = omega arith in
           let moves : Moves-to (goal w) (initial w) (steps w l) flags v j =
-          course-runs (goal w) (initial w) (steps w l) flags (domains w) all-formed starts-sized (lent .valid) (lent .flagged) flags-fit j (next .later)
+          course-runs (goal w) (initial w) (steps w l) flags (domains w) all-plain starts-sized (lent .valid) (lent .flagged) flags-fit j (next .later)
           (rw (steps-long, ← end) (next .within)) (next .passed) course in
           record {
             at = moved v j (moves .state);
@@ -153,22 +155,25 @@ module _ (w l : List ℕ) (flags : Reduction) (costs needs : List ℕ) (rows : L
         (omega (arith, open-unflagged flags (v .index) down, open-rises flags (suc (v .index)) (length l) inside))
         ∙ cost-tells w l flags (lent .few) (v .index) inside down)
 
+    plain-here : Plain (domains w) (action w (getD l (v .index) 0))
+    plain-here = rw (steps-at w l (v .index) inside) at (each-step (all-plain w l flags lent) (v .index) inside-steps)
+
     strike-tested : has-all needs (strike-row (d + 1)) state ≡ wanted-held (goal w) (steps w l) flags v
     strike-tested =
         rw (rows .filled, at .numbered)
-        (strike-row-tells w l flags (rows .wanted) (rows .needed) (lent .readable) (lent .few) v course inside down state seen
-        ∙ wanted-told w l flags (rows .wanted) (rows .needed) (lent .readable) (rows .behind) v inside down)
+        (strike-row-tells w l flags (rows .wanted) (rows .useless) (lent .readable) (all-plain w l flags lent) (lent .few) v course inside down state seen
+        ∙ wanted-told w l flags (rows .wanted) (rows .useless) (lent .readable) (rows .behind) v inside down plain-here)
 
     keep-tested : has-all needs (keep-row (d + 1)) state ≡ applicable (v .state) (step (steps w l) (v .index))
     keep-tested =
         rw (rows .filled, at .numbered)
-        (keep-row-tells w l flags (rows .wanted) (rows .needed) (lent .readable) (lent .few) v course inside down state seen)
+        (keep-row-tells w l flags (rows .wanted) (rows .useless) (lent .readable) (all-plain w l flags lent) (lent .few) v course inside down state seen)
 
     use-tested : has-all needs (use-row (d + 1)) state ≡ not (useful (goal w) (steps w l) v)
     use-tested =
         rw (rows .filled, at .numbered)
-        (use-row-tells w l flags (rows .wanted) (rows .needed) (lent .readable) (lent .few) v course inside down state seen
-        ∙ useful-told w l flags (rows .wanted) (rows .needed) (lent .readable) (rows .behind) v inside down)
+        (use-row-tells w l flags (rows .wanted) (rows .useless) (lent .readable) (all-plain w l flags lent) (lent .few) v course inside down state seen
+        ∙ useful-told w l flags (rows .wanted) (rows .useless) (lent .readable) (rows .behind) v inside down plain-here)
 
     -- a reduction that decides as the visit did before its index keeps the flagged steps behind it
     module _ (n : Reduction) (contains : Contains n flags) (alike : take (v .index) n ≡ take (v .index) (v .so-far)) (j : ℕ)
@@ -182,12 +187,12 @@ module _ (w l : List ℕ) (flags : Reduction) (costs needs : List ℕ) (rows : L
       struck-written : getD n (v .index) false ≡ false → Tells-state w l n j (written-over needs (struck-row (d + 1)) state)
       struck-written out =
           rw (rows .filled, at .numbered)
-          (struck-row-writes w l flags (rows .wanted) (rows .needed) (lent .readable) (lent .few) (v .index) inside down (v .so-far) n j passes keeps-passed alike state seen out)
+          (struck-row-writes w l flags (rows .wanted) (rows .useless) (lent .readable) (all-plain w l flags lent) (lent .few) (v .index) inside down (v .so-far) n j passes keeps-passed alike state seen out)
 
       kept-written : getD n (v .index) false ≡ true → Tells-state w l n j (written-over needs (kept-row (d + 1)) state)
       kept-written up =
           rw (rows .filled, at .numbered)
-          (kept-row-writes w l flags (rows .wanted) (rows .needed) (lent .readable) (lent .few) (v .index) inside down (v .so-far) n j passes keeps-passed alike state seen up)
+          (kept-row-writes w l flags (rows .wanted) (rows .useless) (lent .readable) (all-plain w l flags lent) (lent .few) (v .index) inside down (v .so-far) n j passes keeps-passed alike state seen up)
 
   -- both turns from the next index on, by what the code's turns make at the next unflagged step
   goes-on : (x : Visit) (after-state : List ℕ) (so-far best after : Chosen) → x .index ≡ v .index + 1 → v .index < length l
@@ -212,7 +217,7 @@ module _ (costs needs : List ℕ) (d : ℕ) (state : List ℕ) (k best : Chosen)
         tells = λ w l flags rows v at course seen tells told.
             let lent : Lent w l flags = rows .lent in
             then-keeps .tells w l flags rows (handed v _) (record { within = at .within; unflagged = at .unflagged; numbered = at .numbered })
-            (course-handed (goal w) (initial w) (steps w l) flags (domains w) (all-formed w l flags lent) (starts-sized w l flags lent) (lent .valid) (lent .flagged)
+            (course-handed (goal w) (initial w) (steps w l) flags (domains w) (all-plain w l flags lent) (starts-sized w l flags lent) (lent .valid) (lent .flagged)
             (flags-fit w l flags lent) _ course)
             seen tells (strikes-first .tells w l flags rows v at course seen tells told);
       }
@@ -244,7 +249,7 @@ module _ (costs needs : List ℕ) (d : ℕ) (state : List ℕ) (k best : Chosen)
           record {
             tells = λ w l flags rows v at course seen tells told.
                 let lent : Lent w l flags = rows .lent in
-                let ends = course-ends (goal w) (initial w) (steps w l) flags (domains w) (all-formed w l flags lent) (starts-sized w l flags lent) (lent .valid)
+                let ends = course-ends (goal w) (initial w) (steps w l) flags (domains w) (all-plain w l flags lent) (starts-sized w l flags lent) (lent .valid)
                 (lent .flagged) (flags-fit w l flags lent)
                 (none-left w l flags costs needs rows v d at course state seen over ∙ sym (steps-long w l flags lent)) course in
                 rw (
@@ -281,7 +286,7 @@ module _ (costs needs : List ℕ) (d : ℕ) (state : List ℕ) (k best : Chosen)
                 let may-be : wanted-held (goal w) (steps w l) flags v ≡ true =
                 sym (strike-tested w l flags costs needs rows v d at course state seen inside) ∙ sym tested-row ∙ e in
                 let lent : Lent w l flags = rows .lent in
-                let on-course = course-struck (goal w) (initial w) (steps w l) flags (domains w) (all-formed w l flags lent) (starts-sized w l flags lent) (lent .valid)
+                let on-course = course-struck (goal w) (initial w) (steps w l) flags (domains w) (all-plain w l flags lent) (starts-sized w l flags lent) (lent .valid)
                 (lent .flagged) (flags-fit w l flags lent) (inside-steps w l flags costs needs rows v d at course state seen inside) (at .unflagged inside) may-be course in
                 rw (
                   next-step w l flags costs needs rows v d at course state seen inside,
@@ -373,7 +378,7 @@ module _ (costs needs : List ℕ) (d : ℕ) (state : List ℕ) (k best : Chosen)
                     let is-useful : useful (goal w) (steps w l) v ≡ true =
                     not-false _ (sym (use-tested w l flags costs needs rows v d at course state seen inside) ∙ sym use-told ∙ of-use) in
                     let lent : Lent w l flags = rows .lent in
-                    let on-course = course-done (goal w) (initial w) (steps w l) flags (domains w) (all-formed w l flags lent) (starts-sized w l flags lent) (lent .valid)
+                    let on-course = course-done (goal w) (initial w) (steps w l) flags (domains w) (all-plain w l flags lent) (starts-sized w l flags lent) (lent .valid)
                     (lent .flagged) (flags-fit w l flags lent) (inside-steps w l flags costs needs rows v d at course state seen inside) can-be course in
                     rw (
                       ahead w l flags rows v at course seen tells told,

@@ -50,10 +50,10 @@ fn choose(words: &[u32], plan: &[u32], flags: &[bool], lodged: Tally) -> u64
 {
     let behind = bits_behind(words, plan, flags);
     let wanted = behind.wanted;
-    let needed = behind.needed;
+    let useless = behind.useless;
     let mut costs = [0u32; MOST];
     let mut rows = [0u8; ROWS * ROW];
-    let count = fill_rows(words, plan, flags, &wanted, &needed, &mut costs, &mut rows);
+    let count = fill_rows(words, plan, flags, &wanted, &useless, &mut costs, &mut rows);
     if MOST < count {
         return 0;
     }

@@ -10,6 +10,7 @@ use Rattle.refusal.specs.Check.{Check, answer, unless-refused}
 use Rattle.sas.specs.Plan.{cost}
 use Rattle.tally.specs.declared.Tally.{Tally}
 use Rattle.tally.specs.Tally.{nothing}
+use Rattle.plan.specs.Limits.{most-steps}
 use Rattle.plan.specs.declared.check.Answer.{Answer}
 use Rattle.plan.specs.Valid.{steps}
 use Rattle.plan.specs.Checked.{lodged-checks, told-answer, told-tally}
@@ -22,7 +23,7 @@ room-checks steps room = record { number = 10; fires = when (ltb room steps) ste
 
 -- the checks of a service that writes a reduction: of the list, with its room besides
 abbrev pub reduction-checks : List ℕ → List ℕ → ℕ → List Check
-reduction-checks w l room = lodged-checks (room-checks (length l) room) w l
+reduction-checks w l room = lodged-checks most-steps (room-checks (length l) room) w l
 
 -- the tally of a reduction: the sum of the prices of its kept steps, and their number
 abbrev pub tally-left : List ℕ → List ℕ → Reduction → Tally

@@ -13,8 +13,9 @@ use Rattle.refusal.specs.declared.place.Place.the-variants.{Nowhere}
 use Rattle.refusal.specs.Place.{first-of}
 use Rattle.sas.specs.Task.{Fact, State, Action}
 use Rattle.sas.specs.Plan.{run}
-use Rattle.sas.specs.between.WellFormed.{Known, Rising, Within, Action-formed, Well-formed}
+use Rattle.sas.specs.between.WellFormed.{Known, Rising, Within, Action-formed, Plain, Well-formed}
 use Rattle.sas.specs.between.WellFormed.Rising.{empty, fact}
+use Rattle.sas.proofs.WellFormedLaws.{plain-formed}
 use Rattle.sas.proofs.RunLaws.{run-within}
 use Rattle.sheet.specs.Limits.{limits}
 use Rattle.sheet.specs.Layout.{word, variables, actions, domain, start, goal-start, goal-end, cost-word, precondition-start, effect-start, effect-end}
@@ -127,12 +128,24 @@ module _ (w : List ℕ) (accepted : Accepted w) where
   unfolding goal
   goal-formed = rising-group w (goal-start w) (goal-end w) (facts-clear .0)
 
+  groups-clear : (a : ℕ) → a < actions w
+      → (group-place w (precondition-start w a) (effect-start w a) ≡ Nowhere) × (group-place w (effect-start w a) (effect-end w a) ≡ Nowhere)
+  unfolding action-place
+  groups-clear a h =
+      or-else-nowhere (group-place w (precondition-start w a) (effect-start w a)) (group-place w (effect-start w a) (effect-end w a))
+      (first-of-nowhere (action-place w) 0 (actions w) (facts-clear .1) a (omega arith) h)
+
+  action-plain : (a : ℕ) → a < actions w → Plain (domains w) (action w a)
+  unfolding action
+  action-plain a h = record { effect = rising-group w _ _ (groups-clear a h .1) }
+
   action-formed : (a : ℕ) → a < actions w → Action-formed (domains w) (action w a)
-  unfolding action action-place
-  action-formed a h =
-      let here : action-place w a ≡ Nowhere = first-of-nowhere (action-place w) 0 (actions w) (facts-clear .1) a (omega arith) h in
-      let (before, after) = or-else-nowhere (group-place w (precondition-start w a) (effect-start w a)) (group-place w (effect-start w a) (effect-end w a)) here in
-      record { precondition = rising-group w _ _ before; effect = rising-group w _ _ after }
+  unfolding action
+  action-formed a h = plain-formed (action w a) (rising-group w _ _ (groups-clear a h .0)) (action-plain a h)
+
+  -- every action of an accepted sheet is plain: this is where theorems about plain actions get it from
+  pub accepted-plain : {a : Action} → List·Memᴰ a (task w .actions) → Plain (domains w) a
+  accepted-plain m = let (k, h, e) = action-numbered w m in rw e (action-plain k h)
 
   pub accepted-well-formed : Well-formed (task w)
   unfolding task

@@ -6,8 +6,10 @@ use Rattle.refusal.specs.declared.place.Place.{Place}
 use Rattle.refusal.specs.declared.place.Place.the-variants.{Nowhere, At}
 use Rattle.refusal.specs.Place.{first-of}
 use Rattle.sheet.specs.declared.group.Group.{Group}
+use Rattle.sheet.specs.declared.effects.Effects.{Effects}
 use Rattle.sheet.specs.Layout.{actions}
-use Rattle.sheet.specs.between.Group.{goal-group, needed-group, written-group}
+use Rattle.sheet.specs.between.Group.{goal-group, needed-group}
+use Rattle.sheet.specs.between.Effects.{effects-of, as-group}
 use Rattle.sheet.specs.Causes.{group-place, action-place, fact-place}
 
 -- the place p is that of the first bad fact of a group
@@ -19,12 +21,12 @@ module _ (w : List ℕ) (a : ℕ) (g : Group) (p : Place) (group : g ≡ needed-
   unfolding action-place
   in-precondition i e = let there : Bad-in w (needed-group w a) p = rw group at found in rw (← there, e)
 
-  pub not-in-precondition : (h : Group) (q : Place) → p ≡ Nowhere → h ≡ written-group w a → Bad-in w h q → q ≡ action-place w a
+  pub not-in-precondition : (e : Effects) (h : Group) (q : Place) → p ≡ Nowhere → e ≡ effects-of w a → h ≡ as-group e → Bad-in w h q → q ≡ action-place w a
   unfolding action-place
-  not-in-precondition h q e group′ found′ =
+  not-in-precondition e h q none effects group′ found′ =
       let there : Bad-in w (needed-group w a) p = rw group at found in
-      let behind : Bad-in w (written-group w a) q = rw group′ at found′ in
-      behind ∙ rw (← there, e)
+      let behind : Bad-in w (as-group (effects-of w a)) q = rw (group′, effects) at found′ in
+      behind ∙ rw (← there, none)
 
 module _ (w : List ℕ) (g : Group) (p : Place) (group : g ≡ goal-group w) (found : Bad-in w g p) where
   pub in-goal : (i : ℕ) → p ≡ At i → At i ≡ fact-place w

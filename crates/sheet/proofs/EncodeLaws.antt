@@ -1,5 +1,4 @@
--- Words among which the parts of a task are laid out mean that task: each part is read where it stands, a group of facts by induction on how its
--- variables rise. Assumes nothing.
+-- Words among which the parts of a task are laid out mean that task: each part is read where it stands, and facts one after another. Assumes nothing.
 use Prim.Native.Nat.{ℕ, _+_, _/_, _%_, _<_}
 use native.Mathlib.Nat.{div-add-mod'}
 use native.Mathlib.Omega.{arith}
@@ -8,8 +7,9 @@ use mathlib.Core.List.{List, [], _∷_, _++_, map, List·Memᴰ, List·Memᴰ·h
 use lib.ListN.{length, getD, length-append, length-map}
 use lib.Seq.{ext-getD}
 use Rattle.sas.specs.Task.{Fact, Assignment, Action, Task}
-use Rattle.sas.specs.between.WellFormed.{Rising, Action-formed, Well-formed}
-use Rattle.sas.specs.between.WellFormed.Rising.{empty, fact}
+use Rattle.sas.specs.between.WellFormed.{Known, Action-formed, Well-formed}
+use Rattle.sas.specs.Plan.{written}
+use Rattle.sas.proofs.WellFormedLaws.{rising-known}
 use Rattle.sheet.specs.Limits.{limits}
 use Rattle.sheet.specs.Layout.{word, variables, actions, offset, goal-start, goal-end, cost-word, precondition-count, precondition-start, effect-start, effect-end}
 use Rattle.sheet.specs.Decode.{table, fact-of, facts, domains, initial, goal, action, task}
@@ -41,17 +41,19 @@ variables-read w l k n told e = ext-getD 0 (table read 0 n) l (table-length read
         table-at read 0 n v v 0 here (omega arith) ∙ told .stands .reads v _ (omega (arith, told .in-place)) (omega arith)
 
 module _ (w : List ℕ) (T : Task) (writable : Encodable T) where
-  facts-read : {from : ℕ} {q : Assignment} (i end : ℕ) → Rising (T .domains) from q → Stands w i (fact-words q) → end ≡ i + length q → facts w i end ≡ q
-  facts-read i end empty s e = facts-over w i end (omega arith)
-  facts-read i end (fact {f = f} {q = q} known above rest) s e =
+  facts-read : (q : Assignment) (i end : ℕ) → ((f : Fact) → List·Memᴰ f q → Known (T .domains) f) → Stands w i (fact-words q) → end ≡ i + length q
+      → facts w i end ≡ q
+  facts-read [] i end known s e = facts-over w i end (omega arith)
+  facts-read (f ∷ q) i end known s e =
+      let this : Known (T .domains) f = known f (List·Memᴰ·head refl) in
       let here : word w i ≡ fact-word f = s .reads 0 i (omega arith) (omega arith) in
-      let small : f .value < limits .values = omega (arith, known .value, writable .values (f .variable) (known .variable)) in
+      let small : f .value < limits .values = omega (arith, this .value, writable .values (f .variable) (this .variable)) in
       let next : Stands w (i + 1) (fact-words q) = stands-second (fact-word f ∷ []) (fact-words q) s (i + 1) refl in
-      facts-next w i end (omega arith) ∙ rw (here, fact-of-word f small, facts-read (i + 1) end rest next (omega arith))
+      facts-next w i end (omega arith) ∙ rw (here, fact-of-word f small, facts-read q (i + 1) end (λ g m. known g (List·Memᴰ·tail m)) next (omega arith))
 
   -- action a is the one whose part pair 3 + a has
   action-read : {from : ℕ} (a : ℕ) (x : Action) → Action-formed (T .domains) x → Part w (3 + a) from (action-part x) → action w a ≡ x
-  unfolding action action-part
+  unfolding action action-part written
   action-read {from} a x formed told =
       let count : ℕ = length (x .precondition) in
       let before : List ℕ = fact-words (x .precondition) in
@@ -64,8 +66,9 @@ module _ (w : List ℕ) (T : Task) (writable : Encodable T) where
       let end : effect-end w a ≡ effect-start w a + length (x .effect) = omega (arith, told .in-place, told .sized, length-append before after) in
       let both : Stands w (precondition-start w a) (before ++ after) = stands-second (x .cost ∷ count ∷ []) (before ++ after) (told .stands) _ begin in
       rw (
-        facts-read (precondition-start w a) (effect-start w a) (formed .precondition) (stands-first before after both) (omega arith),
-        facts-read (effect-start w a) (effect-end w a) (formed .effect) (stands-second before after both _ (omega arith)) end,
+        facts-read (x .precondition) (precondition-start w a) (effect-start w a) (λ f m. rising-known (formed .precondition) m) (stands-first before after both)
+            (omega arith),
+        facts-read (x .effect) (effect-start w a) (effect-end w a) (formed .known) (stands-second before after both _ (omega arith)) end,
         costs,
       )
 
@@ -86,7 +89,7 @@ module _ (w : List ℕ) (T : Task) (writable : Encodable T) where
       rw (
         variables-read w (T .domains) 0 (variables w) first many,
         variables-read w (T .initial) 1 (variables w) second (many ∙ sym (formed .initial .complete)),
-        facts-read (goal-start w) (goal-end w) (formed .goal) begins (omega (arith, third .sized, length-map (T .goal) fact-word)),
+        facts-read (T .goal) (goal-start w) (goal-end w) (λ f m. rising-known (formed .goal) m) begins (omega (arith, third .sized, length-map (T .goal) fact-word)),
         number,
         actions-read 3 0 (T .actions) refl (formed .actions) rest,
       )

@@ -16,7 +16,7 @@ use Rattle.sheet.specs.Causes.{bad-edition, pair-place, Accepted}
 use Rattle.sheet.proofs.TableLaws.{table-length}
 use Rattle.sheet.proofs.CauseLaws.{accepted-clear}
 use Rattle.sheet.proofs.Parts.{Measured, accepted-measured}
-use Rattle.sheet.proofs.Accepted.{domains-length, domain-limits, accepted-well-formed, cost-limit}
+use Rattle.sheet.proofs.Accepted.{domains-length, domain-limits, accepted-well-formed, accepted-plain, cost-limit}
 use Rattle.sheet.proofs.LaidLaws.{Laid, sheet-of-length, sheet-of-laid, laid-sheet}
 use Rattle.sheet.proofs.EncodeLaws.{task-read}
 use Rattle.sheet.proofs.AcceptedLaid.{accepted-laid}
@@ -87,6 +87,7 @@ module _ (w : List ℕ) (accepted : Accepted w) where
       let measured : Measured w = accepted-measured w accepted in
       record {
         well-formed = accepted-well-formed w accepted;
+        plain = λ a m. accepted-plain w accepted m;
         some-variable = rw domains-length (measured .some-variable);
         variables = rw domains-length (measured .variables);
         values = λ v h. domain-limits w accepted v (rw domains-length at h) .1;

@@ -8,8 +8,10 @@ pub mod CauseLaws
 pub mod Parts
 -- TableLaws: the length, the elements, the parts and the members of a table, and the facts among a task's words by the cases of a loop over them.
 pub mod TableLaws
--- GroupLaws: the facts of a group by the cases of a loop along it, and whose facts they are.
+-- GroupLaws: the facts of a group by the cases of a loop along it from either end, and whose facts they are.
 pub mod GroupLaws
+-- EffectLaws: the same of an action's effects, from the first.
+pub mod EffectLaws
 -- Accepted: an accepted task means a well-formed SAS+ task.
 pub mod Accepted
 -- LaidLaws: parts that stand end to end among words, as their pairs say; they do in just the words that `sheet-of` writes.

@@ -167,7 +167,7 @@ module _ (w : List ℕ) (writable : Encodable (task w)) where
   unfolding action-place task action
   action-clear a h =
       let here : Action-formed (domains w) (action w a) = writable .well-formed .actions (action w a) (action-known w a h) in
-      rw (whole-clear w _ _ (here .precondition), whole-clear w _ _ (here .effect))
+      rw (whole-clear w _ _ (here .precondition), whole-clear w _ _ (writable .plain (action w a) (action-known w a h) .effect))
 
   facts-clear : fact-place w ≡ Nowhere
   unfolding fact-place task goal

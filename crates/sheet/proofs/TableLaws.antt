@@ -6,7 +6,7 @@ use native.Mathlib.Omega.{arith}
 use mathlib.Core.Path.{_≡_, refl, _∙_, ap}
 use mathlib.Core.Logic.{⊎-elim}
 use mathlib.Core.Bool.{Bool, true, false}
-use mathlib.Core.List.{List, [], _∷_, List·Memᴰ, List·Memᴰ·head, List·Memᴰ·tail, List·Memᴰ·not-nil, List·Memᴰ·cases-cons, append-nil}
+use mathlib.Core.List.{List, [], _∷_, _++_, List·Memᴰ, List·Memᴰ·head, List·Memᴰ·tail, List·Memᴰ·not-nil, List·Memᴰ·cases-cons, append-nil}
 use lib.ListN.{length, getD, set, take, drop, drop-of-length-le}
 use lib.Seq.{sets, sets-eq}
 use lib.Dec.{eqb}
@@ -28,6 +28,12 @@ module _ {A : Type 0} (f : ℕ → A) where
   unfolding table
   table-length i zero = refl
   table-length i (suc n) = ap suc (table-length (i + 1) n)
+
+  -- one element more behind
+  pub table-last : (i n : ℕ) → table f i (suc n) ≡ table f i n ++ (f (i + n) ∷ [])
+  unfolding table
+  table-last i zero = ap (λ k. f k ∷ []) (omega arith)
+  table-last i (suc n) = let on : i + 1 + n ≡ i + suc n = omega arith in ap (λ l. f i ∷ l) (table-last (i + 1) n ∙ rw on)
 
   -- the element at index k is the value at number j = i + k
   pub table-at : (i n k j : ℕ) (d : A) → k < n → j ≡ i + k → getD (table f i n) k d ≡ f j
@@ -88,6 +94,14 @@ facts-over w i end h = rw (none-left i end h)
 pub facts-next : (w : List ℕ) (i end : ℕ) → i < end → facts w i end ≡ fact-of (word w i) ∷ facts w (i + 1) end
 unfolding facts table
 facts-next w i end h = rw (one-fewer i end h)
+
+-- and the one before the end comes last
+pub facts-last : (w : List ℕ) (i end : ℕ) → i < end → facts w i end ≡ facts w i (end - 1) ++ (fact-of (word w (end - 1)) ∷ [])
+unfolding facts
+facts-last w i end h =
+    let more : end - i ≡ suc (end - 1 - i) = omega arith in
+    let there : i + (end - 1 - i) ≡ end - 1 = omega arith in
+    rw (more, table-last (λ j. fact-of (word w j)) i (end - 1 - i), there)
 
 -- from the end on nothing is stored
 pub stores-over : (f : ℕ → ℕ) (l : List ℕ) (i end : ℕ) → end ≤ i → sets l i (table f i (end - i)) ≡ l

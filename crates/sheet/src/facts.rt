@@ -57,7 +57,7 @@ fn bad_in_action(w: &[u32], a: u32) -> Place
     let found = bad_in_group(w, facts.precondition);
     match found {
         Place::At(i) => Place::At(i),
-        Place::Nowhere => bad_in_group(w, facts.effect),
+        Place::Nowhere => bad_in_group(w, facts.effects.group()),
     }
 }
 

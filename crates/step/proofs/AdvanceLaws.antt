@@ -11,9 +11,12 @@ use Rattle.sas.specs.Plan.{first-failing, satisfies, assign}
 use Rattle.sas.proofs.FactLaws.{none-failing, one-failing}
 use Rattle.sas.proofs.ActionLaws.{apply-length, applicable-needed}
 use Rattle.sheet.specs.declared.group.Group.{Group}
+use Rattle.sheet.specs.declared.effects.Effects.{Effects}
 use Rattle.sheet.specs.Decode.{fact-of, goal, action}
-use Rattle.sheet.specs.between.Group.{goal-group, needed-group, written-group, facts-in}
-use Rattle.sheet.proofs.GroupLaws.{goal-facts, needed-facts, group-applied}
+use Rattle.sheet.specs.between.Group.{goal-group, needed-group, facts-in}
+use Rattle.sheet.specs.between.Effects.{effects-of, written-in}
+use Rattle.sheet.proofs.GroupLaws.{goal-facts, needed-facts}
+use Rattle.sheet.proofs.EffectLaws.{effects-applied}
 use Rattle.step.specs.declared.facts.Failing.{Failing}
 use Rattle.step.specs.declared.facts.Failing.the-variants.{Nothing, Fact}
 use Rattle.step.specs.State.{state-size, front}
@@ -29,11 +32,11 @@ module _ (w s : List ℕ) (a : ℕ) (g : Group) (f : Failing) (group : g ≡ nee
         state = refl;
       }
 
-  pub advances-done : (h : Group) (after : List ℕ) → f ≡ Nothing → h ≡ written-group w a → after ≡ assign s (facts-in w h) → Advances w s a true after
-  advances-done h after e effect writes =
+  pub advances-done : (h : Effects) (after : List ℕ) → f ≡ Nothing → h ≡ effects-of w a → after ≡ assign s (written-in w h) → Advances w s a true after
+  advances-done h after e effects writes =
       record {
         applied = sym (applicable-needed s (action w a) ∙ none-failing s _ (rw (← needed-facts w a, ← group, ← found, e) refl));
-        state = writes ∙ rw effect (sym (group-applied w s a));
+        state = writes ∙ rw effects (sym (effects-applied w a s));
       }
 
 module _ (w s : List ℕ) (g : Group) (f : Failing) (group : g ≡ goal-group w) (found : failing f ≡ first-failing s (facts-in w g)) where

@@ -1,6 +1,6 @@
 -- The state after one step, in document 01's words ("Doing a step, and a valid list") and not the code's: a refused step leaves it; a step that is done gives each
--- variable in its effect the value named and keeps the others. A step that is done is one of an accepted task, whose effects name a variable once and are of known
--- variables; the rest is the laws of actions. Assumes nothing.
+-- variable in its effect the value named and keeps the others. A step that is done is one of an accepted task, which is plain and of known variables;
+-- the rest is the laws of actions. Assumes nothing.
 use Prim.Native.Nat.{ℕ, _≤_, _<_}
 use native.Mathlib.Omega.{arith}
 use mathlib.Core.Path.{_≡_, refl, sym, _∙_, ap}
@@ -16,13 +16,13 @@ use Rattle.refusal.proofs.PlaceLaws.{when-nowhere}
 use Rattle.refusal.proofs.CheckLaws.{none-fires, answer-second, first-none}
 use Rattle.sas.specs.Task.{Fact}
 use Rattle.sas.specs.Plan.{apply, may-write}
-use Rattle.sas.specs.between.WellFormed.{Action-formed}
+use Rattle.sas.specs.between.WellFormed.{Action-formed, Plain}
 use Rattle.sas.proofs.FactLaws.{holds-value}
-use Rattle.sas.proofs.ActionLaws.{apply-length, apply-other, apply-holds, written-known}
+use Rattle.sas.proofs.ActionLaws.{apply-length, apply-other, apply-holds}
 use Rattle.sheet.specs.Layout.{variables, actions}
 use Rattle.sheet.specs.Decode.{domains, action, task}
 use Rattle.sheet.specs.Causes.{sheet-checks, Accepted}
-use Rattle.sheet.proofs.Accepted.{domains-length, action-known, accepted-well-formed}
+use Rattle.sheet.proofs.Accepted.{domains-length, action-known, accepted-well-formed, accepted-plain}
 use Rattle.step.specs.Step.{own-checks, step-checks, state-after, Steps, After}
 
 module _ (w s : List ℕ) (a : ℕ) where
@@ -48,13 +48,16 @@ module _ (w s : List ℕ) (a : ℕ) where
   unfolding task
   done-formed e = accepted-well-formed w (done-accepted e) .actions (action w a) (action-known w a (done-known e))
 
+  done-plain : answer (step-checks w s a) ≡ none → Plain (domains w) (action w a)
+  done-plain e = accepted-plain w (done-accepted e) (action-known w a (done-known e))
+
   other-kept : (v : ℕ) (t : Option Told) → answer (step-checks w s a) ≡ t → (answer (step-checks w s a) ≡ none → (f : Fact) → may-write (action w a) f → f .variable ≢ v)
       → getD (state-after w s a) v 0 ≡ getD s v 0
   other-kept v none e h = rw (done-state e) (apply-other s (action w a) v (h e))
   other-kept v (some t) e h = rw (refused-state t e)
 
   past-unnamed : (v : ℕ) → variables w ≤ v → answer (step-checks w s a) ≡ none → (f : Fact) → may-write (action w a) f → f .variable ≢ v
-  past-unnamed v h e f m same = omega (arith, domains-length w, written-known (action w a) (done-formed e) m .variable)
+  past-unnamed v h e f m same = omega (arith, domains-length w, done-formed e .known f m .variable)
 
   length-kept : (t : Option Told) → answer (step-checks w s a) ≡ t → length (state-after w s a) ≡ length s
   length-kept none e = ap length (done-state e) ∙ apply-length s (action w a)
@@ -63,7 +66,7 @@ module _ (w s : List ℕ) (a : ℕ) where
 told-state : (w s : List ℕ) (a : ℕ) → After w s a (answer (step-checks w s a)) (state-after w s a)
 told-state w s a = record {
   refused = refused-state w s a;
-  named = λ e f m below. rw (done-state w s a e) (holds-value _ f (apply-holds (action w a) (done-formed w s a e) s m below));
+  named = λ e f m below. rw (done-state w s a e) (holds-value _ f (apply-holds (action w a) s (done-plain w s a e) m below));
   others = λ v h. other-kept w s a v _ refl (λ e. h);
   past = λ v h. other-kept w s a v _ refl (past-unnamed w s a v h);
   complete = length-kept w s a _ refl;

@@ -1,7 +1,7 @@
 // One action in a lent state, and the goal there: what every walk along a plan is made of.
 use crate::facts::Failing;
 use crate::facts::first_failing;
-use crate::facts::write_facts;
+use crate::facts::write_effects;
 use crate::state::size;
 use sheet::group::facts_of;
 use sheet::group::goal;
@@ -20,7 +20,7 @@ pub fn advance(words: &[u32], state: &mut [u32], action: u32) -> bool
     match failing {
         Failing::Fact(_) => false,
         Failing::Nothing => {
-            write_facts(words, state, facts.effect);
+            write_effects(words, state, facts.effects);
             true
         }
     }

@@ -1,12 +1,14 @@
-// The test whether an assignment holds, and the writes of an effect, over a group of facts. Every service that does a
-// step goes through these two.
+// The test whether a group of facts holds, and the writes of an action's effects. Every service that does a step goes
+// through these two.
 use access::put;
+use sheet::effects::Effects;
 use sheet::group::Group;
 use sheet::limits::Sheet;
 ghost use mathlib.Core.Path.{_≡_};
 ghost use Rattle.sas.specs.Plan.{holds as holds-in, first-failing, assign};
 ghost use Rattle.sheet.specs.Decode.{fact-of};
 ghost use Rattle.sheet.specs.between.Group.{facts-in};
+ghost use Rattle.sheet.specs.between.Effects.{written-in};
 ghost use Rattle.step.specs.between.Failing.{failing};
 
 // Whether the fact that a word is holds in the state.
@@ -36,7 +38,7 @@ pub fn first_failing(words: &[u32], state: &[u32], group: Group) -> Failing
     while rest.at < rest.end {
         let fact = rest.first(words);
         if holds(state, fact) {
-            rest = rest.rest(words);
+            rest = rest.rest();
         } else {
             return Failing::Fact(fact);
         }
@@ -44,11 +46,11 @@ pub fn first_failing(words: &[u32], state: &[u32], group: Group) -> Failing
     Failing::Nothing
 }
 
-// Writes the facts of a group into the state.
-pub fn write_facts(words: &[u32], state: &mut [u32], group: Group)
-    ensures { λ _. ⌜ now (state .exit) ≡ assign (now (state .entry)) (facts-in (now (words .entry)) group) ⌝ }
+// Writes what an action's effects write into the state.
+pub fn write_effects(words: &[u32], state: &mut [u32], effects: Effects)
+    ensures { λ _. ⌜ now (state .exit) ≡ assign (now (state .entry)) (written-in (now (words .entry)) effects) ⌝ }
 {
-    let mut rest = group;
+    let mut rest = effects;
     while rest.at < rest.end {
         let fact = rest.first(words);
         put(

@@ -84,8 +84,8 @@ fn action_end(sheet: &[u32], a: u32) -> usize
     ensures { λ r. ⌜ r ≡ effect-end (now (sheet .entry)) a ⌝ }
 {
     let facts = facts_of(sheet, a);
-    let effect = facts.effect;
-    effect.end
+    let effects = facts.effects;
+    effects.end
 }
 
 // Puts the part of an action.

@@ -1,6 +1,6 @@
 -- The rows of each unflagged step of a plan, in blocks. Not to be believed: proofs/RowTheorem says what the rows tell.
 -- Assumes nothing.
-use Prim.Native.Nat.{ℕ, zero, suc, _+_, _*_, _/_, _%_}
+use Prim.Native.Nat.{ℕ, zero, suc, _+_, _-_, _*_, _/_, _%_}
 use mathlib.Core.Path.{_≡_}
 use mathlib.Core.Bool.{Bool, false, cond, _&&_}
 use mathlib.Core.List.{List, [], _∷_}
@@ -71,10 +71,10 @@ noted-cost w a flagged d costs = cond flagged costs (set costs d (cost-word w a)
 
 -- the rows and the costs of the steps before index i, in what they are written to
 unfoldable pub rows-before : List ℕ → List ℕ → Reduction → List ℕ → List ℕ → List ℕ → ℕ → List ℕ
-rows-before w l flags wanted needed empty zero = empty
-rows-before w l flags wanted needed empty (suc i) =
-    noted w (getD l i 0) (getD flags i false) (open-before flags i) (getD wanted i 0) (getD needed i 0)
-    (rows-before w l flags wanted needed empty i)
+rows-before w l flags wanted useless empty zero = empty
+rows-before w l flags wanted useless empty (suc i) =
+    noted w (getD l i 0) (getD flags i false) (open-before flags i) (getD wanted i 0) (all-bits - getD useless i 0)
+    (rows-before w l flags wanted useless empty i)
 
 unfoldable pub costs-before : List ℕ → List ℕ → Reduction → List ℕ → ℕ → List ℕ
 costs-before w l flags empty zero = empty
@@ -82,8 +82,8 @@ costs-before w l flags empty (suc i) =
     noted-cost w (getD l i 0) (getD flags i false) (open-before flags i) (costs-before w l flags empty i)
 
 -- the rows and the costs of all unflagged steps of the list l, and how many they are
-pub record Rowed (w l : List ℕ) (flags : Reduction) (wanted needed costs rows : List ℕ) (count : ℕ)
+pub record Rowed (w l : List ℕ) (flags : Reduction) (wanted useless costs rows : List ℕ) (count : ℕ)
     (costs′ rows′ : List ℕ) : Type 0 where
   pub counted : count ≡ open-before flags (length l)
-  pub filled : rows′ ≡ rows-before w l flags wanted needed rows (length l)
+  pub filled : rows′ ≡ rows-before w l flags wanted useless rows (length l)
   pub priced : costs′ ≡ costs-before w l flags costs (length l)

@@ -32,7 +32,7 @@ rest-requires : tie.Need-rest-requires Inv-loop μ-loop
 rest-requires c κs = search needs
 
 loop-less : tie.Need-loop-less Inv-loop μ-loop
-loop-less c = rest-shorter (c .before .before .before .before .before .before .before .before .before .before .before .args .words .now) _ _ (c .rest .ensures) (c .before .before .before .before .before .before .if1 .taken)
+loop-less c = rest-shorter _ _ (c .rest .ensures) (c .before .before .before .before .before .before .if1 .taken)
 
 loop-again : tie.Need-loop-again Inv-loop μ-loop
 loop-again c =

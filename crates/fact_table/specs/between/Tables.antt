@@ -15,26 +15,26 @@ use Rattle.sheet.specs.between.Encode.{fact-word}
 abbrev pub most-facts : ℕ
 most-facts = limits .variables * limits .values
 
--- what stands at a fact that is wanted, and at one that is not
-abbrev pub is-wanted : ℕ
-is-wanted = 1
+-- what stands at a fact that a table has, and at one that it has not
+abbrev pub is-in : ℕ
+is-in = 1
 
-abbrev pub not-wanted : ℕ
-not-wanted = 0
+abbrev pub is-out : ℕ
+is-out = 0
 
 -- a table with x at each fact of an assignment
 unfoldable pub stamped : List ℕ → Assignment → ℕ → List ℕ
 stamped t [] x = t
 stamped t (f ∷ q) x = stamped (set t (fact-word f) x) q x
 
--- a table has the fact that is word x as wanted
-unfoldable pub has-wanted : List ℕ → ℕ → Bool
-has-wanted t x = eqb (getD t x 0) is-wanted
+-- a table has the fact that is word x
+unfoldable pub has-fact : List ℕ → ℕ → Bool
+has-fact t x = eqb (getD t x 0) is-in
 
 -- the wanted facts before a step that needs and may write these, from those behind it
 unfoldable pub passed-back : List ℕ → Assignment → Assignment → Bool → List ℕ
 passed-back t needs writes flagged =
-    cond flagged (stamped (stamped t writes not-wanted) needs is-wanted) (stamped t writes not-wanted)
+    cond flagged (stamped (stamped t writes is-out) needs is-in) (stamped t writes is-out)
 
 -- the same of an action
 abbrev pub wanted-before : List ℕ → Action → Bool → List ℕ
@@ -42,4 +42,4 @@ wanted-before t a flagged = passed-back t (needed a) (written a) flagged
 
 -- the table that has just the goal's facts
 unfoldable pub goal-table : List ℕ → List ℕ
-goal-table w = stamped (replicate most-facts not-wanted) (goal w) is-wanted
+goal-table w = stamped (replicate most-facts is-out) (goal w) is-in

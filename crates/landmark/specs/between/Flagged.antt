@@ -25,4 +25,4 @@ pub record Marks (checks : List Check) (w l : List ℕ) (given : Answer) (flags 
 -- the same for whatever a service asks besides, of which it has the verdict
 pub record Marks-lodged (w l : List ℕ) (verdict : Verdict) (given : Answer) (flags : Reduction) : Type 0 where
   pub checked : (besides : List Check) → told verdict ≡ answer besides
-      → Marks (lodged-checks besides w l) w l given flags
+      → Marks (lodged-checks most-steps besides w l) w l given flags

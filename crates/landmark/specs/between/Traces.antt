@@ -28,6 +28,30 @@ until-at latest x =
 unfoldable pub supporting : ℕ → ℕ → ℕ → ℕ
 supporting last until j = cond (ltb last until) j 0
 
+-- the traces behind the step at position j, which writes the fact x, where `latest` has what the steps before it wrote:
+-- its support and its last writer, as they are where it is its last writer already
+unfoldable pub trace-wrote : ℕ → List ℕ → ℕ → List ℕ → List ℕ
+trace-wrote j latest x traces =
+    let i : ℕ = trace-start x in
+    cond (eqb (getD traces i 0) j) traces
+    (set (set traces (i + 1) (supporting (getD traces i 0) (until-at latest x) j)) i j)
+
+-- and which writes the facts of an assignment
+unfoldable pub traces-wrote : ℕ → List ℕ → Assignment → List ℕ → List ℕ
+traces-wrote j latest [] traces = traces
+traces-wrote j latest (f ∷ e) traces = traces-wrote j latest e (trace-wrote j latest (fact-word f) traces)
+
+-- the words of the variables behind a marked step at position j that writes the fact x
+unfoldable pub latest-wrote : ℕ → ℕ → List ℕ → List ℕ
+latest-wrote j x latest =
+    let v : ℕ = latest-start (x / limits .values) in
+    set (set (set latest v x) (v + 1) (j + 1)) (v + 2) (until-at latest x)
+
+-- and that writes the facts of an assignment
+unfoldable pub latest-each : ℕ → Assignment → List ℕ → List ℕ
+latest-each j [] latest = latest
+latest-each j (f ∷ e) latest = latest-each j e (latest-wrote j (fact-word f) latest)
+
 -- both tables
 pub record Tables : Type 0 where
   pub traces : List ℕ
@@ -36,24 +60,11 @@ pub record Tables : Type 0 where
 abbrev pub tables : List ℕ → List ℕ → Tables
 tables traces latest = record { traces = traces; latest = latest }
 
--- the words of the variables behind a marked step at position j that writes the fact x
-unfoldable pub latest-wrote : ℕ → ℕ → List ℕ → List ℕ
-latest-wrote j x latest =
-    let v : ℕ = latest-start (x / limits .values) in
-    set (set (set latest v x) (v + 1) (j + 1)) (v + 2) (until-at latest x)
-
--- behind the step at position j, which writes the fact x
-unfoldable pub wrote : ℕ → Bool → ℕ → Tables → Tables
-wrote j marked x t =
-    let i : ℕ = trace-start x in
-    tables
-    (set (set (t .traces) (i + 1) (supporting (getD (t .traces) i 0) (until-at (t .latest) x) j)) i j)
-    (cond marked (latest-wrote j x (t .latest)) (t .latest))
-
--- and which writes the facts of an assignment
+-- behind the step at position j, which may write the facts of an assignment: all supports are told by what the steps
+-- before it wrote
 unfoldable pub wrote-each : ℕ → Bool → Assignment → Tables → Tables
-wrote-each j marked [] t = t
-wrote-each j marked (f ∷ e) t = wrote-each j marked e (wrote j marked (fact-word f) t)
+wrote-each j marked e t =
+    tables (traces-wrote j (t .latest) e (t .traces)) (cond marked (latest-each j e (t .latest)) (t .latest))
 
 -- the words of the first n variables behind the start step, which writes these values at position 0; zeros for the rest
 unfoldable pub started : List ℕ → ℕ → List ℕ

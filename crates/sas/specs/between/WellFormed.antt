@@ -1,10 +1,11 @@
--- A well-formed task: its facts are of known variables and values, and each assignment names a variable once. Assumes
--- nothing.
+-- A well-formed task: its facts are of known variables and values, a condition names each variable once, and no action
+-- gives a variable two values. Plain actions, which write each variable once. Assumes nothing.
 use Prim.Native.Nat.{ℕ, suc, _≤_, _<_}
 use mathlib.Core.Path.{_≡_}
 use mathlib.Core.List.{List, [], _∷_, List·Memᴰ}
 use lib.ListN.{length, getD}
 use Rattle.sas.specs.Task.{Fact, Assignment, State, Action, Task}
+use Rattle.sas.specs.Plan.{written, may-write}
 
 -- a fact of a variable that has a domain, at a value in it
 pub record Known (domains : List ℕ) (f : Fact) : Type 0 where
@@ -22,9 +23,19 @@ pub record Within (domains : List ℕ) (s : State) : Type 0 where
   pub complete : length s ≡ length domains
   pub below : (v : ℕ) → v < length domains → getD s v 0 < getD domains v 0
 
--- an action whose precondition and effect are assignments over the domains
+-- no two facts of a list give one variable different values
+abbrev pub Agreeing : Assignment → Type 0
+Agreeing e = (f g : Fact) → List·Memᴰ f e → List·Memᴰ g e → f .variable ≡ g .variable → f .value ≡ g .value
+
+-- an action over the domains: its precondition is an assignment over them, and what it may write is known and agrees
 pub record Action-formed (domains : List ℕ) (a : Action) : Type 0 where
   pub precondition : Rising domains 0 (a .precondition)
+  pub known : (f : Fact) → may-write a f → Known domains f
+  pub agreeing : Agreeing (written a)
+
+-- a plain action: it writes all that it may write wherever it is applied, and each variable once. What is told of a
+-- fact without the state, and what is told of an action's facts by a byte for each variable, is told of plain ones.
+pub record Plain (domains : List ℕ) (a : Action) : Type 0 where
   pub effect : Rising domains 0 (a .effect)
 
 pub record Well-formed (T : Task) : Type 0 where

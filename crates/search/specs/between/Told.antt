@@ -50,9 +50,9 @@ pub record Lent (w l : List ℕ) (flags : Reduction) : Type 0 where
 pub record Lent-rows (w l : List ℕ) (flags : Reduction) (costs rows : List ℕ) : Type 0 where
   pub lent : Lent w l flags
   pub wanted : List ℕ
-  pub needed : List ℕ
-  pub behind : Told-behind w l flags wanted needed
-  pub filled : rows ≡ rows-before w l flags wanted needed (replicate (most-rows * row-bytes) 0) (length l)
+  pub useless : List ℕ
+  pub behind : Told-behind w l flags wanted useless
+  pub filled : rows ≡ rows-before w l flags wanted useless (replicate (most-rows * row-bytes) 0) (length l)
   pub priced : costs
       ≡ take (open-before flags (length l)) (costs-before w l flags (replicate most-choices 0) (length l))
 

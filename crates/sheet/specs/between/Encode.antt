@@ -4,7 +4,7 @@ use Prim.Native.Nat.{ℕ, _+_, _*_, _≤_, _<_}
 use mathlib.Core.List.{List, [], _∷_, _++_, map, flatten, List·Memᴰ}
 use lib.ListN.{length, getD}
 use Rattle.sas.specs.Task.{Fact, Assignment, Action, Task}
-use Rattle.sas.specs.between.WellFormed.{Well-formed}
+use Rattle.sas.specs.between.WellFormed.{Plain, Well-formed}
 use Rattle.sheet.specs.Limits.{limits}
 use Rattle.sheet.specs.Layout.{header}
 
@@ -45,9 +45,11 @@ sheet-of edition variables actions ps = edition ∷ variables ∷ actions ∷ (h
 unfoldable pub encode : Task → List ℕ
 encode T = sheet-of 1 (length (T .domains)) (length (T .actions)) (parts T)
 
--- a task that can be written: well-formed, so that each domain has at least its starting value, and within the limits
+-- a task that can be written: well-formed, so that each domain has at least its starting value, of plain actions, and
+-- within the limits
 pub record Encodable (T : Task) : Type 0 where
   pub well-formed : Well-formed T
+  pub plain : (a : Action) → List·Memᴰ a (T .actions) → Plain (T .domains) a
   pub some-variable : 1 ≤ length (T .domains)
   pub variables : length (T .domains) ≤ limits .variables
   pub values : (v : ℕ) → v < length (T .domains) → getD (T .domains) v 0 ≤ limits .values

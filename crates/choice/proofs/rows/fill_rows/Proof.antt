@@ -1,7 +1,8 @@
 -- `fill_rows` meets its contract. The loop's invariant: the walk has the rows and the costs of the steps before the index. The measure is the number of steps
 -- left. Assumes nothing.
 use Prim.Native.Nat.{_-_}
-use mathlib.Core.Path.{refl}
+use mathlib.Core.Path.{refl, ap}
+use Rattle.choice.specs.between.Rows.{all-bits}
 use lib.ListN.{length}
 use Rattle.choice.proofs.RowingLaws.{Rowing, rowing-start, rowing-more, rowing-end}
 use borrow.Author.Needs.{needs}
@@ -9,11 +10,11 @@ use Rattle.choice.proofs.rows.fill_rows.Statement.{statement}
 use Rattle.choice.proofs.rows.fill_rows.Tie as tie
 
 abbrev Inv-loop : tie.InvT-loop
-Inv-loop words plan flags wanted needed costs₀ rows₀ d₀ i₀ costs rows d i =
-    Rowing words plan flags wanted needed costs₀ rows₀ costs rows d i
+Inv-loop words plan flags wanted useless costs₀ rows₀ d₀ i₀ costs rows d i =
+    Rowing words plan flags wanted useless costs₀ rows₀ costs rows d i
 
 abbrev μ-loop : tie.MeasureT-loop
-μ-loop words plan flags wanted needed costs₀ rows₀ d₀ i₀ costs rows d i = length plan - i
+μ-loop words plan flags wanted useless costs₀ rows₀ d₀ i₀ costs rows d i = length plan - i
 
 loop-holds : tie.Need-loop-holds Inv-loop μ-loop
 loop-holds c = rowing-start _ _ _ _ _ _ _
@@ -32,6 +33,9 @@ word64-requires c κs = search needs
 
 word64-requires-2 : tie.Need-word64-requires-2 Inv-loop μ-loop
 word64-requires-2 c κs = search needs
+
+sub-note : tie.Need-sub-note Inv-loop μ-loop
+sub-note c = search needs
 
 note-requires : tie.Need-note-requires Inv-loop μ-loop
 note-requires c κs = search needs
@@ -56,7 +60,7 @@ loop-again c =
     let noted = c .before .before .before .before .before .before .before in
     let tested = noted .before .before .before .before .before .before in
     rowing-more _ _ _ _ _ _ _ _ _ _ _ (tested .before .loop .inv) (tested .loop-test .taken) _ _ _ _ refl (noted .before .before .before .before .flag .ensures)
-    (noted .before .before .before .word64 .ensures) (noted .before .before .word642 .ensures) _ _ _ (search needs) (search needs) (noted .note .ensures)
+    (noted .before .before .before .word64 .ensures) (ap (λ x. all-bits - x) (noted .before .before .word642 .ensures)) _ _ _ (search needs) (search needs) (noted .note .ensures)
     (c .before .before .before .note-cost .ensures) (c .«open» .ensures .0)
 
 same-length : tie.Need-same-length Inv-loop μ-loop
@@ -80,6 +84,7 @@ fill-rows-spec =
     flag-requires
     word64-requires
     word64-requires-2
+    sub-note
     note-requires
     note-cost-requires
     open-requires

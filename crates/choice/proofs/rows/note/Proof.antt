@@ -14,17 +14,17 @@ returns c = noted-beyond _ _ _ _ _ _ _ (c .if1 .taken)
 mul-block : tie.Need-mul-block
 mul-block c = search needs
 
-add-stamp-row : tie.Need-add-stamp-row
-add-stamp-row c = search needs
+add-stamp-effects : tie.Need-add-stamp-effects
+add-stamp-effects c = search needs
 
-stamp-row-requires : tie.Need-stamp-row-requires
-stamp-row-requires c κs = search needs
+stamp-effects-requires : tie.Need-stamp-effects-requires
+stamp-effects-requires c κs = search needs
 
-add-stamp-row-2 : tie.Need-add-stamp-row-2
-add-stamp-row-2 c = search needs
+add-stamp-effects-2 : tie.Need-add-stamp-effects-2
+add-stamp-effects-2 c = search needs
 
-stamp-row-requires-2 : tie.Need-stamp-row-requires-2
-stamp-row-requires-2 c κs = search needs
+stamp-effects-requires-2 : tie.Need-stamp-effects-requires-2
+stamp-effects-requires-2 c κs = search needs
 
 same-length : tie.Need-same-length
 same-length c = search needs
@@ -34,34 +34,34 @@ returns-2 c =
     noted-flagged _ _ _ _ _ _ _ (c .before .before .before .before .before .before .before .before .before .if1 .left) _
     (c .before .before .before .before .before .before .before .before .before .before .before .facts-of .ensures .1) _ _ _ _
     (c .before .before .before .before .before .before .before .before .if2 .taken) (omega arith) (omega arith)
-    (c .before .before .before .before .before .before .stamp-row .ensures) (c .before .before .stamp-row2 .ensures)
+    (c .before .before .before .before .before .before .stamp-effects .ensures) (c .before .before .stamp-effects2 .ensures)
 
 add-own : tie.Need-add-own
 add-own c = search needs
 
-add-stamp-row-3 : tie.Need-add-stamp-row-3
-add-stamp-row-3 c = search needs
+add-stamp-effects-3 : tie.Need-add-stamp-effects-3
+add-stamp-effects-3 c = search needs
 
-stamp-row-requires-3 : tie.Need-stamp-row-requires-3
-stamp-row-requires-3 c κs = search needs
+stamp-effects-requires-3 : tie.Need-stamp-effects-requires-3
+stamp-effects-requires-3 c κs = search needs
 
-add-stamp-row-4 : tie.Need-add-stamp-row-4
-add-stamp-row-4 c = search needs
+add-stamp-row : tie.Need-add-stamp-row
+add-stamp-row c = search needs
 
-stamp-row-requires-4 : tie.Need-stamp-row-requires-4
-stamp-row-requires-4 c κs = search needs
+stamp-row-requires : tie.Need-stamp-row-requires
+stamp-row-requires c κs = search needs
 
-add-stamp-row-5 : tie.Need-add-stamp-row-5
-add-stamp-row-5 c = search needs
+add-stamp-effects-4 : tie.Need-add-stamp-effects-4
+add-stamp-effects-4 c = search needs
 
-stamp-row-requires-5 : tie.Need-stamp-row-requires-5
-stamp-row-requires-5 c κs = search needs
+stamp-effects-requires-4 : tie.Need-stamp-effects-requires-4
+stamp-effects-requires-4 c κs = search needs
 
-add-stamp-row-6 : tie.Need-add-stamp-row-6
-add-stamp-row-6 c = search needs
+add-stamp-effects-5 : tie.Need-add-stamp-effects-5
+add-stamp-effects-5 c = search needs
 
-stamp-row-requires-6 : tie.Need-stamp-row-requires-6
-stamp-row-requires-6 c κs = search needs
+stamp-effects-requires-5 : tie.Need-stamp-effects-requires-5
+stamp-effects-requires-5 c κs = search needs
 
 same-length-2 : tie.Need-same-length-2
 same-length-2 c = search needs
@@ -72,8 +72,8 @@ returns-3 c =
     let tested = fourth .before .before .before .before .before .before in
     noted-open _ _ _ _ _ _ _ (tested .before .before .if1 .left) _ (tested .before .before .before .before .facts-of .ensures .1) _
     (tested .before .before .before .before .facts-of .ensures .0) _ _ _ _ _ _ _ _ (tested .before .if2 .left) (tested .if3 .taken) (omega arith)
-    (omega arith) (omega arith) (omega arith) (fourth .before .before .before .before .stamp-row3 .ensures) (fourth .stamp-row4 .ensures)
-    (c .before .before .before .before .before .before .stamp-row5 .ensures) (c .before .before .stamp-row6 .ensures)
+    (omega arith) (omega arith) (omega arith) (fourth .before .before .before .before .stamp-effects3 .ensures) (fourth .stamp-row .ensures)
+    (c .before .before .before .before .before .before .stamp-effects4 .ensures) (c .before .before .stamp-effects5 .ensures)
 
 returns-4 : tie.Need-returns-4
 returns-4 c = noted-last _ _ _ _ _ _ _ (c .before .before .if1 .left) (c .before .if2 .left) (c .if3 .left)
@@ -85,21 +85,21 @@ note-spec =
     facts-of-requires
     returns
     mul-block
-    add-stamp-row
-    stamp-row-requires
-    add-stamp-row-2
-    stamp-row-requires-2
+    add-stamp-effects
+    stamp-effects-requires
+    add-stamp-effects-2
+    stamp-effects-requires-2
     same-length
     returns-2
     add-own
-    add-stamp-row-3
-    stamp-row-requires-3
-    add-stamp-row-4
-    stamp-row-requires-4
-    add-stamp-row-5
-    stamp-row-requires-5
-    add-stamp-row-6
-    stamp-row-requires-6
+    add-stamp-effects-3
+    stamp-effects-requires-3
+    add-stamp-row
+    stamp-row-requires
+    add-stamp-effects-4
+    stamp-effects-requires-4
+    add-stamp-effects-5
+    stamp-effects-requires-5
     same-length-2
     returns-3
     returns-4)

@@ -1,6 +1,8 @@
 -- `stamp_row` meets its contract. The loop's invariant: what is laid and what is still to be laid make the whole row. The measure is the number of facts that
 -- the row still has room for. Assumes nothing.
 use Prim.Native.Nat.{_-_}
+use Rattle.sheet.specs.between.Group.{facts-in}
+use Rattle.sheet.proofs.GroupLaws.{group-over, group-next}
 use Rattle.choice.proofs.StampRowLaws.{Stamping, stamping-start, stamping-more, row-over, row-full}
 use borrow.Author.Needs.{needs}
 use Rattle.choice.proofs.rows.stamp_row.Statement.{statement}
@@ -8,19 +10,19 @@ use Rattle.choice.proofs.rows.stamp_row.Tie as tie
 
 abbrev Inv-loop : tie.InvT-loop
 Inv-loop words rows₀ r bits left₀ rest₀ k₀ rows left rest k =
-    Stamping words rows₀ r bits rest₀ rows left rest k
+    Stamping rows₀ r bits (facts-in words rest₀) rows left (facts-in words rest) k
 
 abbrev μ-loop : tie.MeasureT-loop
 μ-loop words rows₀ r bits left₀ rest₀ k₀ rows left rest k = 64 - k
 
 loop-holds : tie.Need-loop-holds Inv-loop μ-loop
-loop-holds c = stamping-start _ _ _ _ _
+loop-holds c = stamping-start _ _ _ _
 
 same-length : tie.Need-same-length Inv-loop μ-loop
 same-length c = search needs
 
 returns : tie.Need-returns Inv-loop μ-loop
-returns c = row-over _ _ _ _ _ _ _ _ _ (c .before .before .before .loop .inv) (c .if1 .taken)
+returns c = row-over _ _ _ _ _ _ _ _ (c .before .before .before .loop .inv) (group-over _ _ (c .if1 .taken))
 
 first-requires : tie.Need-first-requires Inv-loop μ-loop
 first-requires c κs = search needs
@@ -39,15 +41,16 @@ loop-less c = search needs
 
 loop-again : tie.Need-loop-again Inv-loop μ-loop
 loop-again c =
-    stamping-more _ _ _ _ _ _ _ _ _ (c .before .before .before .before .before .before .before .before .before .loop .inv)
-    (c .before .before .before .before .before .before .if1 .left) (c .before .before .before .before .before .before .before .before .loop-test .taken) _ _
-    (c .before .before .before .before .first .ensures .0) (c .before .before .before .lay .ensures) (search needs) _ (c .rest .ensures)
+    rw (c .rest .ensures)
+    (stamping-more _ _ _ _ _ _ _ _ (c .before .before .before .before .before .before .before .before .before .loop .inv)
+    (c .before .before .before .before .before .before .before .before .loop-test .taken) _ _ _ _ (group-next _ _ (c .before .before .before .before .before .before .if1 .left))
+    (c .before .before .before .before .first .ensures .0) (c .before .before .before .lay .ensures) (search needs))
 
 same-length-2 : tie.Need-same-length-2 Inv-loop μ-loop
 same-length-2 c = search needs
 
 returns-2 : tie.Need-returns-2 Inv-loop μ-loop
-returns-2 c = row-full _ _ _ _ _ _ _ _ _ (c .before .loop .inv) (c .loop-test .left)
+returns-2 c = row-full _ _ _ _ _ _ _ _ (c .before .loop .inv) (c .loop-test .left)
 
 pub stamp-row-spec : {M : Type 1} → statement M
 stamp-row-spec =

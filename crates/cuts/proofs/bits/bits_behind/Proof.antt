@@ -5,10 +5,10 @@ use Rattle.cuts.proofs.bits.bits_behind.Statement.{statement}
 use Rattle.cuts.proofs.bits.bits_behind.Tie as tie
 
 abbrev Inv-loop : tie.InvT-loop
-Inv-loop words plan flags wanting₀ needing₀ wanted₀ needed₀ i₀ wanting needing wanted needed i = Behind-from words plan flags i wanted needed wanting needing
+Inv-loop words plan flags wanting₀ unneeded₀ wanted₀ useless₀ i₀ wanting unneeded wanted useless i = Behind-from words plan flags i wanted useless wanting unneeded
 
 abbrev μ-loop : tie.MeasureT-loop
-μ-loop words plan flags wanting₀ needing₀ wanted₀ needed₀ i₀ wanting needing wanted needed i = i
+μ-loop words plan flags wanting₀ unneeded₀ wanted₀ useless₀ i₀ wanting unneeded wanted useless i = i
 
 slice-aggregate-stamp : tie.Need-slice-aggregate-stamp Inv-loop μ-loop
 slice-aggregate-stamp c = search needs
@@ -19,8 +19,19 @@ goal-requires c κs = search needs
 stamp-requires : tie.Need-stamp-requires Inv-loop μ-loop
 stamp-requires c κs = search needs
 
+slice-aggregate-stamp-2 : tie.Need-slice-aggregate-stamp-2 Inv-loop μ-loop
+slice-aggregate-stamp-2 c = search needs
+
+goal-requires-2 : tie.Need-goal-requires-2 Inv-loop μ-loop
+goal-requires-2 c κs = search needs
+
+stamp-requires-2 : tie.Need-stamp-requires-2 Inv-loop μ-loop
+stamp-requires-2 c κs = search needs
+
 loop-holds : tie.Need-loop-holds Inv-loop μ-loop
-loop-holds c = behind-end _ _ _ _ _ (c .before .before .goal .ensures) (c .before .stamp .ensures)
+loop-holds c =
+    let first = c .before .before .before .before .before in
+    behind-end _ _ _ _ _ _ _ (first .before .goal .ensures) (first .stamp .ensures) (c .before .before .goal2 .ensures) (c .before .stamp2 .ensures)
 
 sub-i : tie.Need-sub-i Inv-loop μ-loop
 sub-i c = search needs
@@ -67,17 +78,17 @@ slice-aggregate-pass-back c = search needs
 pass-back-requires : tie.Need-pass-back-requires Inv-loop μ-loop
 pass-back-requires c κs = search needs
 
-slice-aggregate-stamp-2 : tie.Need-slice-aggregate-stamp-2 Inv-loop μ-loop
-slice-aggregate-stamp-2 c = search needs
+slice-aggregate-stamp-3 : tie.Need-slice-aggregate-stamp-3 Inv-loop μ-loop
+slice-aggregate-stamp-3 c = search needs
 
-stamp-requires-2 : tie.Need-stamp-requires-2 Inv-loop μ-loop
-stamp-requires-2 c κs = search needs
+stamp-requires-3 : tie.Need-stamp-requires-3 Inv-loop μ-loop
+stamp-requires-3 c κs = search needs
 
 loop-less : tie.Need-loop-less Inv-loop μ-loop
 loop-less c = search needs
 
 loop-again : tie.Need-loop-again Inv-loop μ-loop
-loop-again c = behind-more _ _ _ _ _ _ _ _ (c .before .before .before .before .before .before .before .before .before .before .before .before .before .before .before .before .before .before .before .before .loop .inv) (c .before .before .before .before .before .before .before .before .before .before .before .before .before .before .before .before .before .before .before .loop-test .taken) _ (c .before .before .before .before .before .before .before .before .before .before .before .before .before .before .before .before .before .facts-of .ensures .0) (c .before .before .before .before .before .before .before .before .before .before .before .before .before .before .before .before .before .facts-of .ensures .1) _ _ _ _ _ _ _ (c .before .before .before .before .before .before .before .before .before .before .before .before .before .before .before .before .flag .ensures) (c .before .before .before .before .before .before .before .before .before .before .before .before .before .pack-unflagged .ensures) (c .before .before .before .before .before .before .before .before .before .before .before .before .put64 .ensures) (c .before .before .before .before .before .before .before .before .pack-unflagged2 .ensures) (c .before .before .before .before .before .before .before .put642 .ensures) (c .before .before .before .before .pass-back .ensures) (c .before .stamp2 .ensures)
+loop-again c = behind-more _ _ _ _ _ _ _ _ (c .before .before .before .before .before .before .before .before .before .before .before .before .before .before .before .before .before .before .before .before .loop .inv) (c .before .before .before .before .before .before .before .before .before .before .before .before .before .before .before .before .before .before .before .loop-test .taken) _ (c .before .before .before .before .before .before .before .before .before .before .before .before .before .before .before .before .before .facts-of .ensures .0) (c .before .before .before .before .before .before .before .before .before .before .before .before .before .before .before .before .before .facts-of .ensures .1) _ _ _ _ _ _ _ (c .before .before .before .before .before .before .before .before .before .before .before .before .before .before .before .before .flag .ensures) (c .before .before .before .before .before .before .before .before .before .before .before .before .before .pack-unflagged .ensures) (c .before .before .before .before .before .before .before .before .before .before .before .before .put64 .ensures) (c .before .before .before .before .before .before .before .before .pack-unflagged2 .ensures) (c .before .before .before .before .before .before .before .put642 .ensures) (c .before .before .before .before .pass-back .ensures) (c .before .stamp3 .ensures)
 
 returns : tie.Need-returns Inv-loop μ-loop
 returns c = behind-start _ _ _ _ _ _ _ _ (c .before .loop .inv) (c .loop-test .left)
@@ -91,6 +102,9 @@ bits-behind-spec =
     slice-aggregate-stamp
     goal-requires
     stamp-requires
+    slice-aggregate-stamp-2
+    goal-requires-2
+    stamp-requires-2
     loop-holds
     sub-i
     mul-facts-of
@@ -107,8 +121,8 @@ bits-behind-spec =
     put64-requires-2
     slice-aggregate-pass-back
     pass-back-requires
-    slice-aggregate-stamp-2
-    stamp-requires-2
+    slice-aggregate-stamp-3
+    stamp-requires-3
     loop-less
     loop-again
     returns)

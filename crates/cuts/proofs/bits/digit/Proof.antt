@@ -3,14 +3,14 @@ use borrow.Author.Needs.{needs}
 use Rattle.cuts.proofs.bits.digit.Statement.{statement}
 use Rattle.cuts.proofs.bits.digit.Tie as tie
 
-is-wanted-requires : tie.Need-is-wanted-requires
-is-wanted-requires c κs = search needs
+has-requires : tie.Need-has-requires
+has-requires c κs = search needs
 
 returns : tie.Need-returns
-returns c = rw (← c .before .is-wanted .ensures, c .if1 .taken)
+returns c = rw (← c .before .has .ensures, c .if1 .taken)
 
 returns-2 : tie.Need-returns-2
-returns-2 c = rw (← c .before .is-wanted .ensures, c .if1 .left)
+returns-2 c = rw (← c .before .has .ensures, c .if1 .left)
 
 pub digit-spec : {M : Type 1} → statement M
-digit-spec = tie.close (tie.spec is-wanted-requires returns returns-2)
+digit-spec = tie.close (tie.spec has-requires returns returns-2)

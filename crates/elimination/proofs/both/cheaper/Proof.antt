@@ -37,17 +37,17 @@ enum-told c = search needs
 flags-left-requires : tie.Need-flags-left-requires
 flags-left-requires c κs =
     let passed = nothing-refused _ _ _ _ _ _ (c .before .before .before .check-room .ensures) (c .before .before .check-lodged .ensures) _ (c .enum-told .given .1) in
-    (passed-readable _ _ _ passed, lodged-valid _ _ _ passed)
+    (passed-readable _ _ _ _ passed, lodged-valid _ _ _ passed)
 
 array-share-prefix-eliminated : tie.Need-array-share-prefix-eliminated
 array-share-prefix-eliminated c =
     let passed = nothing-refused _ _ _ _ _ _ (c .before .before .before .before .check-room .ensures) (c .before .before .before .check-lodged .ensures) _ (c .before .enum-told .given .1) in
-    left-leaves _ _ (passed-readable _ _ _ passed) (lodged-valid _ _ _ passed) Plain _ (c .flags-left .ensures) .within
+    left-leaves _ _ (passed-readable _ _ _ _ passed) (lodged-valid _ _ _ passed) Plain _ (c .flags-left .ensures) .within
 
 slice-aggregate-finish : tie.Need-slice-aggregate-finish
 slice-aggregate-finish c =
     let passed = nothing-refused _ _ _ _ _ _ (c .before .before .before .before .before .check-room .ensures) (c .before .before .before .before .check-lodged .ensures) _ (c .before .before .enum-told .given .1) in
-    sym (left-leaves _ _ (passed-readable _ _ _ passed) (lodged-valid _ _ _ passed) Plain _ (c .before .flags-left .ensures) .fits)
+    sym (left-leaves _ _ (passed-readable _ _ _ _ passed) (lodged-valid _ _ _ passed) Plain _ (c .before .flags-left .ensures) .fits)
 
 finish-requires : tie.Need-finish-requires
 finish-requires c κs = search needs
@@ -55,17 +55,17 @@ finish-requires c κs = search needs
 flags-left-requires-2 : tie.Need-flags-left-requires-2
 flags-left-requires-2 c κs =
     let passed = nothing-refused _ _ _ _ _ _ (c .before .before .before .before .before .before .before .before .before .check-room .ensures) (c .before .before .before .before .before .before .before .before .check-lodged .ensures) _ (c .before .before .before .before .before .before .enum-told .given .1) in
-    (passed-readable _ _ _ passed, lodged-valid _ _ _ passed)
+    (passed-readable _ _ _ _ passed, lodged-valid _ _ _ passed)
 
 array-share-prefix-greedily : tie.Need-array-share-prefix-greedily
 array-share-prefix-greedily c =
     let passed = nothing-refused _ _ _ _ _ _ (c .before .before .before .before .before .before .before .before .before .before .check-room .ensures) (c .before .before .before .before .before .before .before .before .before .check-lodged .ensures) _ (c .before .before .before .before .before .before .before .enum-told .given .1) in
-    left-leaves _ _ (passed-readable _ _ _ passed) (lodged-valid _ _ _ passed) Greedy _ (c .flags-left2 .ensures) .within
+    left-leaves _ _ (passed-readable _ _ _ _ passed) (lodged-valid _ _ _ passed) Greedy _ (c .flags-left2 .ensures) .within
 
 slice-aggregate-finish-2 : tie.Need-slice-aggregate-finish-2
 slice-aggregate-finish-2 c =
     let passed = nothing-refused _ _ _ _ _ _ (c .before .before .before .before .before .before .before .before .before .before .before .check-room .ensures) (c .before .before .before .before .before .before .before .before .before .before .check-lodged .ensures) _ (c .before .before .before .before .before .before .before .before .enum-told .given .1) in
-    sym (left-leaves _ _ (passed-readable _ _ _ passed) (lodged-valid _ _ _ passed) Greedy _ (c .before .flags-left2 .ensures) .fits)
+    sym (left-leaves _ _ (passed-readable _ _ _ _ passed) (lodged-valid _ _ _ passed) Greedy _ (c .before .flags-left2 .ensures) .fits)
 
 finish-requires-2 : tie.Need-finish-requires-2
 finish-requires-2 c κs = search needs
@@ -82,9 +82,9 @@ returns-2 c =
     let checked = c .before .before .before .before .before .before .before .before .before .before .before .before .before .before .before .before .check-lodged .ensures in
     let valid = c .before .before .before .before .before .before .before .before .before .before .before .before .before .before .enum-told .given .1 in
     let passed = nothing-refused _ _ _ _ _ _ asked checked _ valid in
-    let readable = passed-readable _ _ _ passed in
-    let left = left-leaves _ _ (passed-readable _ _ _ passed) (lodged-valid _ _ _ passed) Plain _ (c .before .before .before .before .before .before .before .before .before .before .before .before .before .flags-left .ensures) in
-    let left′ = left-leaves _ _ (passed-readable _ _ _ passed) (lodged-valid _ _ _ passed) Greedy _ (c .before .before .before .before .before .before .before .flags-left2 .ensures) in
+    let readable = passed-readable _ _ _ _ passed in
+    let left = left-leaves _ _ (passed-readable _ _ _ _ passed) (lodged-valid _ _ _ passed) Plain _ (c .before .before .before .before .before .before .before .before .before .before .before .before .before .flags-left .ensures) in
+    let left′ = left-leaves _ _ (passed-readable _ _ _ _ passed) (lodged-valid _ _ _ passed) Greedy _ (c .before .before .before .before .before .before .before .flags-left2 .ensures) in
     both-kept _ _ _ _ _ _ (c .before .before .before .before .before .before .before .before .before .before .before .before .before .before .before .before .before .before .shorter .ensures) (room-checked _ _ _ _ _ _ asked checked) _ _ _ _ _ _ _ _ _ valid (left .same) (left′ .same)
     (keeps _ _ _ _ _ _ _ readable (left .fits) (c .before .before .before .before .before .before .before .before .before .before .finish .ensures)) (keeps _ _ _ _ _ _ _ readable (left′ .fits) (c .before .before .before .before .finish2 .ensures))
 

@@ -31,17 +31,17 @@ enum-told c = search needs
 flags-left-requires : tie.Need-flags-left-requires
 flags-left-requires c κs =
     let passed = nothing-refused _ _ _ _ _ _ (c .before .before .before .check-room .ensures) (c .before .before .check-lodged .ensures) _ (c .enum-told .given .1) in
-    (passed-readable _ _ _ passed, lodged-valid _ _ _ passed)
+    (passed-readable _ _ _ _ passed, lodged-valid _ _ _ passed)
 
 array-share-prefix-flags : tie.Need-array-share-prefix-flags
 array-share-prefix-flags c =
     let passed = nothing-refused _ _ _ _ _ _ (c .before .before .before .before .check-room .ensures) (c .before .before .before .check-lodged .ensures) _ (c .before .enum-told .given .1) in
-    left-leaves _ _ (passed-readable _ _ _ passed) (lodged-valid _ _ _ passed) (c .before .before .before .before .before .before .before .before .args .by) _ (c .flags-left .ensures) .within
+    left-leaves _ _ (passed-readable _ _ _ _ passed) (lodged-valid _ _ _ passed) (c .before .before .before .before .before .before .before .before .args .by) _ (c .flags-left .ensures) .within
 
 slice-aggregate-finish : tie.Need-slice-aggregate-finish
 slice-aggregate-finish c =
     let passed = nothing-refused _ _ _ _ _ _ (c .before .before .before .before .before .check-room .ensures) (c .before .before .before .before .check-lodged .ensures) _ (c .before .before .enum-told .given .1) in
-    sym (left-leaves _ _ (passed-readable _ _ _ passed) (lodged-valid _ _ _ passed) (c .before .before .before .before .before .before .before .before .before .args .by) _ (c .before .flags-left .ensures) .fits)
+    sym (left-leaves _ _ (passed-readable _ _ _ _ passed) (lodged-valid _ _ _ passed) (c .before .before .before .before .before .before .before .before .before .args .by) _ (c .before .flags-left .ensures) .fits)
 
 finish-requires : tie.Need-finish-requires
 finish-requires c κs = search needs
@@ -58,9 +58,9 @@ returns-2 c =
     let checked = c .before .before .before .before .before .before .before .before .before .check-lodged .ensures in
     let valid = c .before .before .before .before .before .before .before .enum-told .given .1 in
     let passed = nothing-refused _ _ _ _ _ _ asked checked _ valid in
-    let left = left-leaves _ _ (passed-readable _ _ _ passed) (lodged-valid _ _ _ passed) (c .before .before .before .before .before .before .before .before .before .before .before .before .before .before .args .by) _ (c .before .before .before .before .before .before .flags-left .ensures) in
+    let left = left-leaves _ _ (passed-readable _ _ _ _ passed) (lodged-valid _ _ _ passed) (c .before .before .before .before .before .before .before .before .before .before .before .before .before .before .args .by) _ (c .before .before .before .before .before .before .flags-left .ensures) in
     rw (c .told .ensures .0, c .told .ensures .1)
-    (answers-kept _ _ _ _ _ _ (room-checked _ _ _ _ _ _ asked checked) _ _ _ _ _ valid (left .same) (keeps _ _ _ _ _ _ _ (passed-readable _ _ _ passed) (left .fits) (c .before .before .before .finish .ensures)))
+    (answers-kept _ _ _ _ _ _ (room-checked _ _ _ _ _ _ asked checked) _ _ _ _ _ valid (left .same) (keeps _ _ _ _ _ _ _ (passed-readable _ _ _ _ passed) (left .fits) (c .before .before .before .finish .ensures)))
 
 pub eliminate-plan-spec : {M : Type 1} → statement M
 eliminate-plan-spec =

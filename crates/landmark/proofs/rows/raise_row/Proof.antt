@@ -42,7 +42,7 @@ add-from c = search needs
 loop-less : tie.Need-loop-less Inv-loop μ-loop
 loop-less c =
     let turn = c .before .before .before .before .before .before .before in
-    rest-shorter (turn .before .before .before .before .before .before .args .words .now) _ _ (c .before .rest .ensures) (turn .if1 .taken)
+    rest-shorter _ _ (c .before .rest .ensures) (turn .if1 .taken)
 
 loop-again : tie.Need-loop-again Inv-loop μ-loop
 loop-again c =
@@ -56,7 +56,7 @@ loop-again c =
 loop-less-2 : tie.Need-loop-less-2 Inv-loop μ-loop
 loop-less-2 c =
     let turn = c .before .before .before .before .before .before .before in
-    rest-shorter (turn .before .before .before .before .before .before .args .words .now) _ _ (c .before .rest .ensures) (turn .if1 .taken)
+    rest-shorter _ _ (c .before .rest .ensures) (turn .if1 .taken)
 
 loop-again-2 : tie.Need-loop-again-2 Inv-loop μ-loop
 loop-again-2 c =

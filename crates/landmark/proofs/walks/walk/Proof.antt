@@ -36,14 +36,14 @@ add-flag c = search needs
 flag-requires : tie.Need-flag-requires Inv-loop μ-loop
 flag-requires c κs = search needs
 
-add-write-facts : tie.Need-add-write-facts Inv-loop μ-loop
-add-write-facts c = search needs
+add-write-effects : tie.Need-add-write-effects Inv-loop μ-loop
+add-write-effects c = search needs
 
-cast-write-facts : tie.Need-cast-write-facts Inv-loop μ-loop
-cast-write-facts c = search needs
+cast-write-effects : tie.Need-cast-write-effects Inv-loop μ-loop
+cast-write-effects c = search needs
 
-write-facts-requires : tie.Need-write-facts-requires Inv-loop μ-loop
-write-facts-requires c κs = search needs
+write-effects-requires : tie.Need-write-effects-requires Inv-loop μ-loop
+write-effects-requires c κs = search needs
 
 add-i : tie.Need-add-i Inv-loop μ-loop
 add-i c = search needs
@@ -54,7 +54,7 @@ loop-less c = search needs
 loop-again : tie.Need-loop-again Inv-loop μ-loop
 loop-again c =
     walking-more _ _ _ _ _ _ _ _ _ _ (c .before .before .before .before .before .before .before .before .before .before .before .before .before .before .before .before .loop .inv) (c .before .before .before .before .before .before .before .before .before .before .before .before .before .before .before .loop-test .taken) _ _ _ _ _ (c .before .before .before .before .before .before .before .before .before .before .before .before .before .facts-of .ensures .0) (c .before .before .before .before .before .before .before .before .before .before .before .before .before .facts-of .ensures .1)
-    (c .before .before .before .before .before .before .before .before .before .before .note .ensures) (c .before .before .before .before .before .before .before .flag .ensures) (c .before .before .before .before .write-facts .ensures) (search needs) (search needs) (search needs)
+    (c .before .before .before .before .before .before .before .before .before .before .note .ensures) (c .before .before .before .before .before .before .before .flag .ensures) (c .before .before .before .before .write-effects .ensures) (search needs) (search needs) (search needs)
 
 same-length : tie.Need-same-length Inv-loop μ-loop
 same-length c = search needs
@@ -82,9 +82,9 @@ walk-spec =
     note-requires
     add-flag
     flag-requires
-    add-write-facts
-    cast-write-facts
-    write-facts-requires
+    add-write-effects
+    cast-write-effects
+    write-effects-requires
     add-i
     loop-less
     loop-again

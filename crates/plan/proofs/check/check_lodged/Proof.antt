@@ -16,7 +16,7 @@ refused-requires : tie.Need-refused-requires
 refused-requires c κs = search needs
 
 returns : tie.Need-returns
-returns c = rw (c .refused .ensures .0, c .refused .ensures .1) (read-refused _ _ _ _ (c .before .before .before .before .check-read .ensures) _ (c .before .before .read .given .1))
+returns c = rw (c .refused .ensures .0, c .refused .ensures .1) (read-refused _ (c .before .before .before .before .before .before .before .pre) _ _ _ _ (c .before .before .before .before .check-read .ensures) _ (c .before .before .read .given .1))
 
 enum-told : tie.Need-enum-told
 enum-told c = search needs
@@ -28,7 +28,7 @@ refused-requires-2 : tie.Need-refused-requires-2
 refused-requires-2 c κs = search needs
 
 returns-2 : tie.Need-returns-2
-returns-2 c = rw (c .refused2 .ensures .0, c .refused2 .ensures .1) (besides-refused _ _ _ _ (c .before .before .before .before .before .before .check-read .ensures) (c .before .before .before .before .enum-told .given .1) _ (c .before .before .besides .given .1))
+returns-2 c = rw (c .refused2 .ensures .0, c .refused2 .ensures .1) (besides-refused _ (c .before .before .before .before .before .before .before .before .before .pre) _ _ _ _ (c .before .before .before .before .before .before .check-read .ensures) (c .before .before .before .before .enum-told .given .1) _ (c .before .before .besides .given .1))
 
 enum-told-2 : tie.Need-enum-told-2
 enum-told-2 c = search needs
@@ -61,13 +61,13 @@ returns-3 : tie.Need-returns-3
 returns-3 c =
     let asked = c .before .before .before .before .before .before .before .before in
     rw (c .refused3 .ensures .0, c .refused3 .ensures .1)
-    (not-valid _ _ _ _ (asked .before .before .before .before .before .check-read .ensures) (asked .before .before .before .enum-told .given .1) (asked .before .enum-told2 .given .1) _ _ _ _ _ (asked .initial .ensures) (c .before .before .before .before .before .before .before .size .ensures .0)
+    (not-valid _ (asked .before .before .before .before .before .before .before .before .pre) _ _ _ _ (asked .before .before .before .before .before .check-read .ensures) (asked .before .before .before .enum-told .given .1) (asked .before .enum-told2 .given .1) _ _ _ _ _ (asked .initial .ensures) (c .before .before .before .before .before .before .before .size .ensures .0)
     (rw (c .before .before .before .before .before .before .before .size .ensures .0) refl) (c .before .before .before .before .before .walk .ensures) _ (c .before .before .fault .given .1))
 
 returns-4 : tie.Need-returns-4
 returns-4 c =
     let asked = c .before .before .before .before .before .before .before in
-    valid _ _ _ _ (asked .before .before .before .before .before .check-read .ensures) (asked .before .before .before .enum-told .given .1) (asked .before .enum-told2 .given .1) _ _ _ _ _ (asked .initial .ensures) (c .before .before .before .before .before .before .size .ensures .0)
+    valid _ (asked .before .before .before .before .before .before .before .before .pre) _ _ _ _ (asked .before .before .before .before .before .check-read .ensures) (asked .before .before .before .enum-told .given .1) (asked .before .enum-told2 .given .1) _ _ _ _ _ (asked .initial .ensures) (c .before .before .before .before .before .before .size .ensures .0)
     (rw (c .before .before .before .before .before .before .size .ensures .0) refl) (c .before .before .before .before .walk .ensures) _ (c .before .enum-told3 .given .1) refl
 
 pub check-lodged-spec : {M : Type 1} → statement M

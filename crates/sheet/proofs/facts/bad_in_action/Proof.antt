@@ -16,6 +16,9 @@ enum-known-found c = search needs
 enum-told : tie.Need-enum-told
 enum-told c = search needs
 
+group-requires : tie.Need-group-requires
+group-requires c κs = search needs
+
 bad-in-group-requires-2 : tie.Need-bad-in-group-requires-2
 bad-in-group-requires-2 c κs = search needs
 
@@ -23,7 +26,10 @@ returns : tie.Need-returns
 returns c = in-precondition _ _ _ _ (c .before .before .before .before .facts-of .ensures .0) (c .before .before .before .bad-in-group .ensures) _ (c .before .found .given .1)
 
 returns-2 : tie.Need-returns-2
-returns-2 c = not-in-precondition _ _ _ _ (c .before .before .before .before .facts-of .ensures .0) (c .before .before .before .bad-in-group .ensures) _ _ (c .before .enum-told .given .1) (c .before .before .before .before .facts-of .ensures .1) (c .bad-in-group2 .ensures)
+returns-2 c =
+    let found = c .before .before .before .before in
+    not-in-precondition _ _ _ _ (found .before .facts-of .ensures .0) (found .bad-in-group .ensures) _ _ _ (c .before .before .enum-told .given .1) (found .before .facts-of .ensures .1)
+    (c .before .group .ensures) (c .bad-in-group2 .ensures)
 
 pub bad-in-action-spec : {M : Type 1} → statement M
 bad-in-action-spec =
@@ -33,6 +39,7 @@ bad-in-action-spec =
     bad-in-group-requires
     enum-known-found
     enum-told
+    group-requires
     bad-in-group-requires-2
     returns
     returns-2)

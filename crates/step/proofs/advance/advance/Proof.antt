@@ -16,8 +16,8 @@ enum-told c = search needs
 enum-told-2 : tie.Need-enum-told-2
 enum-told-2 c = search needs
 
-write-facts-requires : tie.Need-write-facts-requires
-write-facts-requires c κs = search needs
+write-effects-requires : tie.Need-write-effects-requires
+write-effects-requires c κs = search needs
 
 same-length : tie.Need-same-length
 same-length c = search needs
@@ -32,7 +32,7 @@ returns-2 : tie.Need-returns-2
 returns-2 c =
     let tested = c .before .before .before .before in
     let facts = tested .before .before .before .before .facts-of .ensures in
-    advances-done _ _ _ _ _ (facts .0) (tested .before .before .first-failing .ensures) _ _ (tested .enum-told2 .given .1) (facts .1) (c .before .before .write-facts .ensures)
+    advances-done _ _ _ _ _ (facts .0) (tested .before .before .first-failing .ensures) _ _ (tested .enum-told2 .given .1) (facts .1) (c .before .before .write-effects .ensures)
 
 pub advance-spec : {M : Type 1} → statement M
 advance-spec =
@@ -42,7 +42,7 @@ advance-spec =
     first-failing-requires
     enum-told
     enum-told-2
-    write-facts-requires
+    write-effects-requires
     same-length
     returns
     same-length-2

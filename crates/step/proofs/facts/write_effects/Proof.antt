@@ -1,17 +1,17 @@
--- `write_facts` meets its contract. The loop's invariant: writing what is left makes of the state what writing all makes, and no length changes. The measure is the number of words left. Assumes nothing.
-use Rattle.sheet.proofs.GroupLaws.{rest-shorter}
+-- `write_effects` meets its contract. The loop's invariant: writing what is left makes of the state what writing all makes, and no length changes. The measure is the number of words left. Assumes nothing.
+use Rattle.sheet.proofs.EffectLaws.{effects-shorter}
 use Rattle.step.proofs.FailingLaws.{assign-over, assign-next}
-use Rattle.sheet.specs.between.Group.{facts-in}
+use Rattle.sheet.specs.between.Effects.{written-in}
 use Rattle.sas.specs.Plan.{assign}
 use lib.ListN.{length}
 use Prim.Native.Nat.{_-_}
 use mathlib.Core.Path.{_≡_, refl, sym, _∙_}
 use borrow.Author.Needs.{needs}
-use Rattle.step.proofs.facts.write_facts.Statement.{statement}
-use Rattle.step.proofs.facts.write_facts.Tie as tie
+use Rattle.step.proofs.facts.write_effects.Statement.{statement}
+use Rattle.step.proofs.facts.write_effects.Tie as tie
 
 abbrev Inv-loop : tie.InvT-loop
-Inv-loop words state₀ rest₀ state rest = (assign state (facts-in words rest) ≡ assign state₀ (facts-in words rest₀)) × (length state ≡ length state₀)
+Inv-loop words state₀ rest₀ state rest = (assign state (written-in words rest) ≡ assign state₀ (written-in words rest₀)) × (length state ≡ length state₀)
 
 abbrev μ-loop : tie.MeasureT-loop
 μ-loop words state₀ rest₀ state rest = rest .end - rest .at
@@ -38,7 +38,7 @@ rest-requires : tie.Need-rest-requires Inv-loop μ-loop
 rest-requires c κs = search needs
 
 loop-less : tie.Need-loop-less Inv-loop μ-loop
-loop-less c = rest-shorter (c .before .before .before .before .before .before .before .before .before .before .before .args .words .now) _ _ (c .rest .ensures) (c .before .before .before .before .before .before .if1 .taken)
+loop-less c = effects-shorter (c .before .before .before .before .before .before .before .before .before .before .before .args .words .now) _ _ (c .rest .ensures) (c .before .before .before .before .before .before .if1 .taken)
 
 loop-again : tie.Need-loop-again Inv-loop μ-loop
 loop-again c =
@@ -51,8 +51,8 @@ same-length c = search needs
 returns : tie.Need-returns Inv-loop μ-loop
 returns c = sym (assign-over _ _ _ (c .if1 .left)) ∙ c .before .before .loop .inv .0
 
-pub write-facts-spec : {M : Type 1} → statement M
-write-facts-spec =
+pub write-effects-spec : {M : Type 1} → statement M
+write-effects-spec =
     tie.close
     (tie.spec
     Inv-loop
