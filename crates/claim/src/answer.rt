@@ -1,7 +1,6 @@
 // What the licence of a list answers.
 use mask::Mask;
 use minimal::within::Shortened;
-use minimal::within::refused;
 use plan::check::Answer;
 use refusal::Refusal;
 use tally::Tally;
@@ -30,7 +29,7 @@ pub(crate) fn refuse(refusal: Refusal) -> Licensed
 {
     Licensed {
         claim: Claim::Open(0),
-        told: refused(refusal),
+        told: Shortened::refused(refusal),
     }
 }
 

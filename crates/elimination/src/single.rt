@@ -5,8 +5,6 @@ use plan::check::Answer;
 use plan::check::check_lodged;
 use plan::limits::Plan;
 use service::answer::Reduced;
-use service::answer::refused;
-use service::answer::told;
 use service::finish::finish;
 use service::room::check_room;
 ghost use mathlib.Core.Path.{_≡_};
@@ -46,9 +44,9 @@ pub fn eliminate_plan(words: &[u32], plan: &[u32], out: &mut [u32], by: Eliminat
     let checked = check_lodged(words, plan, Plan::STEPS, check_room(plan.len(), out.len()));
     let answer = checked.answer;
     if let Answer::Refused(refusal) = answer {
-        return refused(refusal);
+        return Reduced::refused(refusal);
     }
     let flags = flags_left(words, plan, by);
     let n = plan.len();
-    told(finish(words, plan, &flags[..n], out))
+    Reduced::told(finish(words, plan, &flags[..n], out))
 }

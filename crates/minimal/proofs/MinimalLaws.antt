@@ -7,6 +7,7 @@ use mathlib.Core.Bool.{true}
 use mathlib.Core.Option.{none, some}
 use mathlib.Core.List.{List, []}
 use lib.ListN.{length, length-map, length-replicate}
+use lib.Seq.{length-take-le}
 use borrow.Author.Tests.{lt-ltb, le-ltb}
 use Rattle.refusal.specs.declared.Refusal.{Refusal}
 use Rattle.refusal.specs.declared.Refusal.the-variants.{Unmarked}
@@ -22,7 +23,7 @@ use Rattle.reduction.proofs.LandmarksKept.{landmarks-kept}
 use Rattle.tally.specs.declared.Tally.{Tally}
 use Rattle.tally.proofs.TallyLaws.{same-tally}
 use Rattle.mask.specs.Mask.{mask-bits, mask-words, ones-of}
-use Rattle.mask.proofs.MaskTheorem.{ones-are-kept, mask-keeps}
+use Rattle.mask.proofs.MaskTheorem.{ones-are-kept}
 use Rattle.sheet.specs.Decode.{goal, initial}
 use Rattle.plan.specs.declared.check.Answer.{Answer}
 use Rattle.plan.specs.declared.check.Answer.the-variants.{Valid, Refused}
@@ -36,16 +37,16 @@ use Rattle.landmark.proofs.MarkLaws.{marks-leave}
 use Rattle.landmark.proofs.MarkTheorem.{marks-length}
 use Rattle.service.specs.declared.finish.Kept.{Kept}
 use Rattle.service.specs.between.Held.{mask, Leaves}
-use Rattle.service.specs.between.Kept.{Keeps}
+use Rattle.service.specs.between.Kept.{Finishes}
 use Rattle.service.specs.Reduced.{tally-left, room-checks, reduction-checks}
 use Rattle.service.proofs.LodgedLaws.{lodged-valid}
-use Rattle.service.proofs.AnswerLaws.{answers-refused, answers-kept}
+use Rattle.service.proofs.AnswerLaws.{keeps, answers-refused, answers-kept}
 use Rattle.choice.specs.between.Chosen.{most-choices, open-before}
 use Rattle.choice.proofs.ChosenLaws.{open-counted}
-use Rattle.search.specs.between.Told.{Tells, Finds}
+use Rattle.search.specs.between.Told.{Finds}
 use Rattle.minimal.specs.declared.within.Shortened.{Shortened}
 use Rattle.minimal.specs.Minimised.{unmarked-checks, minimal-checks, minimal-of, Minimises}
-use Rattle.minimal.specs.between.Written.{Writes, Refuses}
+use Rattle.minimal.specs.between.Refused.{Refuses}
 
 marks-kept : (w l : List ℕ) → Readable w l → Flags-kept (meets (goal w)) (initial w) (steps w l) (marks w l)
 unfolding marks
@@ -97,14 +98,10 @@ module _ (limit : ℕ) (w l before : List ℕ) (v : Verdict) (given : Answer) (f
     pub marks-left : Leaves l (marks w l) flags
     marks-left = marks-leave w l flags (rw passed at (checked .flagged))
 
-    written-keeps : (m : Reduction) (k r : Kept) (after : List ℕ) → Tells w l m k → Writes l k before r after → Keeps w l m before (r .tally) (r .mask .words) after
-    written-keeps m k r after tells writes =
-        let few : length m ≤ mask-bits = omega (arith, tells .fits, readable .few) in
-        record {
-          counted = same-tally _ _ (writes .cost ∙ ap (λ t. t .cost) (tells .counted)) (writes .steps ∙ rw (tells .told-by) (ones-are-kept m few));
-          told-by = writes .told-by ∙ tells .told-by;
-          written = writes .written ∙ rw (tells .told-by, mask-keeps m l few (tells .fits));
-        }
+    -- what the search finds has a flag for each step
+    pub room-for-flags : {f kept : Reduction} {t : Tally} → Finds w l f t kept → (length l ≤ length kept) × (length l ≡ length (mask l kept))
+    room-for-flags {kept = kept} found =
+        (omega (arith, readable .few, found .sized), sym (length-take-le (length l) kept (omega (arith, readable .few, found .sized))))
 
     -- the marks are counted in their mask
     module _ (words : List ℕ) (ones : ℕ) (told-by : words ≡ mask-words (mask l flags)) (counted : ones ≡ ones-of words) where
@@ -128,28 +125,31 @@ module _ (limit : ℕ) (w l before : List ℕ) (v : Verdict) (given : Answer) (f
           refuses-all limit w l before (Unmarked (length l - ones)) r (only-unmarked ∙ fires) refuses
 
       -- or the list is shortened
-      pub minimises : (k left : Kept) (after : List ℕ) → limit ≤ most-choices → length l - ones ≤ limit → Finds w l (mask l flags) lodged k → Writes l k before left after
-          → Minimises limit w l before (record { answer = Valid (left .tally); mask = left .mask; lodged = lodged; marked = ones }) after
-      unfolding unmarked-checks
-      minimises k left after within h found writes =
-          let few : open-before (marks w l) (length l) ≤ most-choices =
-          omega (arith, rw (marks-length w l) at (open-counted (marks w l)), ones-marked) in
-          let tells : Tells w l (minimal-of w l) k =
-          found .tells
-          (record {
-            readable = readable;
-            fits = marks-left .fits;
-            valid = lodged-valid _ w l passed;
-            flagged = rw (marks-left .same) (marks-kept w l readable);
-            few = rw (marks-left .same) few;
-          })
-          (lodged-is ∙ whole-tally) in
-          let passes : answer (minimal-checks limit w l (length before)) ≡ none =
-          only-unmarked ∙ answer-passes _ [] (rw (← others, le-ltb limit (length l - ones) h)) ∙ answer-nothing in
-          record {
-            answers =
-                answers-kept _ w l (minimal-of w l) before (Valid lodged) (sym passes) lodged (minimal-of w l) after (left .mask .words) (left .tally) refl refl
-                (written-keeps (minimal-of w l) k left after tells writes);
-            lodged = rw passes lodged-is;
-            marks = rw passes ones-marked;
-          }
+      module _ (kept : Reduction) (within : limit ≤ most-choices) (h : length l - ones ≤ limit) (found : Finds w l (mask l flags) lodged kept) where
+        kept-left : Leaves l (minimal-of w l) kept
+        kept-left =
+            let few : open-before (marks w l) (length l) ≤ most-choices =
+            omega (arith, rw (marks-length w l) at (open-counted (marks w l)), ones-marked) in
+            found .leaves
+            (record {
+              readable = readable;
+              fits = marks-left .fits;
+              valid = lodged-valid _ w l passed;
+              flagged = rw (marks-left .same) (marks-kept w l readable);
+              few = rw (marks-left .same) few;
+            })
+            (lodged-is ∙ whole-tally)
+
+        pub minimises : (left : Kept) (after : List ℕ) → Finishes w l (mask l kept) before (left .tally) (left .mask .words) after
+            → Minimises limit w l before (record { answer = Valid (left .tally); mask = left .mask; lodged = lodged; marked = ones }) after
+        unfolding unmarked-checks
+        minimises left after finishes =
+            let passes : answer (minimal-checks limit w l (length before)) ≡ none =
+            only-unmarked ∙ answer-passes _ [] (rw (← others, le-ltb limit (length l - ones) h)) ∙ answer-nothing in
+            record {
+              answers =
+                  answers-kept _ w l (minimal-of w l) before (Valid lodged) (sym passes) lodged (mask l kept) after (left .mask .words) (left .tally) refl
+                  (kept-left .same) (keeps w l (mask l kept) before after (left .mask .words) (left .tally) readable (kept-left .fits) finishes);
+              lodged = rw passes lodged-is;
+              marks = rw passes ones-marked;
+            }

@@ -2,17 +2,16 @@
 use landmark::marks::mark_lodged;
 use mask::Mask;
 use mask::mask_of;
-use mask::write_kept;
 use plan::check::Answer;
 use refusal::Refusal;
 use search::best::minimal;
-use service::finish::Kept;
+use service::finish::finish;
 use service::room::check_room;
 use tally::Tally;
 ghost use Prim.Native.Nat.{_≤_};
 ghost use Rattle.choice.specs.between.Chosen.{most-choices};
 ghost use Rattle.minimal.specs.Minimised.{Minimises};
-ghost use Rattle.minimal.specs.between.Written.{Writes, Refuses};
+ghost use Rattle.minimal.specs.between.Refused.{Refuses};
 
 // The tally of the list left or a refusal, the mask of the steps kept, and of the lodged list its tally and the number
 // of its marked steps: all zero on a refusal.
@@ -23,32 +22,19 @@ pub struct Shortened {
     pub marked: u32,
 }
 
-// A refusal, with its zeros.
-pub fn refused(refusal: Refusal) -> Shortened
-    ensures { λ r. ⌜ Refuses refusal r ⌝ }
-{
-    Shortened {
-        answer: Answer::Refused(refusal),
-        mask: Mask {
-            words: [0u64; Mask::WORDS],
-        },
-        lodged: Tally::new(),
-        marked: 0,
-    }
-}
-
-// Writes the kept steps of a reduction to the front of `out`. Their number is that of the ones in the mask.
-fn write_out(plan: &[u32], kept: Kept, out: &mut [u32]) -> Kept
-    ensures { λ r. ⌜ Writes (now (plan .entry)) kept (now (out .entry)) r (now (out .exit)) ⌝ }
-{
-    let tally = kept.tally;
-    let mask = kept.mask;
-    let cost = tally.cost;
-    let steps = mask.count();
-    write_kept(mask, plan, out);
-    Kept {
-        tally: Tally { cost, steps },
-        mask,
+impl Shortened {
+    // A refusal, with its zeros.
+    pub fn refused(refusal: Refusal) -> Shortened
+        ensures { λ r. ⌜ Refuses refusal r ⌝ }
+    {
+        Shortened {
+            answer: Answer::Refused(refusal),
+            mask: Mask {
+                words: [0u64; Mask::WORDS],
+            },
+            lodged: Tally::new(),
+            marked: 0,
+        }
     }
 }
 
@@ -62,15 +48,16 @@ pub(crate) fn reduce_within(words: &[u32], plan: &[u32], out: &mut [u32], limit:
     let answer = checked.answer;
     let flags = checked.flags;
     match answer {
-        Answer::Refused(refusal) => refused(refusal),
+        Answer::Refused(refusal) => Shortened::refused(refusal),
         Answer::Valid(lodged) => {
             let n = plan.len();
             let marked = mask_of(&flags[..n]).count();
             let unmarked = n - marked as usize;
             if limit < unmarked {
-                return refused(Refusal::Unmarked(unmarked));
+                return Shortened::refused(Refusal::Unmarked(unmarked));
             }
-            let left = write_out(plan, minimal(words, plan, &flags[..n], lodged), out);
+            let kept = minimal(words, plan, &flags[..n], lodged);
+            let left = finish(words, plan, &kept[..n], out);
             let tally = left.tally;
             let mask = left.mask;
             Shortened {

@@ -29,15 +29,17 @@ pub struct Checked {
     pub state: State,
 }
 
-// A refusal, with its state of zeros.
-fn refused(refusal: Refusal) -> Checked
-    ensures { λ r. ⌜ (r .answer ≡ Refused refusal) × (r .state .values ≡ no-state) ⌝ }
-{
-    Checked {
-        answer: Answer::Refused(refusal),
-        state: State {
-            values: [0u32; Sheet::VARIABLES],
-        },
+impl Checked {
+    // A refusal, with its state of zeros.
+    fn refused(refusal: Refusal) -> Checked
+        ensures { λ r. ⌜ (r .answer ≡ Refused refusal) × (r .state .values ≡ no-state) ⌝ }
+    {
+        Checked {
+            answer: Answer::Refused(refusal),
+            state: State {
+                values: [0u32; Sheet::VARIABLES],
+            },
+        }
     }
 }
 
@@ -50,17 +52,17 @@ pub fn check_lodged(words: &[u32], plan: &[u32], limit: usize, besides: Verdict)
 {
     let read = check_read(words, plan, limit);
     if let Verdict::Refused(refusal) = read {
-        return refused(refusal);
+        return Checked::refused(refusal);
     }
     if let Verdict::Refused(refusal) = besides {
-        return refused(refusal);
+        return Checked::refused(refusal);
     }
     let mut values = initial(words);
     let n = size(words);
     let walked = walk(words, plan, &mut values[..n]);
     let fault = walked.fault;
     match fault {
-        Place::At(i) => refused(Refusal::NotAPlan(i)),
+        Place::At(i) => Checked::refused(Refusal::NotAPlan(i)),
         Place::Nowhere => {
             let tally = walked.tally;
             Checked {

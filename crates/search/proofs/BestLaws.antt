@@ -26,10 +26,8 @@ use Rattle.tally.specs.declared.Tally.{Tally}
 use Rattle.sheet.specs.Decode.{domains, initial, goal, action}
 use Rattle.step.specs.State.{in-array}
 use Rattle.plan.specs.Limits.{most-steps}
-use Rattle.plan.specs.Readable.{Readable}
 use Rattle.plan.specs.Valid.{steps}
 use Rattle.cuts.specs.between.Bits.{Told-behind}
-use Rattle.service.specs.declared.finish.Kept.{Kept}
 use Rattle.service.specs.Reduced.{tally-left}
 use Rattle.service.specs.between.Tallied.{tallied}
 use Rattle.choice.specs.between.Chosen.{most-choices, open-before, chosen}
@@ -38,7 +36,7 @@ use Rattle.choice.specs.between.Rows.{struck-row, Rowed}
 use Rattle.choice.proofs.ChosenLaws.{chosen-stays, chosen-all}
 use Rattle.choice.proofs.RowTheorem.{start-row-writes, costs-long}
 use Rattle.search.specs.declared.chosen.Chosen.{Chosen}
-use Rattle.search.specs.between.Told.{Tells, Chooses, Lent, Lent-rows, Begins, Finds}
+use Rattle.search.specs.between.Told.{Chooses, Lent, Lent-rows, Begins, Finds}
 use Rattle.search.specs.between.Unpacked.{Unpacks}
 use Rattle.search.proofs.SoFarLaws.{tally-told}
 use Rattle.search.proofs.UnpackLaws.{unpacked-same}
@@ -146,18 +144,16 @@ too-many w l flags lodged wanted useless count bits costs₀ needs₀ costs need
     record { found = λ lent told. absurd (omega (arith, rowed .counted, lent .few)) }
 
 -- what is unpacked of the choices found
-pub finds : (w l : List ℕ) (flags kept : Reduction) (lodged : Tally) (bits : ℕ) (after : Kept) → Begins w l flags lodged bits → Unpacks flags bits kept → length l ≤ most-steps
-    → (Readable w l → length (take (length l) kept) ≡ length l → Tells w l (take (length l) kept) after) → Finds w l flags lodged after
-finds w l flags kept lodged bits after begun unpacks few told =
+pub finds : (w l : List ℕ) (flags kept : Reduction) (lodged : Tally) (bits : ℕ) → Begins w l flags lodged bits → Unpacks flags bits kept → Finds w l flags lodged kept
+finds w l flags kept lodged bits begun unpacks =
     record {
-      tells = λ lent tallies.
+      sized = unpacks .sized;
+      leaves = λ lent tallies.
           let m : Reduction = minimal (meets (goal w)) (initial w) (steps w l) in
           let valid = minimal-valid w l flags lent in
+          let few : length l ≤ most-steps = lent .readable .few in
           let long : length m ≡ length l = valid .fits ∙ length-map l (action w) in
           let same : take (length l) kept ≡ m =
           unpacked-same flags m kept bits (length l) unpacks few (lent .fits) long (lent .flagged m valid) (lent .few) (begun .found lent tallies) in
-          rw same at (told (lent .readable) (ap length same ∙ long));
+          record { within = omega (arith, unpacks .sized); fits = ap length same ∙ long; same = same };
     }
-
-pub finds-nothing : (w l : List ℕ) (flags : Reduction) (lodged : Tally) (after : Kept) → most-steps < length l → Finds w l flags lodged after
-finds-nothing w l flags lodged after long = record { tells = λ lent told. absurd (omega (arith, lent .readable .few)) }

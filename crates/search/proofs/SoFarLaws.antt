@@ -37,7 +37,7 @@ use Rattle.service.proofs.LessLaws.{less-lower}
 use Rattle.choice.specs.between.Chosen.{most-choices, open-before, weight, chosen}
 use Rattle.choice.proofs.ChosenLaws.{open-unflagged, open-rises, chosen-unflagged, chosen-below, chosen-alike, chosen-stays}
 use Rattle.search.specs.declared.chosen.Chosen.{Chosen}
-use Rattle.search.specs.between.Told.{Tells, Chooses}
+use Rattle.search.specs.between.Told.{Chooses}
 use Rattle.search.specs.between.Unpacked.{choice-bits, bit-of}
 
 -- whether a tally is the lower, by its order
@@ -161,7 +161,3 @@ chooses-lower w l flags m b k best readable tells told =
 -- the tally that the code makes of flags, and with their mask it tells the reduction that they are
 pub tally-told : (w l : List ℕ) (m : Reduction) (t : Tally) → t ≡ tallied w l m → Readable w l → length m ≡ length l → t ≡ tally-left w l m
 tally-told w l m t counts readable fits = counts ∙ plainly w l m readable fits ∙ same-tally _ _ refl (kept-length m l fits)
-
-pub told-flags : (w l : List ℕ) (m : Reduction) (t : Tally) (words : List ℕ) → t ≡ tallied w l m → words ≡ mask-words m → Readable w l → length m ≡ length l
-    → Tells w l m (record { tally = t; mask = record { words = words } })
-told-flags w l m t words counts told-by readable fits = record { fits = fits; counted = tally-told w l m t counts readable fits; told-by = told-by }

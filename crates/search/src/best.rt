@@ -11,29 +11,13 @@ use choice::rows::MOST;
 use choice::rows::STRUCK;
 use choice::rows::fill_rows;
 use cuts::bits::bits_behind;
-use mask::mask_of;
 use plan::limits::Plan;
-use service::finish::Kept;
 use service::tallied::tally_of;
 use tally::Tally;
 ghost use mathlib.Core.Path.{_≡_};
 ghost use Prim.Native.Nat.{_+_, _-_, _≤_, _^_};
-ghost use lib.ListN.{length};
-ghost use Rattle.plan.specs.Readable.{Readable};
 ghost use Rattle.choice.specs.between.Chosen.{most-choices};
-ghost use Rattle.search.specs.between.Told.{Tells, Begins, Finds};
-
-// The tally and the mask of the reduction that flags are.
-fn kept_of(words: &[u32], plan: &[u32], flags: &[bool]) -> Kept
-    ensures { λ r. ⌜ (Readable (now (words .entry)) (now (plan .entry))
-        → length (now (flags .entry)) ≡ length (now (plan .entry))
-        → Tells (now (words .entry)) (now (plan .entry)) (now (flags .entry)) r) ⌝ }
-{
-    Kept {
-        tally: tally_of(words, plan, flags),
-        mask: mask_of(flags),
-    }
-}
+ghost use Rattle.search.specs.between.Told.{Begins, Finds};
 
 // The choices that keep all of `count` unflagged steps.
 fn all_chosen(count: usize) -> u64
@@ -71,13 +55,10 @@ fn choose(words: &[u32], plan: &[u32], flags: &[bool], lodged: Tally) -> u64
     best.bits
 }
 
-// The minimal reduction of a valid plan with this tally, of which `flags` has steps that every valid reduction keeps.
-pub fn minimal(words: &[u32], plan: &[u32], flags: &[bool], lodged: Tally) -> Kept
+// The flags of the minimal reduction of a valid plan with this tally, of which `flags` has steps that every valid
+// reduction keeps.
+pub fn minimal(words: &[u32], plan: &[u32], flags: &[bool], lodged: Tally) -> [bool; Plan::STEPS]
     ensures { λ r. ⌜ Finds (now (words .entry)) (now (plan .entry)) (now (flags .entry)) lodged r ⌝ }
 {
-    if Plan::STEPS < plan.len() {
-        return kept_of(words, plan, &[]);
-    }
-    let kept = unpack(flags, choose(words, plan, flags, lodged));
-    kept_of(words, plan, &kept[..plan.len()])
+    unpack(flags, choose(words, plan, flags, lodged))
 }

@@ -14,26 +14,28 @@ pub struct Reduced {
     pub mask: Mask,
 }
 
-// A refusal, with its mask of zeros.
-pub fn refused(refusal: Refusal) -> Reduced
-    ensures { λ r. ⌜ (r .answer ≡ Refused refusal) × (r .mask .words ≡ replicate mask-length 0) ⌝ }
-{
-    Reduced {
-        answer: Answer::Refused(refusal),
-        mask: Mask {
-            words: [0u64; Mask::WORDS],
-        },
+impl Reduced {
+    // A refusal, with its mask of zeros.
+    pub fn refused(refusal: Refusal) -> Reduced
+        ensures { λ r. ⌜ (r .answer ≡ Refused refusal) × (r .mask .words ≡ replicate mask-length 0) ⌝ }
+    {
+        Reduced {
+            answer: Answer::Refused(refusal),
+            mask: Mask {
+                words: [0u64; Mask::WORDS],
+            },
+        }
     }
-}
 
-// A reduction, with its tally as the answer.
-pub fn told(kept: Kept) -> Reduced
-    ensures { λ r. ⌜ (r .answer ≡ Valid (kept .tally)) × (r .mask .words ≡ kept .mask .words) ⌝ }
-{
-    let tally = kept.tally;
-    let mask = kept.mask;
-    Reduced {
-        answer: Answer::Valid(tally),
-        mask,
+    // A reduction, with its tally as the answer.
+    pub fn told(kept: Kept) -> Reduced
+        ensures { λ r. ⌜ (r .answer ≡ Valid (kept .tally)) × (r .mask .words ≡ kept .mask .words) ⌝ }
+    {
+        let tally = kept.tally;
+        let mask = kept.mask;
+        Reduced {
+            answer: Answer::Valid(tally),
+            mask,
+        }
     }
 }

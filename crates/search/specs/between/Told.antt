@@ -13,23 +13,17 @@ use Rattle.reduction.specs.between.Sound.{Flags-kept}
 use Rattle.reduction.specs.between.Cuts.{tests}
 use Rattle.reduction.specs.between.Course.{On-course}
 use Rattle.tally.specs.declared.Tally.{Tally}
-use Rattle.mask.specs.Mask.{mask-words}
 use Rattle.sheet.specs.Decode.{initial, goal}
+use Rattle.plan.specs.Limits.{most-steps}
 use Rattle.plan.specs.Readable.{Readable}
 use Rattle.plan.specs.Valid.{steps}
 use Rattle.cuts.specs.between.Bits.{Told-behind}
-use Rattle.service.specs.declared.finish.Kept.{Kept}
 use Rattle.service.specs.Reduced.{tally-left}
+use Rattle.service.specs.between.Held.{Leaves}
 use Rattle.choice.specs.between.Chosen.{most-choices, open-before, chosen}
 use Rattle.choice.specs.between.Packed.{row-bytes, most-rows, Tells-state}
 use Rattle.choice.specs.between.Rows.{rows-before, costs-before}
 use Rattle.search.specs.declared.chosen.Chosen.{Chosen}
-
--- k tells the reduction m of the list l
-pub record Tells (w l : List ℕ) (m : Reduction) (k : Kept) : Type 0 where
-  pub fits : length m ≡ length l
-  pub counted : k .tally ≡ tally-left w l m
-  pub told-by : k .mask .words ≡ mask-words m
 
 -- c tells the reduction m of the list l, which keeps the flagged steps
 pub record Chooses (w l : List ℕ) (flags m : Reduction) (c : Chosen) : Type 0 where
@@ -78,7 +72,8 @@ pub record Begins (w l : List ℕ) (flags : Reduction) (lodged : Tally) (bits : 
   pub found : Lent w l flags → lodged ≡ tally-left w l (whole l)
       → bits ≡ chosen flags (minimal (meets (goal w)) (initial w) (steps w l)) (length l)
 
--- what is found is the minimal reduction
-pub record Finds (w l : List ℕ) (flags : Reduction) (lodged : Tally) (after : Kept) : Type 0 where
-  pub tells : Lent w l flags → lodged ≡ tally-left w l (whole l)
-      → Tells w l (minimal (meets (goal w)) (initial w) (steps w l)) after
+-- what is found are the flags of the minimal reduction
+pub record Finds (w l : List ℕ) (flags : Reduction) (lodged : Tally) (kept : Reduction) : Type 0 where
+  pub sized : length kept ≡ most-steps
+  pub leaves : Lent w l flags → lodged ≡ tally-left w l (whole l)
+      → Leaves l (minimal (meets (goal w)) (initial w) (steps w l)) kept

@@ -1,5 +1,5 @@
 -- `reduce_within` meets its contract: one of the checks 1 to 11 refuses, or 12, or the list is shortened. Assumes nothing.
-use Rattle.minimal.proofs.MinimalLaws.{first-refuses, marks-left, marks-few, last-refuses, minimises}
+use Rattle.minimal.proofs.MinimalLaws.{first-refuses, marks-left, marks-few, last-refuses, room-for-flags, minimises}
 use mathlib.Core.Path.{sym}
 use borrow.Author.Needs.{needs}
 use Rattle.minimal.proofs.within.reduce_within.Statement.{statement}
@@ -53,8 +53,14 @@ slice-aggregate-minimal c = sym (marks-left 0 _ _ (c .before .before .before .be
 minimal-requires : tie.Need-minimal-requires
 minimal-requires c κs = search needs
 
-write-out-requires : tie.Need-write-out-requires
-write-out-requires c κs = search needs
+array-share-prefix-kept : tie.Need-array-share-prefix-kept
+array-share-prefix-kept c = room-for-flags 0 _ _ (c .before .before .before .before .before .before .before .before .before .before .before .before .before .before .before .args .out .now) _ _ _ (c .before .before .before .before .before .before .before .before .before .before .before .check-room .ensures) (c .before .before .before .before .before .before .before .before .before .before .mark-lodged .ensures) _ (c .before .before .before .before .before .before .before .answer2 .given .1) (c .minimal .ensures) .0
+
+slice-aggregate-finish : tie.Need-slice-aggregate-finish
+slice-aggregate-finish c = room-for-flags 0 _ _ (c .before .before .before .before .before .before .before .before .before .before .before .before .before .before .before .before .args .out .now) _ _ _ (c .before .before .before .before .before .before .before .before .before .before .before .before .check-room .ensures) (c .before .before .before .before .before .before .before .before .before .before .before .mark-lodged .ensures) _ (c .before .before .before .before .before .before .before .before .answer2 .given .1) (c .before .minimal .ensures) .1
+
+finish-requires : tie.Need-finish-requires
+finish-requires c κs = search needs
 
 returns-2 : tie.Need-returns-2
 returns-2 c = first-refuses _ _ _ _ _ _ _ (c .before .before .before .before .before .before .check-room .ensures) (c .before .before .before .before .before .mark-lodged .ensures) _ _ (c .before .before .answer .given .1) (c .refused .ensures)
@@ -63,7 +69,11 @@ same-length : tie.Need-same-length
 same-length c = search needs
 
 returns-3 : tie.Need-returns-3
-returns-3 c = minimises _ _ _ _ _ _ _ (c .before .before .before .before .before .before .before .before .before .before .before .before .before .before .before .before .before .check-room .ensures) (c .before .before .before .before .before .before .before .before .before .before .before .before .before .before .before .before .mark-lodged .ensures) _ (c .before .before .before .before .before .before .before .before .before .before .before .before .before .answer2 .given .1) _ _ (c .before .before .before .before .before .before .before .before .before .before .mask-of .ensures) (c .before .before .before .before .before .before .before .before .before .count .ensures) _ _ _ (c .before .before .before .before .before .before .before .before .before .before .before .before .before .before .before .before .before .before .before .before .before .pre) (c .before .before .before .before .before .before .before .before .if1 .left) (c .before .before .before .before .before .before .minimal .ensures) (c .before .before .before .before .write-out .ensures)
+returns-3 c =
+    let checked = c .before .before .before .before .before .before .before in
+    let counted = checked .before .before .before in
+    minimises _ _ _ _ _ _ _ (counted .before .before .before .before .before .before .before .before .check-room .ensures) (counted .before .before .before .before .before .before .before .mark-lodged .ensures) _ (counted .before .before .before .before .answer2 .given .1) _ _ (counted .before .mask-of .ensures) (counted .count .ensures) _
+    (counted .before .before .before .before .before .before .before .before .before .before .before .before .pre) (checked .before .before .if1 .left) (checked .minimal .ensures) _ _ (c .before .before .before .before .finish .ensures)
 
 pub reduce-within-spec : {M : Type 1} → statement M
 reduce-within-spec =
@@ -85,7 +95,9 @@ reduce-within-spec =
     array-share-prefix-flags-2
     slice-aggregate-minimal
     minimal-requires
-    write-out-requires
+    array-share-prefix-kept
+    slice-aggregate-finish
+    finish-requires
     returns-2
     same-length
     returns-3)
