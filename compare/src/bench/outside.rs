@@ -5,11 +5,11 @@
 use super::plans::{name, HardPlan};
 use super::texts::LongText;
 use super::timed::unmarked;
-use super::{licences, table, Measured, Side, SIDES};
+use super::times::inputs_for_licences;
+use super::{table, Measured, Side, SIDES};
 use crate::cases::Service;
-use crate::comparison::inputs::input_bytes;
 use crate::comparison::programs::{Built, LICENSE};
-use crate::makers::families::{Made, FAMILIES};
+use crate::makers::families::FAMILIES;
 use crate::rules::{MAX_STEPS, MAX_UNMARKED};
 use std::env;
 use std::ffi::OsString;
@@ -30,8 +30,8 @@ fn print_table(measure: &str, columns: &[&str], cells: impl Fn(HardPlan) -> Cell
         let cells = cells(plan);
         match &cells {
             Ok(cells) => {
-                let Made { task, plan, .. } = plan.make();
-                let told = [name(family), unmarked(&task.words(), &plan)];
+                let list = plan.make();
+                let told = [name(family), unmarked(&list.task.words(), &list.plan)];
                 table::print_row(&[&told, &cells[..]].concat());
             }
             Err(error) => println!("{}: {error}", name(family)),
@@ -116,8 +116,7 @@ pub fn measure_stack(built: &[Built]) -> bool {
         for side in SIDES {
             cells.push(least_stack(&once(side, Measured::Plan(plan))?, &[])?);
         }
-        let Made { task, plan, .. } = plan.make();
-        let bytes = input_bytes(&task.words(), &plan);
+        let bytes = plan.make().input_bytes();
         for built in built {
             cells.push(least_stack_of(built, &bytes)?);
         }
@@ -131,7 +130,7 @@ pub fn measure_stack(built: &[Built]) -> bool {
 fn measure_stack_of_licences(built: &Built) -> bool {
     println!("\nLeast stack in KiB of the program that licenses:\n");
     table::print_head(&["Plan", "Stack"]);
-    licences::inputs().iter().all(|input| {
+    inputs_for_licences().iter().all(|input| {
         let stack = least_stack_of(built, &input.bytes);
         match &stack {
             Ok(cell) => table::print_row(&[input.name.as_str(), cell]),

@@ -1,8 +1,6 @@
-//! The texts for the translator that are measured, and the table of their times.
+//! The texts for the translator that are measured.
 
 use super::plans::name;
-use super::table;
-use super::timed::{times_of, Timed, RUNS};
 use crate::cases::{Case, Service};
 use crate::makers::translator::{Effect, Listing, Number, Operator, Pair, Text};
 use crate::makers::Task;
@@ -55,8 +53,7 @@ impl LongText {
     }
 
     pub fn case(self) -> Case {
-        let case = Case::fitting(Service::Translate, &[], &[], [MAX_WORDS, 0]);
-        case.with_text(&self.make())
+        Case::without_sheet(Service::Translate, MAX_WORDS).with_text(&self.make())
     }
 
     /// The names of the variables and their values are empty, so that nearly all of even a short
@@ -127,30 +124,4 @@ fn full_operator(variables: usize, piece: usize) -> Operator {
         effects: falling.map(|it| effect(it, None, piece + 1)).collect(),
         cost: 1,
     }
-}
-
-/// Prints the times of all texts. Growth is against the shortest text of the same bulk: where a text
-/// is four times as long, it is four at most. Answers whether all answers were right.
-pub fn run() -> bool {
-    let texts: Vec<LongText> = LongText::all().collect();
-    let times = times_of(texts.iter().map(|text| text.case()));
-    println!("\nTexts for the translator, best of {RUNS} runs:\n");
-    let columns = ["Text of", "Bytes", "Words"];
-    table::print_head(&[&columns[..], &["Library", "Rust", "Ratio", "Growth"]].concat());
-    for (index, (text, timed)) in texts.iter().zip(&times).enumerate() {
-        let shortest = &times[index - index % SIZES.len()];
-        let growth = format!("{:.2}", timed.library() / shortest.library());
-        let cells = [name(text.bulk), bytes_of(timed), words_of(timed)];
-        table::print_row(&[&cells[..], &timed.cells(), &[growth]].concat());
-    }
-    times.iter().all(|timed| timed.answer().is_some())
-}
-
-fn bytes_of(timed: &Timed) -> String {
-    timed.case.lent.text.len().to_string()
-}
-
-/// The last word of `out`.
-fn words_of(timed: &Timed) -> String {
-    timed.told(|memory| memory.out.last().map_or(String::new(), u64::to_string))
 }

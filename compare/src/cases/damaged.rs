@@ -46,7 +46,7 @@ fn small_text(number: u64) -> (Text, Option<Vec<u32>>) {
 /// With more room than any small text needs.
 fn case(text: &[u8]) -> Case {
     let room = 512;
-    Case::fitting(Service::Translate, &[], &[], [room, 0]).with_text(text)
+    Case::without_sheet(Service::Translate, room).with_text(text)
 }
 
 /// Line numbers count from 1.

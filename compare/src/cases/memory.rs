@@ -1,7 +1,6 @@
 //! The memory lent in a case, with guards on both sides of each slice, so that a write beside it
-//! shows.
+//! shows, and what a service answers in it.
 
-use super::Answer;
 use std::fmt::Display;
 use std::ops::{Deref, DerefMut};
 
@@ -71,50 +70,59 @@ impl<T> DerefMut for Lent<T> {
     }
 }
 
-#[derive(Clone, Default, PartialEq, Eq)]
-pub struct Memory {
-    pub words: Lent<u32>,
-    pub plan: Lent<u32>,
-    pub text: Lent<u8>,
-    pub state: Lent<u32>,
-    /// The output, or the first of two.
-    pub first: Lent<u32>,
-    pub second: Lent<u32>,
-    pub part: Lent<u32>,
-    pub mask: Lent<u64>,
-    pub out: Lent<u64>,
-    /// What a service returns by value.
-    pub returned: u64,
+/// Declares the slices: those that services only read, and those that they write to.
+macro_rules! slices {
+    (read $($read:ident: $unit:ty),*; written $($slice:ident: $word:ty),*) => {
+        #[derive(Clone, Default, PartialEq, Eq)]
+        pub struct Memory {
+            $(pub $read: Lent<$unit>,)*
+            $(pub $slice: Lent<$word>,)*
+            /// What a service returns by value.
+            pub returned: u64,
+        }
+
+        /// The words that are written to the front of each slice, and what is returned by value.
+        #[derive(Clone, Default, PartialEq, Eq)]
+        pub struct Answer {
+            $(pub $slice: Vec<$word>,)*
+            pub returned: u64,
+            /// What the answer is counted under: the number of a refusal, where there is one.
+            pub number: u64,
+        }
+
+        impl Memory {
+            pub fn write(&mut self, answer: &Answer) {
+                $(self.$slice.write(&answer.$slice);)*
+                self.returned = answer.returned;
+            }
+
+            /// The slices that services write to, each with its name, its words and whether its
+            /// guards stand.
+            pub fn written(&self) -> Vec<(&'static str, (Vec<String>, bool))> {
+                vec![$((stringify!($slice), self.$slice.shown())),*]
+            }
+
+            /// The slices that services only read, each with its name and whether it is as in the
+            /// other memory.
+            pub fn read(&self, other: &Self) -> Vec<(&'static str, bool)> {
+                vec![$((stringify!($read), self.$read == other.$read)),*]
+            }
+        }
+    };
+}
+
+// A site state is rolled forward where it is lent, and the end of a plan is told in words that
+// stand for nothing before. Of two outputs, `first` is elimination's.
+slices! {
+    read words: u32, plan: u32, text: u8;
+    written state: u32, end: u32, first: u32, second: u32, part: u32, mask: u64, out: u64
 }
 
 impl Memory {
-    pub fn write(&mut self, answer: &Answer) {
-        self.state.write(&answer.state);
-        self.first.write(&answer.first);
-        self.second.write(&answer.second);
-        self.part.write(&answer.part);
-        self.mask.write(&answer.mask);
-        self.out.write(&answer.out);
-        self.returned = answer.returned;
-    }
-
     /// The memory with the answer written to it.
     pub fn after(&self, answer: &Answer) -> Self {
         let mut memory = self.clone();
         memory.write(answer);
         memory
-    }
-
-    /// The slices that services write to, each with its name, its words and whether its guards
-    /// stand.
-    pub fn written(&self) -> [(&'static str, (Vec<String>, bool)); 6] {
-        [
-            ("state", self.state.shown()),
-            ("first", self.first.shown()),
-            ("second", self.second.shown()),
-            ("part", self.part.shown()),
-            ("mask", self.mask.shown()),
-            ("out", self.out.shown()),
-        ]
     }
 }

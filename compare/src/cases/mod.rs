@@ -4,23 +4,16 @@
 mod answer;
 pub mod damaged;
 pub mod kinds;
+mod known;
 mod memory;
 mod service;
 pub mod worked;
 
-pub use answer::Answer;
-pub use memory::{Lent, Memory};
-pub use service::{Lengths, Service, LEFT, REDUCING, SERVICES, TAKEN, TAKING_PLAN};
-pub use service::{ACCEPTED, CLAIM, CLAIMS, CLAIM_AT};
+pub use memory::{Answer, Lent, Memory};
+pub use service::{going, reducing, taking_plan, Call, Lengths, Numbers, Service, SERVICES};
+pub use service::{CLAIM, CLAIMS, CLAIM_AT};
 
 use crate::rules::Refusal;
-
-/// A service and the numbers that it takes beside slices; those that it doesn't take are zero.
-#[derive(Clone, Copy)]
-pub struct Call {
-    pub service: Service,
-    pub numbers: [u32; 4],
-}
 
 pub struct Case {
     pub call: Call,
@@ -44,7 +37,7 @@ impl Case {
             out: Lent::of(fill(lengths.out)),
             words: Lent::of(words),
             plan: Lent::of(plan),
-            state: Lent::of(narrow(fill(lengths.state))),
+            end: Lent::of(narrow(fill(lengths.end))),
             first: Lent::of(narrow(fill(lengths.outputs[0]))),
             second: Lent::of(narrow(fill(lengths.outputs[1]))),
             mask: Lent::of(fill(lengths.mask)),
@@ -62,17 +55,21 @@ impl Case {
         Case::filled(service, words, plan, lengths, || u64::MAX)
     }
 
+    /// A case that takes neither a sheet nor a plan, with an output of this length if it takes one.
+    pub fn without_sheet(service: Service, output: usize) -> Self {
+        Case::fitting(service, &[], &[], [output, 0])
+    }
+
     /// A case of the kept part of these outputs.
-    pub fn of_parts(outputs: [Vec<u32>; 2], part: Vec<u32>) -> Self {
-        let mut case = Case::fitting(Service::KeptPart, &[], &[], [0; 2]);
-        let [first, second] = outputs;
+    pub fn of_parts([first, second]: [Vec<u32>; 2], part: Vec<u32>) -> Self {
+        let mut case = Case::without_sheet(Service::KeptPart, 0);
         case.lent.first = Lent::of(first);
         case.lent.second = Lent::of(second);
         case.lent.part = Lent::of(part);
         case
     }
 
-    pub fn with_numbers(mut self, numbers: [u32; 4]) -> Self {
+    pub fn with_numbers(mut self, numbers: Numbers) -> Self {
         self.call.numbers = numbers;
         self
     }

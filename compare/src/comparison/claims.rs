@@ -24,7 +24,7 @@ impl Claims {
             Claim::Irreducible => {
                 self.irreducible += 1;
                 self.left_unmarked += usize::from(grounds.unmarked > 0);
-                self.struck_more += usize::from(kept.actions.len() < grounds.steps);
+                self.struck_more += usize::from(kept.actions.len() < grounds.steps.len());
             }
         }
     }

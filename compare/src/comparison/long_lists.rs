@@ -2,10 +2,10 @@
 
 use super::record::Record;
 use super::services;
-use crate::cases::{Answer, Case, Service};
+use crate::cases::{Answer, Service};
+use crate::makers::answered::{tied_gates, twins};
 use crate::makers::cycles::{self, Shape};
 use crate::makers::families::{self, Family, FAMILIES, PLACEMENTS};
-use crate::makers::knots::{tied_gates, twins};
 use crate::makers::{dense, jobs, List, Random, Walk};
 use crate::rules::license::BY_SEARCH;
 use crate::rules::{MAX_STEPS, MAX_UNMARKED};
@@ -41,15 +41,15 @@ fn kinds() -> Vec<Kind> {
             of_knots(random, length, dense::knot)
         }),
         kind("knots, tied gates", |random, length| {
-            of_knots(random, length, |random| tied_gates(random, TIED).into())
+            of_knots(random, length, |random| tied_gates(random, TIED))
         }),
         kind("knots, twins", |random, length| {
-            of_knots(random, length, |random| twins(random).into())
+            of_knots(random, length, twins)
         }),
     ];
     kinds.extend(CYCLES.map(|(name, shape)| {
         kind(name, move |random, length| {
-            cycles::walk(random, shape, length).into()
+            cycles::list(random, shape, length)
         })
     }));
     kinds.extend(FAMILIES.map(|family| {
@@ -84,7 +84,7 @@ fn of_family(random: &mut Random, family: Family, length: usize) -> List {
         size: random.size(MAX_UNMARKED + 1..=length / 2),
         costs: 1..=100,
     };
-    shape.make(random).into()
+    shape.make(random)
 }
 
 fn of_knots(random: &mut Random, length: usize, knot: fn(&mut Random) -> List) -> List {
@@ -125,10 +125,9 @@ pub fn compare(record: &mut Record, seed: u64) {
 }
 
 fn try_list(record: &mut Record, kind: &str, list: &List, title: impl Fn() -> String) {
-    let (words, plan) = (list.task.words(), &list.plan);
-    let licence = BY_SEARCH.license(MAX_UNMARKED, &words, plan, plan.len());
+    let case = list.fitting(Service::License);
+    let licence = BY_SEARCH.license(&case.lent.words, &list.plan, list.plan.len());
     let (licensed, grounds) = licence.ok().expect("the lists are valid");
     record.claims_about(kind).count(&licensed, &grounds);
-    let case = Case::fitting(Service::License, &words, plan, [plan.len(), 0]);
-    services::try_answer(record, KIND, &case, Answer::licensed(licensed), true, title);
+    services::try_answer(record, KIND, &case, Answer::licensed(licensed), title);
 }

@@ -1,10 +1,8 @@
 //! The comparison: the services of the library and the built programs, held to the rules.
 
-pub mod by_rules;
 mod claims;
 mod faulty;
 pub mod inputs;
-pub mod library;
 pub mod long_lists;
 pub mod programs;
 mod record;
@@ -76,8 +74,9 @@ pub fn long(built: &[Built], first_seed: u64, seconds: u64) -> bool {
 fn expecting_all(built: &[Built]) -> Record {
     let mut record = Record::default();
     for service in SERVICES {
-        record.expect(service.name(), service.answers());
-        for &(number, least) in service.places() {
+        let declared = service.declared();
+        record.expect(service.name(), declared.answers);
+        for &(number, least) in declared.places {
             record.expect_places(service.name(), number, least);
         }
     }

@@ -11,14 +11,14 @@ const MOST_LINES: usize = 200;
 pub fn print_difference(case: &Case, by_rules: &Memory, others: &[(&str, Option<Memory>)]) {
     let Case { call, lent, due } = case;
     println!("# call: {}", described(*call));
-    if call.service.takes_sheet() {
+    if call.service.takes("words") {
         let length_and_plan = text::length_and_plan(&lent.plan);
         print!("{}", text::of_input(&lent.words, &length_and_plan));
     }
     if !lent.text.is_empty() {
         print_text(&lent.text);
     }
-    println!("# out has: {}", call.service.out().join(", "));
+    println!("# out has: {}", call.service.declared().out.join(", "));
     let print_answer = |title: &str, memory: &Memory| {
         println!("# {title}, returned {}:", memory.returned);
         print_memory(memory, lent);
@@ -50,7 +50,7 @@ pub fn print_text(text: &[u8]) {
 }
 
 fn described(call: Call) -> String {
-    let named = call.service.numbers().iter().zip(call.numbers);
+    let named = call.service.declared().numbers.iter().zip(call.numbers);
     let numbers = named.map(|(name, number)| format!(", {name} {number}"));
     format!("{}{}", call.service.name(), numbers.collect::<String>())
 }
@@ -63,9 +63,9 @@ fn print_memory(memory: &Memory, lent: &Memory) {
         }
         print_if_changed(&format!("memory beside {name}"), guards_stand);
     }
-    print_if_changed("words", memory.words == lent.words);
-    print_if_changed("plan", memory.plan == lent.plan);
-    print_if_changed("text", memory.text == lent.text);
+    for (name, is_as_before) in memory.read(lent) {
+        print_if_changed(name, is_as_before);
+    }
 }
 
 fn print_if_changed(name: &str, is_as_before: bool) {

@@ -3,7 +3,7 @@
 
 use super::claims::Claims;
 use super::self_test::numbered_cases;
-use crate::rules::license::BY_RULES;
+use crate::rules::license::{Ways, BY_RULES};
 use crate::rules::{has, mask_of, steps_of, Claim, Kept, Lodged, MAX_UNMARKED};
 
 /// All reductions of plans of at most so many steps are gone through.
@@ -42,9 +42,8 @@ impl<'a> Trial<'a> {
     fn of(words: &'a [u32], plan: &'a [u32]) -> Option<Self> {
         let lodged = Lodged::check(words, plan, &[]).ok()?;
         (plan.len() <= FEW_STEPS).then_some(())?;
-        let valid = lodged.reductions().filter(|kept| lodged.is_valid(kept));
         Some(Trial {
-            valid: valid.collect(),
+            valid: lodged.valid_reductions().collect(),
             words,
             lodged,
         })
@@ -65,7 +64,9 @@ impl<'a> Trial<'a> {
     /// What is wrong with the licence at this limit, if something is.
     fn wrong_licence(&self, limit: usize, claims: &mut Claims) -> Option<&'static str> {
         let plan = self.lodged.plan;
-        let licence = BY_RULES.license(limit, self.words, plan, plan.len());
+        let limits = [limit; 2];
+        let ways = Ways { limits, ..BY_RULES };
+        let licence = ways.license(self.words, plan, plan.len());
         let Ok((licensed, grounds)) = licence else {
             return Some("a valid plan is refused");
         };

@@ -1,7 +1,7 @@
 //! What the hunt does with a list, which may be valid or not.
 
 use crate::makers::families::{Placement, PLACEMENTS};
-use crate::makers::{action, fact, fit, List, Random, Walk};
+use crate::makers::{chain, fact, fit, List, Random, Walk};
 use crate::rules::{search, MAX_ACTIONS, MAX_STEPS, MAX_VARIABLES, MAX_WORDS};
 
 impl List {
@@ -44,7 +44,7 @@ impl List {
 
     /// The placement is that of the list's own steps to the chain.
     fn lengthened(&self, random: &mut Random, placement: Placement) -> Option<List> {
-        let List { mut task, plan } = self.clone();
+        let List { mut task, plan, .. } = self.clone();
         let (own, counter, first) = (plan.len(), task.sizes.len(), task.actions.len());
         let length = MAX_STEPS - own;
         if counter == MAX_VARIABLES || first + length > MAX_ACTIONS {
@@ -53,17 +53,12 @@ impl List {
         task.sizes.push(length as u32 + 1);
         task.start.push(0);
         task.goal.push(fact(counter, length));
-        let link = |step| action(1, vec![fact(counter, step)], vec![fact(counter, step + 1)]);
-        task.actions.extend((0..length).map(link));
-        let is_own = match placement {
-            Placement::Front => (0..MAX_STEPS).map(|step| step < own).collect(),
-            Placement::End => (0..MAX_STEPS).map(|step| step >= length).collect(),
-            Placement::Spread => random.choose(own, MAX_STEPS),
-        };
+        task.actions.extend(chain(counter, length, || 1));
+        let is_own = placement.turns(random, own, MAX_STEPS);
         let (mut own, mut chain) = (plan.into_iter(), first as u32..);
         let next = |is_own| if is_own { own.next() } else { chain.next() };
         let plan = is_own.into_iter().filter_map(next).collect();
-        let list = List { task, plan };
+        let list = List::of(task, plan);
         list.turns().is_some().then_some(list)
     }
 }

@@ -53,15 +53,17 @@ impl<'a> Lodged<'a> {
     /// The same, found among all reductions: a reduction is told by a flag for each step, and of
     /// two lists of flags the one that strikes at the first difference is the lesser.
     pub fn least_of_all(&self) -> Vec<usize> {
-        let valid = self.reductions().filter(|kept| self.is_valid(kept));
+        let valid = self.valid_reductions();
         let least = valid.min_by_key(|kept| (self.counts(kept), kept.clone()));
         steps_of(&least.expect("the plan itself is a valid reduction"))
     }
 
-    /// All of them, valid or not; the plan has fewer than 32 steps.
-    pub fn reductions(&self) -> impl Iterator<Item = Vec<bool>> {
+    /// All of them; the plan has fewer than 32 steps.
+    pub fn valid_reductions(&self) -> impl Iterator<Item = Vec<bool>> + '_ {
         let steps = self.actions.len();
-        (0..1_u32 << steps).map(move |bits| (0..steps).map(|i| bits >> i & 1 == 1).collect())
+        let flags = move |bits| (0..steps).map(|i| bits >> i & 1 == 1).collect();
+        let all = (0..1_u32 << steps).map(flags);
+        all.filter(|kept: &Vec<bool>| self.is_valid(kept))
     }
 
     pub fn is_valid(&self, kept: &[bool]) -> bool {

@@ -24,7 +24,7 @@ pub use license::{license, license_by_search, Claim, Licensed};
 pub use plan::{all_hold, do_step, has, mask_of, step, Kept, Lodged, Mask, State};
 pub use plan::{MASK_WORDS, WORD_BITS};
 pub use program::{printed_by_license, printed_by_shorten, printed_by_validate};
-pub use program::{written_by_translate, Written};
+pub use program::{written_by_translate, Way, Written};
 pub use tally::Tally;
 pub use task::{check_sheet, pair_word, Action};
 pub use translator::{translate, MAX_TEXT};

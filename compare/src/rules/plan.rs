@@ -105,6 +105,11 @@ impl Kept {
         }
     }
 
+    /// Its cost and its steps, in the order that they are compared in.
+    pub fn tally(&self) -> [usize; 2] {
+        [self.cost, self.actions.len()]
+    }
+
     /// The indices of the kept steps.
     pub fn steps(&self) -> impl Iterator<Item = usize> + '_ {
         (0..MAX_STEPS).filter(|&step| has(self.mask, step))

@@ -75,7 +75,7 @@ pub fn printed_by_validate(bytes: &[u8]) -> String {
 }
 
 /// A way of finding an answer: it takes the sheet, the plan and the length of the output.
-type Way<A> = fn(&[u32], &[u32], usize) -> Result<A, Refusal>;
+pub type Way<A> = fn(&[u32], &[u32], usize) -> Result<A, Refusal>;
 
 /// The program of the exact reduction, found this way.
 pub fn printed_by_shorten(bytes: &[u8], way: Way<Kept>) -> String {

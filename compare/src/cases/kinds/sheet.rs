@@ -2,7 +2,7 @@
 
 use super::step::random_state;
 use super::{case_with, check_sheet, step, Make};
-use crate::cases::{Answer, Case, TAKING_PLAN};
+use crate::cases::{taking_plan, Answer, Case};
 use crate::makers::faults::{self, Put};
 use crate::makers::{Random, Sheet, Task};
 use crate::rules;
@@ -113,7 +113,7 @@ fn on_some_service(random: &mut Random, task: &Task, words: Vec<u32>) -> Case {
             let steps = random.pick(&[0, 1, 2, 3, rules::MAX_STEPS + 1]);
             let plan: Vec<u32> = (0..steps).map(|_| action(random)).collect();
             let outputs = [(); 2].map(|_| random.size(0..=2 * steps));
-            let service = random.pick(&TAKING_PLAN);
+            let service = random.pick(&taking_plan());
             case_with(random, service, &words, &plan, outputs)
         }
         _ => check_sheet(random, &words),

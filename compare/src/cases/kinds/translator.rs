@@ -1,7 +1,7 @@
 //! Texts that are read into a sheet: accepted ones in any style and at the limits, and each way for
 //! one to be refused, with outputs of many lengths.
 
-use super::{case_with, others, Make};
+use super::{case_with, of_words, Make};
 use crate::cases::{Answer, Case, Service};
 use crate::makers::translator::damage::{self, changed, Changed};
 use crate::makers::translator::faults::{over_words, PutUnfit, PutUnsupported};
@@ -152,7 +152,7 @@ fn too_long_and_cut_off(random: &mut Random) -> Option<Case> {
 
 /// The accepted sheets of the other kinds, as a translator would write them.
 fn of_another_kind(random: &mut Random) -> Option<Case> {
-    let kinds = others();
+    let kinds = of_words();
     let (_, make) = &kinds[random.index(kinds.len())];
     let words = make(random)?.lent.words.to_vec();
     let listing = Listing::of(&Task::of_sheet(&words)?);
