@@ -2,7 +2,7 @@
 
 use super::plans::name;
 use crate::cases::{Case, Service};
-use crate::makers::translator::{Effect, Listing, Number, Operator, Pair, Text};
+use crate::makers::translator::{Change, Listing, Number, Operator, Pair, Text};
 use crate::makers::Task;
 use crate::rules::{MAX_VARIABLES, MAX_WORDS};
 
@@ -97,22 +97,12 @@ fn mutex_group(variables: usize, piece: usize) -> Vec<Pair> {
         .collect()
 }
 
-fn effect(variable: usize, old: Option<Number>, piece: usize) -> Effect {
-    let [variable, new] = pair(variable, piece);
-    Effect {
-        conditions: Vec::new(),
-        variable,
-        old,
-        new,
-    }
-}
-
 fn small_operator(variables: usize, piece: usize) -> Operator {
     let asked = piece % variables;
     let set = (piece + 1) % variables;
     Operator {
         prevail: vec![pair(asked, piece)],
-        effects: vec![effect(set, Some(0), piece)],
+        effects: vec![Change::to(pair(set, piece), Some(0))],
         cost: 1,
     }
 }
@@ -121,7 +111,9 @@ fn full_operator(variables: usize, piece: usize) -> Operator {
     let falling = (0..variables).rev();
     Operator {
         prevail: falling.clone().map(|it| pair(it, piece)).collect(),
-        effects: falling.map(|it| effect(it, None, piece + 1)).collect(),
+        effects: falling
+            .map(|it| Change::to(pair(it, piece + 1), None))
+            .collect(),
         cost: 1,
     }
 }

@@ -12,7 +12,7 @@ use crate::comparison::programs::{written, Built, LICENSE};
 use crate::makers::families::{Family, Placement};
 use crate::makers::List;
 use crate::rules::license::BY_SEARCH;
-use crate::rules::{rounds, Claim, Lodged, MAX_STEPS, MAX_UNMARKED};
+use crate::rules::{Claim, Lodged, MAX_STEPS, MAX_UNMARKED};
 use std::fs;
 use std::hint::black_box;
 use std::thread;
@@ -148,7 +148,8 @@ fn times_of(timed: &Timed, count: fn(&Lodged) -> usize) -> String {
 fn time_by_rounds(timed: &Timed) -> String {
     let Memory { words, plan, .. } = &timed.case.lent;
     table::time(best_time_of(RUNS, || {
-        let _ = black_box(rounds::marks(black_box(words), plan));
+        let lodged = Lodged::check(black_box(words), plan, &[]);
+        let _ = black_box(lodged.map(|lodged| lodged.marked_by_rounds()));
     }))
 }
 

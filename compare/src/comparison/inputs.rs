@@ -47,7 +47,7 @@ fn bytes_of(words: &[u32]) -> Vec<u8> {
 
 /// The sheet, the length of the plan and the plan.
 pub fn input_bytes(words: &[u32], plan: &[u32]) -> Vec<u8> {
-    bytes_of(&[words, &text::length_and_plan(plan)].concat())
+    bytes_of(&text::input_words(words, plan))
 }
 
 impl List {

@@ -5,7 +5,7 @@ use super::record::Record;
 use super::{report, text};
 use crate::rules::{exact, license_by_search, search};
 use crate::rules::{printed_by_license, printed_by_shorten, printed_by_validate};
-use crate::rules::{written_by_translate, Written};
+use crate::rules::{words_of, written_by_translate, Written};
 use std::fs;
 use std::io::{Read, Write};
 use std::path::{Path, PathBuf};
@@ -152,9 +152,8 @@ fn print_input(input: &Input) {
     if input.form == Form::Text {
         return report::print_text(&input.bytes);
     }
-    let (words, rest) = input.bytes.as_chunks();
-    let words: Vec<u32> = words.iter().map(|&word| u32::from_le_bytes(word)).collect();
-    print!("{}", text::of_program_input(&words));
+    let (words, rest) = words_of(&input.bytes);
+    print!("{}", text::of_input(&words));
     if !rest.is_empty() {
         println!("# and bytes that are no word: {}", text::listed(rest));
     }

@@ -12,8 +12,10 @@ pub fn print_difference(case: &Case, by_rules: &Memory, others: &[(&str, Option<
     let Case { call, lent, due } = case;
     println!("# call: {}", described(*call));
     if call.service.takes("words") {
-        let length_and_plan = text::length_and_plan(&lent.plan);
-        print!("{}", text::of_input(&lent.words, &length_and_plan));
+        print!(
+            "{}",
+            text::of_input(&text::input_words(&lent.words, &lent.plan))
+        );
     }
     if !lent.text.is_empty() {
         print_text(&lent.text);

@@ -1,12 +1,11 @@
 //! Tests the comparison itself, without the library: the ways of finding the exact reduction are
 //! held to each other, and so are the ways of finding marks and licences; the claims of licences
-//! are tried on all reductions; services with a fault must be found out, and the text of a case
-//! must read back as its words.
+//! are tried on all reductions; services with a fault must be found out.
 
 use super::faulty::{self, Fault};
 use super::inputs::input_bytes;
 use super::record::print_count;
-use super::{text, trial};
+use super::trial;
 use crate::cases::worked::{self, LIST_1, SHEET_P};
 use crate::cases::{kinds, Case, Memory, Service};
 use crate::rules::{exact, license, license_by_search, printed_by_license, printed_by_shorten};
@@ -18,7 +17,6 @@ const FEW_STEPS: usize = 12;
 const CASES_FOR_WAYS: u64 = 57_000;
 const CASES_FOR_LICENCES: u64 = 8_000;
 const CASES_FOR_FAULTS: u64 = 5_700;
-const CASES_FOR_TEXTS: u64 = 2_900;
 
 /// So many rounds and passes must be seen: a version that gives up early would not be found out.
 const MANY_ROUNDS: usize = 250;
@@ -33,7 +31,6 @@ const CLAIMED: &str = "least\n";
 /// Answers whether nothing failed.
 pub fn run(seed: u64) -> bool {
     lines_are_as_documented()
-        && texts_read_back(seed)
         && ways_are_alike(seed)
         && trial::claims_hold(seed)
         && faults_are_found(seed)
@@ -57,30 +54,6 @@ fn lines_are_as_documented() -> bool {
 pub fn numbered_cases(seed: u64, last: u64) -> impl Iterator<Item = (u64, Case)> {
     let kinds = kinds::all();
     (1..=last).map(move |number| (number, kinds::numbered(&kinds, seed, number).1))
-}
-
-/// Sheets of every fault among them.
-fn texts_read_back(seed: u64) -> bool {
-    let reads_back = |Memory { words, plan, .. }: &Memory| {
-        let length_and_plan = text::length_and_plan(plan);
-        let all = [&words[..], &length_and_plan].concat();
-        let text = text::of_input(words, &length_and_plan);
-        words_in(&text) == all && words_in(&text::of_program_input(&all)) == all
-    };
-    let failing = numbered_cases(seed, CASES_FOR_TEXTS).find(|(_, case)| !reads_back(&case.lent));
-    if let Some((number, _)) = &failing {
-        println!("the text has other words: --seed {seed} --case {number}");
-    }
-    print_count("texts that read back", CASES_FOR_TEXTS as usize);
-    failing.is_none()
-}
-
-fn words_in(text: &str) -> Vec<u32> {
-    text.lines()
-        .filter_map(|line| line.split('#').next())
-        .flat_map(str::split_whitespace)
-        .map(|word| word.parse().expect("the text has only numbers"))
-        .collect()
 }
 
 /// What was seen of the ways that are held to each other.

@@ -55,7 +55,7 @@ impl<'a> Trial<'a> {
         let marked = self.lodged.marked();
         let keeps_marked = |kept: &Vec<bool>| {
             let mut steps = kept.iter().enumerate();
-            steps.all(|(step, &is_kept)| is_kept || !has(marked, step))
+            steps.all(|(step, &is_kept)| is_kept || !has(&marked, step))
         };
         let all_keep = self.valid.iter().all(keeps_marked);
         (!all_keep).then_some("a marked step can be struck")

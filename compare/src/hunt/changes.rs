@@ -1,23 +1,27 @@
 //! The changes that the hunt makes to a list: of costs, facts, steps and variables.
 
-use crate::makers::{Action, Fact, List, Random};
-use crate::rules::{MAX_ACTION_COST, MAX_DOMAIN, MAX_STEPS, MAX_VARIABLES};
+use crate::makers::{Fact, List, Random, Walk};
+use crate::rules::{State, MAX_ACTION_COST, MAX_DOMAIN, MAX_STEPS, MAX_VARIABLES};
 
-/// Makes one change, or none where the list has no spot for it.
-type Change = fn(&mut Random, &mut List) -> Option<()>;
+/// Makes one change at the step with this index, or elsewhere, or none where the list has no spot
+/// for it.
+type Change = fn(&mut Random, &mut List, usize) -> Option<()>;
 
 const CHANGES: [Change; 14] = [
     change_cost,
     change_cost,
     add_precondition,
-    drop_precondition,
+    |random, list, step| drop_one(random, &mut list.action_of(step).preconditions),
     need_everything,
     add_effect,
-    drop_effect,
+    |random, list, step| drop_one(random, &mut list.action_of(step).effects),
     set_everything,
     change_goal,
     move_step,
-    drop_step,
+    |_, list, step| {
+        list.plan.remove(step);
+        Some(())
+    },
     add_step,
     add_variable,
     add_value,
@@ -27,28 +31,15 @@ const MOST_CHANGES: usize = 3;
 /// Makes some changes, and half of the time fits what is asked for to them.
 pub fn change(random: &mut Random, list: &mut List) {
     for _ in 0..random.size(1..=MOST_CHANGES) {
-        random.pick(&CHANGES)(random, list);
+        let steps = list.plan.len();
+        if steps > 0 {
+            let step = random.index(steps);
+            random.pick(&CHANGES)(random, list, step);
+        }
     }
     if random.once_in(2) {
         list.fit();
     }
-}
-
-/// The index of a step, unless there is none.
-fn step(random: &mut Random, list: &List) -> Option<usize> {
-    let steps = list.plan.len();
-    (steps > 0).then(|| random.index(steps))
-}
-
-fn action<'a>(random: &mut Random, list: &'a mut List) -> Option<&'a mut Action> {
-    let step = step(random, list)?;
-    Some(&mut list.task.actions[list.plan[step] as usize])
-}
-
-fn random_fact(random: &mut Random, list: &List) -> Fact {
-    let variable = random.index(list.task.sizes.len());
-    let value = random.within(0..=list.task.sizes[variable] - 1);
-    Fact { variable, value }
 }
 
 /// Has the group hold the fact, in its variable's place.
@@ -65,67 +56,52 @@ fn drop_one(random: &mut Random, group: &mut Vec<Fact>) -> Option<()> {
     Some(())
 }
 
-fn change_cost(random: &mut Random, list: &mut List) -> Option<()> {
+fn change_cost(random: &mut Random, list: &mut List, step: usize) -> Option<()> {
     let most = MAX_ACTION_COST as u32;
     let any = random.within(0..=most);
-    let action = action(random, list)?;
-    let (half, double) = (action.cost / 2, (2 * action.cost).min(most));
-    action.cost = random.pick(&[0, 1, half, double, any, most]);
+    let cost = &mut list.action_of(step).cost;
+    let (half, double) = (*cost / 2, (2 * *cost).min(most));
+    *cost = random.pick(&[0, 1, half, double, any, most]);
     Some(())
 }
 
-fn add_precondition(random: &mut Random, list: &mut List) -> Option<()> {
-    let step = step(random, list)?;
+fn add_precondition(random: &mut Random, list: &mut List, step: usize) -> Option<()> {
     let variable = random.index(list.task.sizes.len());
     let value = list.walk().states[step][variable];
-    let action = &mut list.task.actions[list.plan[step] as usize];
-    put(&mut action.preconditions, Fact { variable, value });
+    let fact = Fact { variable, value };
+    put(&mut list.action_of(step).preconditions, fact);
     Some(())
 }
 
-fn drop_precondition(random: &mut Random, list: &mut List) -> Option<()> {
-    let step = step(random, list)?;
-    let action = &mut list.task.actions[list.plan[step] as usize];
-    drop_one(random, &mut action.preconditions)
+fn whole(walk: &Walk, state: &State) -> Vec<Fact> {
+    let values = state[..walk.task.sizes.len()].iter().enumerate();
+    let fact = |(variable, &value)| Fact { variable, value };
+    values.map(fact).collect()
 }
 
 /// Has an action need the whole state that it is done in.
-fn need_everything(random: &mut Random, list: &mut List) -> Option<()> {
-    let step = step(random, list)?;
-    let state = list.walk().states[step];
-    let action = &mut list.task.actions[list.plan[step] as usize];
-    action.preconditions = whole(&state[..list.task.sizes.len()]);
+fn need_everything(_: &mut Random, list: &mut List, step: usize) -> Option<()> {
+    let walk = list.walk();
+    list.action_of(step).preconditions = whole(&walk, &walk.states[step]);
     Some(())
 }
 
-fn whole(values: &[u32]) -> Vec<Fact> {
-    let fact = |(variable, &value)| Fact { variable, value };
-    values.iter().enumerate().map(fact).collect()
-}
-
-fn add_effect(random: &mut Random, list: &mut List) -> Option<()> {
-    let fact = random_fact(random, list);
-    put(&mut action(random, list)?.effects, fact);
+fn add_effect(random: &mut Random, list: &mut List, step: usize) -> Option<()> {
+    let variable = random.index(list.task.sizes.len());
+    let value = random.within(0..=list.task.sizes[variable] - 1);
+    put(&mut list.action_of(step).effects, Fact { variable, value });
     Some(())
-}
-
-fn drop_effect(random: &mut Random, list: &mut List) -> Option<()> {
-    let step = step(random, list)?;
-    let action = &mut list.task.actions[list.plan[step] as usize];
-    drop_one(random, &mut action.effects)
 }
 
 /// Has an action set the whole state that it leads to, which changes no state of the plan.
-fn set_everything(random: &mut Random, list: &mut List) -> Option<()> {
-    let step = step(random, list)?;
-    let state = list.walk().states[step + 1];
-    let action = &mut list.task.actions[list.plan[step] as usize];
-    action.effects = whole(&state[..list.task.sizes.len()]);
+fn set_everything(_: &mut Random, list: &mut List, step: usize) -> Option<()> {
+    let walk = list.walk();
+    list.action_of(step).effects = whole(&walk, &walk.states[step + 1]);
     Some(())
 }
 
 /// Asks for one fact of the end state more, or for one less.
-fn change_goal(random: &mut Random, list: &mut List) -> Option<()> {
+fn change_goal(random: &mut Random, list: &mut List, _: usize) -> Option<()> {
     if random.once_in(2) {
         return drop_one(random, &mut list.task.goal);
     }
@@ -134,40 +110,31 @@ fn change_goal(random: &mut Random, list: &mut List) -> Option<()> {
     Some(())
 }
 
-fn move_step(random: &mut Random, list: &mut List) -> Option<()> {
-    let from = step(random, list)?;
-    let moved = list.plan.remove(from);
+fn move_step(random: &mut Random, list: &mut List, step: usize) -> Option<()> {
+    let moved = list.plan.remove(step);
     let to = random.index(list.plan.len() + 1);
     list.plan.insert(to, moved);
     Some(())
 }
 
-fn drop_step(random: &mut Random, list: &mut List) -> Option<()> {
-    let step = step(random, list)?;
-    list.plan.remove(step);
-    Some(())
-}
-
 /// A step of a copy of some action.
-fn add_step(random: &mut Random, list: &mut List) -> Option<()> {
-    let step = step(random, list).filter(|_| list.plan.len() < MAX_STEPS)?;
-    let copied = list.task.actions[list.plan[step] as usize].clone();
+fn add_step(random: &mut Random, list: &mut List, step: usize) -> Option<()> {
+    (list.plan.len() < MAX_STEPS).then_some(())?;
+    let copied = list.action_of(step).clone();
     let place = random.index(list.plan.len() + 1);
     list.plan.insert(place, list.task.actions.len() as u32);
     list.task.actions.push(copied);
     Some(())
 }
 
-fn add_variable(random: &mut Random, list: &mut List) -> Option<()> {
-    if list.task.sizes.len() == MAX_VARIABLES {
-        return None;
-    }
+fn add_variable(random: &mut Random, list: &mut List, _: usize) -> Option<()> {
+    (list.task.sizes.len() < MAX_VARIABLES).then_some(())?;
     list.task.sizes.push(2);
     list.task.start.push(random.within(0..=1));
     Some(())
 }
 
-fn add_value(random: &mut Random, list: &mut List) -> Option<()> {
+fn add_value(random: &mut Random, list: &mut List, _: usize) -> Option<()> {
     let variable = random.index(list.task.sizes.len());
     let size = &mut list.task.sizes[variable];
     *size = (*size + 1).min(MAX_DOMAIN as u32);

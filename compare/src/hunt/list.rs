@@ -1,7 +1,7 @@
 //! What the hunt does with a list, which may be valid or not.
 
 use crate::makers::families::{Placement, PLACEMENTS};
-use crate::makers::{chain, fact, fit, List, Random, Walk};
+use crate::makers::{chain, fact, fit, Action, List, Random, Walk};
 use crate::rules::{search, MAX_ACTIONS, MAX_STEPS, MAX_VARIABLES, MAX_WORDS};
 
 impl List {
@@ -11,6 +11,11 @@ impl List {
         let has_room = words.len() <= MAX_WORDS && self.task.sizes.len() <= MAX_VARIABLES;
         let turns = has_room.then(|| search::turns(&words, &self.plan).ok());
         turns.flatten()
+    }
+
+    /// The action of the step with this index.
+    pub fn action_of(&mut self, step: usize) -> &mut Action {
+        &mut self.task.actions[self.plan[step] as usize]
     }
 
     pub fn walk(&self) -> Walk {

@@ -59,7 +59,11 @@ pub fn run(built: &[Built], seed: u64, seconds: u64) -> bool {
     let differing = slow.iter().find(|slow| !slow.timed.are_alike());
     if let Some(shown) = differing.or(slow.iter().max_by(by_time)) {
         println!("# the slowest: {}", shown.described(built));
-        shown.print_text();
+        let List { task, plan, .. } = &shown.list;
+        print!(
+            "{}",
+            text::of_input(&text::input_words(&task.words(), plan))
+        );
     }
     slow.iter().all(Slow::is_in_order)
 }
@@ -164,13 +168,5 @@ impl Slow {
             false => ", the answers differ",
         };
         format!("{figures}{}{others}", times.collect::<String>())
-    }
-
-    fn print_text(&self) {
-        let length_and_plan = text::length_and_plan(&self.list.plan);
-        print!(
-            "{}",
-            text::of_input(&self.list.task.words(), &length_and_plan)
-        );
     }
 }

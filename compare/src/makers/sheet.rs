@@ -20,9 +20,10 @@ pub fn length_word(pair: usize) -> usize {
 
 impl Sheet {
     pub fn of(task: &Task) -> Self {
+        let words = task.words();
         Sheet {
-            words: task.words(),
-            parts: task.places(),
+            parts: rules::parts(&words),
+            words,
             preconditions: task.actions.iter().map(|a| a.preconditions.len()).collect(),
         }
     }

@@ -5,16 +5,14 @@
 mod blocks;
 mod elimination;
 mod exact;
+mod facts;
 pub mod license;
 pub mod marks;
-mod meter;
 pub mod passes;
 mod plan;
 mod program;
-pub mod rounds;
 pub mod search;
 mod states;
-mod tally;
 mod task;
 mod translator;
 
@@ -22,11 +20,10 @@ pub use elimination::{cheaper, eliminate, greedy, kept_part};
 pub use exact::{exact, steps_of};
 pub use license::{license, license_by_search, Claim, Licensed};
 pub use plan::{all_hold, do_step, has, mask_of, step, Kept, Lodged, Mask, State};
-pub use plan::{MASK_WORDS, WORD_BITS};
-pub use program::{printed_by_license, printed_by_shorten, printed_by_validate};
-pub use program::{written_by_translate, Way, Written};
-pub use tally::Tally;
-pub use task::{check_sheet, pair_word, Action};
+pub use plan::{Tally, MASK_WORDS, WORD_BITS};
+pub use program::{printed_by_license, printed_by_shorten, printed_by_validate, sheet_and_rest};
+pub use program::{words_of, written_by_translate, Way, Written};
+pub use task::{check_sheet, pair_word, parts, sheet_of, Action};
 pub use translator::{translate, MAX_TEXT};
 
 pub const EDITION: usize = 1;

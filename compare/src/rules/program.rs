@@ -6,22 +6,35 @@ use super::{COUNT_WORD, HEADER, MAX_STEPS, MAX_WORDS};
 
 const WORD_BYTES: usize = 4;
 
+/// The words of input.
+pub fn words_of(bytes: &[u8]) -> (Vec<u32>, &[u8]) {
+    let (words, rest) = bytes.as_chunks::<WORD_BYTES>();
+    let words = words.iter().map(|&word| u32::from_le_bytes(word));
+    (words.collect(), rest)
+}
+
+/// The sheet, as long as word 3 says, and what stands behind it. Words that are too few for a sheet
+/// count as one.
+pub fn sheet_and_rest(words: &[u32]) -> (&[u32], &[u32]) {
+    let count = words.get(COUNT_WORD).map_or(0, |&word| word as usize);
+    match count < HEADER {
+        true => (words, &[]),
+        false => words.split_at(count.min(words.len())),
+    }
+}
+
 /// The sheet and the plan that input holds, unless it breaks off or runs on, or says that the sheet
 /// has too few words or too many. Of a plan whose length is above 255 nothing but that is known:
 /// any plan that is too long stands for it.
 fn read(bytes: &[u8]) -> Option<(Vec<u32>, Vec<u32>)> {
-    let (words, rest) = bytes.as_chunks::<WORD_BYTES>();
-    let words: Vec<u32> = words.iter().map(|&word| u32::from_le_bytes(word)).collect();
-    let count = *words.get(COUNT_WORD)? as usize;
-    if !(HEADER..=MAX_WORDS).contains(&count) {
-        return None;
-    }
-    let steps = *words.get(count)? as usize;
-    let (sheet, plan) = (&words[..count], &words[count + 1..]);
-    if steps > MAX_STEPS {
+    let (words, odd_bytes) = words_of(bytes);
+    let (sheet, rest) = sheet_and_rest(&words);
+    let (&steps, plan) = rest.split_first()?;
+    (sheet.len() <= MAX_WORDS).then_some(())?;
+    if steps as usize > MAX_STEPS {
         return Some((sheet.to_vec(), vec![0; MAX_STEPS + 1]));
     }
-    let is_whole = plan.len() == steps && rest.is_empty();
+    let is_whole = plan.len() == steps as usize && odd_bytes.is_empty();
     is_whole.then(|| (sheet.to_vec(), plan.to_vec()))
 }
 

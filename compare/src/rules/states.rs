@@ -1,10 +1,9 @@
 //! The exact reduction by the states that reductions of the plan's front reach. What stands behind
 //! is the same for all that reach one state, so of those only the least can become the exact one.
 
-use crate::rules::{
-    all_hold, do_step, split, Action, Lodged, State, FACT_BASE, MASK_WORDS, MAX_VARIABLES,
-    WORD_BITS,
-};
+use super::facts::Facts;
+use super::{all_hold, do_step, split, Action, Lodged, State};
+use super::{MASK_WORDS, MAX_VARIABLES, WORD_BITS};
 use std::collections::hash_map::{Entry, HashMap};
 
 /// A reduction of the plan's front. The fields stand in the order that they are compared in.
@@ -119,33 +118,5 @@ impl<'a> Rest<'a> {
             }
         }
         reached.have_all(self.goal)
-    }
-}
-
-/// A set of facts, one bit for each word.
-struct Facts {
-    bits: [u64; MAX_VARIABLES * FACT_BASE / WORD_BITS],
-}
-
-impl Facts {
-    fn of(state: &State) -> Self {
-        let mut facts = Facts {
-            bits: [0; MAX_VARIABLES * FACT_BASE / WORD_BITS],
-        };
-        for (variable, &value) in state.iter().enumerate() {
-            facts.add(&[(variable * FACT_BASE) as u32 + value]);
-        }
-        facts
-    }
-
-    fn have_all(&self, facts: &[u32]) -> bool {
-        let mut facts = facts.iter().map(|&fact| fact as usize);
-        facts.all(|fact| self.bits[fact / WORD_BITS] >> (fact % WORD_BITS) & 1 == 1)
-    }
-
-    fn add(&mut self, facts: &[u32]) {
-        for fact in facts.iter().map(|&fact| fact as usize) {
-            self.bits[fact / WORD_BITS] |= 1 << (fact % WORD_BITS);
-        }
     }
 }

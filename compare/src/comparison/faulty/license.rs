@@ -102,12 +102,12 @@ const CHANGES: [(&str, Change); 5] = [
     ("masks what is left", |_, grounds, licensed| {
         let Kept { mask, .. } = licensed.kept;
         let places = 0..grounds.steps.len();
-        licensed.kept.mask = mask_of(places.filter(|&it| has(mask, grounds.steps[it])));
+        licensed.kept.mask = mask_of(places.filter(|&it| has(&mask, grounds.steps[it])));
     }),
     ("counts the lodged marks", |lodged, grounds, licensed| {
         let marked = lodged.marked();
         let steps = grounds.steps.iter();
-        let unmarked = steps.filter(|&&step| !has(marked, step)).count();
+        let unmarked = steps.filter(|&&step| !has(&marked, step)).count();
         if licensed.claim != Claim::Least && unmarked > MAX_UNMARKED {
             *licensed = lodged.licensed(Claim::Open(unmarked), &grounds.steps);
         }
