@@ -75,18 +75,18 @@ fn expecting_all(built: &[Built]) -> Record {
     let mut record = Record::default();
     for service in SERVICES {
         let declared = service.declared();
-        record.expect(service.name(), declared.answers);
-        for &(number, least) in declared.places {
-            record.expect_places(service.name(), number, least);
-        }
+        record.expected.push((service.name(), declared.answers));
+        let places = declared.places.iter();
+        let places = places.map(|&(number, least)| ((service.name(), number), least));
+        record.expected_places.extend(places);
     }
-    record.expect(CLAIM, CLAIMS);
-    for (kind, _) in kinds::all() {
-        record.expect_kind(kind);
-    }
-    for Built { program, .. } in built {
-        record.expect(program.kind, program.answers);
-    }
+    record.expected.push((CLAIM, CLAIMS));
+    let kinds = kinds::all().into_iter();
+    record.expected_kinds = kinds.map(|(kind, _)| kind).collect();
+    let programs = built.iter().map(|built| built.program);
+    record
+        .expected
+        .extend(programs.map(|it| (it.kind, it.answers)));
     record
 }
 

@@ -2,7 +2,7 @@
 //! so one fault can be put beside another.
 
 use super::{Random, Task};
-use crate::rules::{self, pair_word, Cause, Refusal};
+use crate::rules::{self, pair_word};
 use std::ops::Range;
 
 pub struct Sheet {
@@ -56,16 +56,10 @@ impl Sheet {
         }
     }
 
-    /// Sets a word that is refused for this cause at this place.
-    pub fn spoil(
-        &mut self,
-        index: usize,
-        word: u32,
-        cause: Cause,
-        place: usize,
-    ) -> Option<Refusal> {
+    /// Sets a word that is refused at this place.
+    pub fn spoil(&mut self, index: usize, word: u32, place: usize) -> Option<usize> {
         self.set(index, word);
-        Some(cause.at(place))
+        Some(place)
     }
 
     /// Has word 3 say how many words there are.

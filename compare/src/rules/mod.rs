@@ -21,8 +21,10 @@ pub use exact::{exact, steps_of};
 pub use license::{license, license_by_search, Claim, Licensed};
 pub use plan::{all_hold, do_step, has, mask_of, step, Kept, Lodged, Mask, State};
 pub use plan::{Tally, MASK_WORDS, WORD_BITS};
-pub use program::{printed_by_license, printed_by_shorten, printed_by_validate, sheet_and_rest};
-pub use program::{words_of, written_by_translate, Way, Written};
+pub use program::{sheet_and_rest, words_of, Way, Written};
+pub use program::{
+    written_by_license, written_by_shorten, written_by_translate, written_by_validate,
+};
 pub use task::{check_sheet, pair_word, parts, sheet_of, Action};
 pub use translator::{translate, MAX_TEXT};
 

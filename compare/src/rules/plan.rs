@@ -88,7 +88,7 @@ impl<'a> Lodged<'a> {
 }
 
 /// What a reduction keeps.
-#[derive(Clone)]
+#[derive(Clone, PartialEq)]
 pub struct Kept {
     pub cost: usize,
     /// The kept action numbers, in the order of the plan.

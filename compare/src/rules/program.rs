@@ -38,19 +38,6 @@ fn read(bytes: &[u8]) -> Option<(Vec<u32>, Vec<u32>)> {
     is_whole.then(|| (sheet.to_vec(), plan.to_vec()))
 }
 
-/// The lines of an answer to a sheet and a plan, or of the refusal.
-fn printed(bytes: &[u8], answer: impl Fn(&[u32], &[u32]) -> Result<String, Refusal>) -> String {
-    read(bytes)
-        .ok_or(Cause::Length.at(0))
-        .and_then(|(words, plan)| answer(&words, &plan))
-        .unwrap_or_else(refused)
-}
-
-/// The line of a refusal.
-fn refused(refusal: Refusal) -> String {
-    format!("refused {} {}\n", refusal.cause as u8, refusal.place)
-}
-
 /// What a program writes to standard output and to standard error.
 #[derive(Default, PartialEq, Eq)]
 pub struct Written {
@@ -58,14 +45,21 @@ pub struct Written {
     pub errors: Vec<u8>,
 }
 
-impl Written {
-    /// A program that prints lines prints those of a refusal too.
-    pub fn lines(lines: String) -> Self {
-        Written {
-            output: lines.into_bytes(),
-            errors: Vec::new(),
-        }
+/// The lines of an answer to a sheet and a plan, or of the refusal.
+fn printed(bytes: &[u8], answer: impl Fn(&[u32], &[u32]) -> Result<String, Refusal>) -> Written {
+    let lines = read(bytes)
+        .ok_or(Cause::Length.at(0))
+        .and_then(|(words, plan)| answer(&words, &plan))
+        .unwrap_or_else(refused);
+    Written {
+        output: lines.into_bytes(),
+        ..Written::default()
     }
+}
+
+/// The line of a refusal.
+fn refused(refusal: Refusal) -> String {
+    format!("refused {} {}\n", refusal.cause as u8, refusal.place)
 }
 
 /// The program that reads a text into a sheet. Words go to standard output, and so that nobody takes
@@ -80,7 +74,7 @@ pub fn written_by_translate(text: &[u8]) -> Written {
 }
 
 /// The program that checks a plan.
-pub fn printed_by_validate(bytes: &[u8]) -> String {
+pub fn written_by_validate(bytes: &[u8]) -> Written {
     printed(bytes, |words, plan| {
         let lodged = Lodged::check(words, plan, &[])?;
         Ok(format!("lodged {} {}\n", plan.len(), lodged.cost()))
@@ -91,7 +85,7 @@ pub fn printed_by_validate(bytes: &[u8]) -> String {
 pub type Way<A> = fn(&[u32], &[u32], usize) -> Result<A, Refusal>;
 
 /// The program of the exact reduction, found this way.
-pub fn printed_by_shorten(bytes: &[u8], way: Way<Kept>) -> String {
+pub fn written_by_shorten(bytes: &[u8], way: Way<Kept>) -> Written {
     printed(bytes, |words, plan| {
         let kept = way(words, plan, plan.len())?;
         lines_of(words, plan, &kept)
@@ -99,7 +93,7 @@ pub fn printed_by_shorten(bytes: &[u8], way: Way<Kept>) -> String {
 }
 
 /// The program of the licence: a line for the claim, and those of what is left.
-pub fn printed_by_license(bytes: &[u8], way: Way<Licensed>) -> String {
+pub fn written_by_license(bytes: &[u8], way: Way<Licensed>) -> Written {
     printed(bytes, |words, plan| {
         let Licensed { claim, kept } = way(words, plan, plan.len())?;
         Ok(format!("{claim}\n{}", lines_of(words, plan, &kept)?))
