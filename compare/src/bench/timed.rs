@@ -18,47 +18,51 @@ pub struct Timed {
     best: [f64; 2],
 }
 
-/// A column of a table: its head, and the cell that it has in a row.
-pub type Column<T> = (&'static str, fn(&T, &Timed) -> String);
-
-/// What a table has before the times of both sides, and behind them.
-pub struct Columns<'a, T> {
-    pub front: &'a [Column<T>],
-    pub behind: &'a [Column<T>],
-    /// Where so many rows are of one thing at growing lengths, the last column tells how the time
-    /// grows against the first of them.
-    pub lengths: Option<usize>,
+/// A row of a table: what is timed, and the first of the rows that are of one thing at growing
+/// lengths.
+pub struct Row<'a, T> {
+    pub it: &'a T,
+    pub timed: &'a Timed,
+    first: &'a Timed,
 }
 
-/// Times all the cases, which take turns, and prints a row for each. Answers whether all answers
+/// A column of a table: its head, and the cell that it has in a row.
+pub type Column<T> = (&'static str, fn(&Row<T>) -> String);
+
+/// Times all the cases, which take turns, and prints a row for each, with columns in front of the
+/// times of both sides and behind them; so many rows are of one thing. Answers whether all answers
 /// were right.
-pub fn print_times<T>(title: &str, rows: Vec<(T, Case)>, columns: Columns<T>) -> bool {
-    let Columns { front, behind, .. } = columns;
-    let (all, mut times): (Vec<T>, Vec<Timed>) = rows
-        .into_iter()
-        .map(|(it, case)| (it, Timed::of(case)))
-        .unzip();
+pub fn print_times<T>(
+    title: &str,
+    rows: Vec<(T, Case)>,
+    lengths: usize,
+    [front, behind]: [&[Column<T>]; 2],
+) -> bool {
+    let timed = |(it, case)| (it, Timed::of(case));
+    let (all, mut times): (Vec<T>, Vec<Timed>) = rows.into_iter().map(timed).unzip();
     for _ in 0..RUNS {
         times.iter_mut().for_each(Timed::run);
     }
     println!("{title}, best of {RUNS} runs:\n");
-    let mut heads: Vec<&str> = front.iter().map(|(head, _)| *head).collect();
-    heads.extend(["Library", "Rust", "Ratio"]);
-    heads.extend(behind.iter().map(|(head, _)| *head));
-    heads.extend(columns.lengths.map(|_| "Growth"));
-    table::print_head(&heads);
+    let heads = |columns: &[Column<T>]| columns.iter().map(|it| it.0).collect::<Vec<_>>();
+    let of_sides = ["Library", "Rust", "Ratio"];
+    table::print_head(&[&heads(front), &of_sides[..], &heads(behind)].concat());
     let mut all_right = true;
     for (index, (it, timed)) in all.iter().zip(&times).enumerate() {
-        let cell = |(_, cell): &Column<T>| cell(it, timed);
-        let mut cells: Vec<String> = front.iter().map(cell).collect();
-        cells.extend(timed.cells());
-        cells.extend(behind.iter().map(cell));
-        let first = |lengths| &times[index - index % lengths];
-        cells.extend(columns.lengths.map(|it| timed.growth(first(it))));
-        table::print_row(&cells);
+        let first = &times[index - index % lengths];
+        let row = Row { it, timed, first };
+        let cells = |columns: &[Column<T>]| columns.iter().map(|it| it.1(&row)).collect::<Vec<_>>();
+        table::print_row(&[&cells(front), &timed.cells()[..], &cells(behind)].concat());
         all_right &= timed.answer().is_some();
     }
     all_right
+}
+
+impl<T> Row<'_, T> {
+    /// The cell of how the library's time grows.
+    pub fn growth(&self) -> String {
+        format!("{:.2}", self.timed.best[0] / self.first.best[0])
+    }
 }
 
 impl Timed {
@@ -106,10 +110,6 @@ impl Timed {
     /// The best times of the library and of the Rust version.
     pub fn best(&self) -> [f64; 2] {
         self.best
-    }
-
-    fn growth(&self, first: &Self) -> String {
-        format!("{:.2}", self.best[0] / first.best[0])
     }
 
     /// The cells of a table under "Library", "Rust" and "Ratio".

@@ -5,8 +5,8 @@ use super::plans::{chain_of_earlier_steps, chain_of_needs, deliveries_walk, knot
 use super::plans::{facts_of, gates_walk, name, with_large_actions, HardPlan, LENGTHS};
 use super::table::{self, MOST_TIME};
 use super::texts::{LongText, SIZES};
-use super::timed::{best_time_of, print_times, Column, Columns, Timed, RUNS};
-use crate::cases::{Memory, Service};
+use super::timed::{best_time_of, print_times, Column, Row, Timed, RUNS};
+use crate::cases::{Case, Memory, Service};
 use crate::comparison::inputs::{closed, of_text, Form, Input};
 use crate::comparison::programs::{written, Built, LICENSE};
 use crate::makers::families::{Family, Placement};
@@ -44,17 +44,17 @@ fn print_machine() {
 type Named = (&'static str, List);
 
 // Columns that more than one table has.
-const NAME: fn(&Named, &Timed) -> String = |(name, _), _| name.to_string();
-const FACTS: Column<Named> = ("Facts of an action", |(_, list), _| facts_of(&list.task));
-const STEPS: Column<Named> = ("Steps", |(_, list), _| list.plan.len().to_string());
+const NAME: fn(&Row<Named>) -> String = |row| row.it.0.to_string();
+const FACTS: Column<Named> = ("Facts of an action", |row| facts_of(&row.it.1.task));
+const STEPS: Column<Named> = ("Steps", |row| row.it.1.plan.len().to_string());
 
-/// A table of lists for one service.
-fn print_lists(title: &str, service: Service, lists: Vec<Named>, columns: Columns<Named>) -> bool {
+/// Each list with its case for a service.
+fn rows(service: Service, lists: Vec<Named>) -> Vec<(Named, Case)> {
     let row = |named: Named| {
         let case = named.1.fitting(service);
         (named, case)
     };
-    print_times(title, lists.into_iter().map(row).collect(), columns)
+    lists.into_iter().map(row).collect()
 }
 
 /// The services that take any plan, as the table names them.
@@ -80,31 +80,24 @@ fn plan_for_exact(steps: usize) -> List {
 fn services() -> bool {
     let walk = gates_walk();
     let large = with_large_actions(&walk);
-    let mut rows = Vec::new();
+    let mut all = Vec::new();
     for (service, name) in SERVICES {
-        rows.extend([&walk, &large].map(|list| ((name, list.clone()), list.fitting(service))));
+        all.extend(rows(
+            service,
+            vec![(name, walk.clone()), (name, large.clone())],
+        ));
     }
     let shorter_large = with_large_actions(&plan_for_exact(128));
-    for list in [plan_for_exact(MAX_STEPS), shorter_large] {
-        let case = list.fitting(Service::Exact);
-        rows.push((("exact reduction", list), case));
-    }
-    let columns = Columns {
-        front: &[
-            ("Service", NAME),
-            FACTS,
-            STEPS,
-            ("Marked or kept", |_, timed| {
-                match timed.case.lent.mask.is_empty() {
-                    true => "–".to_string(),
-                    false => timed.steps_in_mask(),
-                }
-            }),
-        ],
-        behind: &[],
-        lengths: None,
-    };
-    print_times("Services", rows, columns)
+    let lists = [plan_for_exact(MAX_STEPS), shorter_large].map(|list| ("exact reduction", list));
+    all.extend(rows(Service::Exact, lists.into()));
+    let marked_or_kept: Column<Named> = ("Marked or kept", |row| {
+        match row.timed.case.lent.mask.is_empty() {
+            true => "–".to_string(),
+            false => row.timed.steps_in_mask(),
+        }
+    });
+    let front = &[("Service", NAME), FACTS, STEPS, marked_or_kept];
+    print_times("Services", all, 1, [front, &[]])
 }
 
 /// Plans whose marks come about in few rounds and in many. Beside the passes, which the library has
@@ -119,23 +112,20 @@ fn marks() -> bool {
         ("chain of needs", chain_of_needs()),
         ("chain of earlier steps", chain_of_earlier_steps()),
     ];
-    let columns = Columns {
-        front: &[
-            ("Plan", NAME),
-            FACTS,
-            STEPS,
-            ("Marked", |_, timed| timed.steps_in_mask()),
-            ("Rounds", |_, timed| {
-                times_of(timed, |lodged| lodged.marked_by_rounds().1)
-            }),
-            ("Passes", |_, timed| {
-                times_of(timed, |lodged| lodged.marked_by_passes().1)
-            }),
-        ],
-        behind: &[("Rust, by rounds", |_, timed| time_by_rounds(timed))],
-        lengths: None,
-    };
-    print_lists("\nMarks", Service::Marks, lists, columns)
+    let front: &[Column<Named>] = &[
+        ("Plan", NAME),
+        FACTS,
+        STEPS,
+        ("Marked", |row| row.timed.steps_in_mask()),
+        ("Rounds", |row| {
+            times_of(row.timed, |it| it.marked_by_rounds().1)
+        }),
+        ("Passes", |row| {
+            times_of(row.timed, |it| it.marked_by_passes().1)
+        }),
+    ];
+    let behind: &[Column<Named>] = &[("Rust, by rounds", |row| time_by_rounds(row.timed))];
+    print_times("\nMarks", rows(Service::Marks, lists), 1, [front, behind])
 }
 
 /// How often something was marked.
@@ -158,21 +148,19 @@ fn time_by_rounds(timed: &Timed) -> String {
 fn families() -> bool {
     let row = |plan: HardPlan| (plan, plan.make().fitting(Service::Exact));
     let title = format!("\nExact reduction, {MAX_UNMARKED} steps beside the chain");
-    let columns = Columns::<HardPlan> {
-        front: &[
-            ("Family", |plan, _| name(plan.family)),
-            ("Placement", |plan, _| name(plan.placement)),
-            ("Steps", |plan, _| name(plan.steps)),
-            ("Unmarked", |_, timed| timed.unmarked()),
-            ("Turns", |_, timed| timed.turns()),
-        ],
-        behind: &[],
-        lengths: Some(LENGTHS.len()),
-    };
+    let front: &[Column<HardPlan>] = &[
+        ("Family", |row| name(row.it.family)),
+        ("Placement", |row| name(row.it.placement)),
+        ("Steps", |row| name(row.it.steps)),
+        ("Unmarked", |row| row.timed.unmarked()),
+        ("Turns", |row| row.timed.turns()),
+    ];
+    let rows = HardPlan::all().into_iter().map(row).collect();
     print_times(
         &title,
-        HardPlan::all().into_iter().map(row).collect(),
-        columns,
+        rows,
+        LENGTHS.len(),
+        [front, &[("Growth", |row| row.growth())]],
     )
 }
 
@@ -195,20 +183,17 @@ fn lists_for_licences() -> Vec<Named> {
 }
 
 fn licences() -> bool {
-    let columns = Columns {
-        front: &[
-            ("Plan", NAME),
-            FACTS,
-            ("Unmarked", |_, timed| timed.unmarked()),
-            ("Left unmarked", |_, timed| claim_and_left(timed).1),
-            ("Claim", |_, timed| claim_and_left(timed).0),
-            ("Kept", |_, timed| timed.steps_in_mask()),
-        ],
-        behind: &[],
-        lengths: None,
-    };
+    let front: &[Column<Named>] = &[
+        ("Plan", NAME),
+        FACTS,
+        ("Unmarked", |row| row.timed.unmarked()),
+        ("Left unmarked", |row| claim_and_left(row.timed).1),
+        ("Claim", |row| claim_and_left(row.timed).0),
+        ("Kept", |row| row.timed.steps_in_mask()),
+    ];
     let title = format!("\nLicences at {MAX_STEPS} steps");
-    print_lists(&title, Service::License, lists_for_licences(), columns)
+    let rows = rows(Service::License, lists_for_licences());
+    print_times(&title, rows, 1, [front, &[]])
 }
 
 /// The claim, and how many steps are left unmarked.
@@ -228,23 +213,22 @@ fn claim_and_left(timed: &Timed) -> (String, String) {
 
 /// Where a text is four times as long, its time grows by four at most.
 fn texts() -> bool {
-    let row = |text: LongText| (text, text.case());
-    let columns = Columns::<LongText> {
-        front: &[
-            ("Text of", |text, _| name(text.bulk)),
-            ("Bytes", |_, timed| timed.case.lent.text.len().to_string()),
-            // The last word of `out`.
-            ("Words", |_, timed| {
-                timed.told(|memory| memory.out.last().map_or(String::new(), u64::to_string))
-            }),
-        ],
-        behind: &[],
-        lengths: Some(SIZES.len()),
-    };
+    let front: &[Column<LongText>] = &[
+        ("Text of", |row| name(row.it.bulk)),
+        ("Bytes", |row| row.timed.case.lent.text.len().to_string()),
+        // The last word of `out`.
+        ("Words", |row| {
+            let words = |memory: &Memory| memory.out.last().map_or(String::new(), u64::to_string);
+            row.timed.told(words)
+        }),
+    ];
+    let rows = LongText::all().map(|text| (text, text.case())).collect();
+    let title = "\nTexts for the translator";
     print_times(
-        "\nTexts for the translator",
-        LongText::all().map(row).collect(),
-        columns,
+        title,
+        rows,
+        SIZES.len(),
+        [front, &[("Growth", |row| row.growth())]],
     )
 }
 
