@@ -28,13 +28,17 @@ pub fn name(it: impl Debug) -> String {
 }
 
 impl HardPlan {
-    /// As long as a plan may be, with the family's steps in front.
-    pub fn longest_in_front(family: Family) -> Self {
+    pub fn of(family: Family, placement: Placement, steps: usize) -> Self {
         HardPlan {
             family,
-            placement: Placement::Front,
-            steps: MAX_STEPS,
+            placement,
+            steps,
         }
+    }
+
+    /// As long as a plan may be, with the family's steps in front.
+    pub fn longest_in_front(family: Family) -> Self {
+        HardPlan::of(family, Placement::Front, MAX_STEPS)
     }
 
     pub fn make(self) -> List {
@@ -53,11 +57,7 @@ impl HardPlan {
         let mut plans = Vec::new();
         for family in FAMILIES {
             for placement in PLACEMENTS {
-                plans.extend(LENGTHS.map(|steps| HardPlan {
-                    family,
-                    placement,
-                    steps,
-                }));
+                plans.extend(LENGTHS.map(|steps| HardPlan::of(family, placement, steps)));
             }
         }
         plans

@@ -68,12 +68,7 @@ const SERVICES: [(Service, &str); 4] = [
 /// A plan for the exact reduction, which takes few unmarked steps. A sheet of large actions has no
 /// room for the steps of the longest one.
 fn plan_for_exact(steps: usize) -> List {
-    let plan = HardPlan {
-        family: Family::Gates,
-        placement: Placement::Spread,
-        steps,
-    };
-    plan.make()
+    HardPlan::of(Family::Gates, Placement::Spread, steps).make()
 }
 
 /// Each service on a plan of small actions and on one of large actions.

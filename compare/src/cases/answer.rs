@@ -14,18 +14,15 @@ impl Answer {
     }
 
     /// Counts and masks are zero, outputs stay, one step leaves the state, and a plan's end state is
-    /// zero.
+    /// zero. What the service doesn't take has no room for the zeros.
     pub fn refused(service: Service, refusal: Refusal) -> Self {
-        let lengths = service.lengths([0; 2]);
         let number = refusal.cause as u64;
         let mut out = vec![number, refusal.place as u64];
-        out.resize(lengths.out, 0);
+        out.resize(service.declared().out.len(), 0);
         Answer {
-            end: vec![0; lengths.end],
-            mask: vec![0; lengths.mask],
             out,
             number,
-            ..Answer::default()
+            ..Answer::zeros()
         }
     }
 

@@ -1,6 +1,7 @@
 //! The memory lent in a case, with guards on both sides of each slice, so that a write beside it
 //! shows, and what a service answers in it.
 
+use crate::rules::{MASK_WORDS, MAX_VARIABLES};
 use std::fmt::Display;
 use std::ops::{Deref, DerefMut};
 
@@ -9,19 +10,23 @@ const GUARD: usize = 4;
 /// What slices are lent of: words and bytes, each with the one that guards are full of.
 pub trait Word: Copy + PartialEq + Display {
     const GUARD: Self;
+    /// The low part of a word of 64 bits.
+    fn of(word: u64) -> Self;
 }
 
-impl Word for u8 {
-    const GUARD: Self = 0xa5;
+macro_rules! words {
+    ($($word:ty: $guard:literal),*) => {
+        $(impl Word for $word {
+            const GUARD: Self = $guard;
+
+            fn of(word: u64) -> Self {
+                word as $word
+            }
+        })*
+    };
 }
 
-impl Word for u32 {
-    const GUARD: Self = 0xa5a5_a5a5;
-}
-
-impl Word for u64 {
-    const GUARD: Self = 0xa5a5_a5a5;
-}
+words! { u8: 0xa5, u32: 0xa5a5_a5a5, u64: 0xa5a5_a5a5 }
 
 /// A lent slice between its guards.
 #[derive(Clone, PartialEq, Eq)]
@@ -31,6 +36,11 @@ impl<T: Word> Lent<T> {
     pub fn of(words: impl AsRef<[T]>) -> Self {
         let guards = [T::GUARD; GUARD];
         Lent([&guards, words.as_ref(), &guards].concat())
+    }
+
+    fn filled(length: usize, filler: &mut impl FnMut() -> u64) -> Self {
+        let words: Vec<T> = (0..length).map(|_| T::of(filler())).collect();
+        Lent::of(words)
     }
 
     /// Writes at the front; what doesn't fit is dropped, and words behind it stay.
@@ -70,9 +80,10 @@ impl<T> DerefMut for Lent<T> {
     }
 }
 
-/// Declares the slices: those that services only read, and those that they write to.
+/// Declares the slices: those that services only read, and those that they write to. Of these some
+/// have a length that every service needs which takes them, and are zero after a refusal.
 macro_rules! slices {
-    (read $($read:ident: $unit:ty),*; written $($slice:ident: $word:ty),*) => {
+    (read $($read:ident: $unit:ty),*; written $($slice:ident: $word:ty = $needed:expr),*) => {
         #[derive(Clone, Default, PartialEq, Eq)]
         pub struct Memory {
             $(pub $read: Lent<$unit>,)*
@@ -90,7 +101,19 @@ macro_rules! slices {
             pub number: u64,
         }
 
+        /// The slices that are written to, each with the length that it needs, or 0.
+        pub const WRITTEN: &[(&str, usize)] = &[$((stringify!($slice), $needed)),*];
+
         impl Memory {
+            /// Slices of these lengths, in the order of `WRITTEN`, full of words by the filler.
+            pub fn filled(lengths: &[usize], mut filler: impl FnMut() -> u64) -> Self {
+                let mut lengths = lengths.iter().copied();
+                Memory {
+                    $($slice: Lent::filled(lengths.next().unwrap_or(0), &mut filler),)*
+                    ..Memory::default()
+                }
+            }
+
             pub fn write(&mut self, answer: &Answer) {
                 $(self.$slice.write(&answer.$slice);)*
                 self.returned = answer.returned;
@@ -108,6 +131,16 @@ macro_rules! slices {
                 vec![$((stringify!($read), self.$read == other.$read)),*]
             }
         }
+
+        impl Answer {
+            /// Zeros in the slices that need a length.
+            pub fn zeros() -> Self {
+                Answer {
+                    $($slice: vec![0; $needed],)*
+                    ..Answer::default()
+                }
+            }
+        }
     };
 }
 
@@ -115,7 +148,8 @@ macro_rules! slices {
 // stand for nothing before. Of two outputs, `first` is elimination's.
 slices! {
     read words: u32, plan: u32, text: u8;
-    written state: u32, end: u32, first: u32, second: u32, part: u32, mask: u64, out: u64
+    written state: u32 = 0, end: u32 = MAX_VARIABLES, first: u32 = 0, second: u32 = 0,
+        part: u32 = 0, mask: u64 = MASK_WORDS, out: u64 = 0
 }
 
 impl Memory {

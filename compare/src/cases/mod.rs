@@ -9,9 +9,9 @@ mod memory;
 mod service;
 pub mod worked;
 
-pub use memory::{Answer, Lent, Memory};
-pub use service::{going, reducing, taking_plan, Call, Lengths, Numbers, Service, SERVICES};
-pub use service::{CLAIM, CLAIMS, CLAIM_AT};
+pub use memory::{Answer, Lent, Memory, WRITTEN};
+pub use service::{going, reducing, taking_plan, Call, Numbers, Service, SERVICES};
+pub use service::{CLAIM, CLAIMS, CLAIM_AT, FIRST, SECOND};
 
 use crate::rules::Refusal;
 
@@ -28,20 +28,13 @@ impl Case {
         service: Service,
         words: &[u32],
         plan: &[u32],
-        lengths: Lengths,
-        mut filler: impl FnMut() -> u64,
+        lengths: &[usize],
+        filler: impl FnMut() -> u64,
     ) -> Self {
-        let mut fill = |length| -> Vec<u64> { (0..length).map(|_| filler()).collect() };
-        let narrow = |words: Vec<u64>| words.iter().map(|&word| word as u32).collect::<Vec<u32>>();
         let lent = Memory {
-            out: Lent::of(fill(lengths.out)),
             words: Lent::of(words),
             plan: Lent::of(plan),
-            end: Lent::of(narrow(fill(lengths.end))),
-            first: Lent::of(narrow(fill(lengths.outputs[0]))),
-            second: Lent::of(narrow(fill(lengths.outputs[1]))),
-            mask: Lent::of(fill(lengths.mask)),
-            ..Memory::default()
+            ..Memory::filled(lengths, filler)
         };
         let numbers = [0; 4];
         let call = Call { service, numbers };
@@ -52,7 +45,7 @@ impl Case {
     /// The lengths are those that the service needs, and the words are such as no answer has.
     pub fn fitting(service: Service, words: &[u32], plan: &[u32], outputs: [usize; 2]) -> Self {
         let lengths = service.lengths(outputs);
-        Case::filled(service, words, plan, lengths, || u64::MAX)
+        Case::filled(service, words, plan, &lengths, || u64::MAX)
     }
 
     /// A case that takes neither a sheet nor a plan, with an output of this length if it takes one.

@@ -5,10 +5,14 @@
 //! Slices that a service only reads are lent mutably all the same: whether it leaves them alone is
 //! under test, so the compiler must not take it for granted.
 
-use super::{Answer, Memory};
+use super::{Answer, Memory, WRITTEN};
+use crate::rules::MAX_VARIABLES;
 use crate::rules::{self, passes, search, Lodged, Refusal, State, Tally, Way};
-use crate::rules::{MASK_WORDS, MAX_VARIABLES};
 use std::cmp::Ordering;
+
+/// The outputs, whose lengths are the caller's choice.
+pub const FIRST: &str = "first";
+pub const SECOND: &str = "second";
 
 /// What a service takes beside slices; the numbers that it doesn't take are zero.
 pub type Numbers = [u32; 4];
@@ -233,14 +237,6 @@ pub fn going<A>(lent: &Memory, way: Way<A>, tell: fn(A) -> Answer) -> Result<Ans
     way(&lent.words, &lent.plan, lent.first.len()).map(tell)
 }
 
-/// The lengths of the slices that a service writes to; that of one step's state is left out.
-pub struct Lengths {
-    pub end: usize,
-    pub outputs: [usize; 2],
-    pub mask: usize,
-    pub out: usize,
-}
-
 impl Service {
     pub fn declared(self) -> &'static Declared {
         &DECLARED[self as usize]
@@ -259,18 +255,17 @@ impl Service {
         self.takes("plan")
     }
 
-    /// What the service needs, with outputs of these lengths where it takes them.
-    pub fn lengths(self, outputs: [usize; 2]) -> Lengths {
-        let if_taken = |slice, length| if self.takes(slice) { length } else { 0 };
-        Lengths {
-            end: if_taken("end", MAX_VARIABLES),
-            outputs: [
-                if_taken("first", outputs[0]),
-                if_taken("second", outputs[1]),
-            ],
-            mask: if_taken("mask", MASK_WORDS),
-            out: self.declared().out.len(),
-        }
+    /// The lengths of the slices that it writes to, with outputs of these lengths where it takes
+    /// them.
+    pub fn lengths(self, outputs: [usize; 2]) -> Vec<usize> {
+        let length = |&(slice, needed): &(&str, usize)| match slice {
+            _ if !self.takes(slice) => 0,
+            FIRST => outputs[0],
+            SECOND => outputs[1],
+            "out" => self.declared().out.len(),
+            _ => needed,
+        };
+        WRITTEN.iter().map(length).collect()
     }
 }
 
@@ -283,7 +278,7 @@ pub fn taking_plan() -> Vec<Service> {
 /// Those that strike steps of a plan.
 pub fn reducing() -> Vec<Service> {
     let mut services = taking_plan();
-    services.retain(|it| it.takes("first"));
+    services.retain(|it| it.takes(FIRST));
     services
 }
 

@@ -31,9 +31,7 @@ const MOST_CHANGES: usize = 3;
 /// Makes some changes, and half of the time fits what is asked for to them.
 pub fn change(random: &mut Random, list: &mut List) {
     for _ in 0..random.size(1..=MOST_CHANGES) {
-        let steps = list.plan.len();
-        if steps > 0 {
-            let step = random.index(steps);
+        if let Some(step) = random.index_in(&list.plan) {
             random.pick(&CHANGES)(random, list, step);
         }
     }
@@ -51,8 +49,7 @@ fn put(group: &mut Vec<Fact>, fact: Fact) {
 }
 
 fn drop_one(random: &mut Random, group: &mut Vec<Fact>) -> Option<()> {
-    let index = (!group.is_empty()).then(|| random.index(group.len()))?;
-    group.remove(index);
+    group.remove(random.index_in(group)?);
     Some(())
 }
 

@@ -121,17 +121,14 @@ impl Sheet {
     pub fn random_fact(&self, random: &mut Random, before: usize) -> Option<usize> {
         let mut groups = self.groups();
         groups.retain(|group| group.len() > before);
-        if groups.is_empty() {
-            return None;
-        }
-        let group = &groups[random.index(groups.len())];
+        let group = &groups[random.index_in(&groups)?];
         Some(random.size(group.start + before..=group.end - 1))
     }
 
     /// The pair of an action.
     pub fn random_action(&self, random: &mut Random) -> Option<usize> {
-        let actions = self.actions();
-        (actions > 0).then(|| rules::FIRST_ACTION_PAIR + random.index(actions))
+        let action = random.index_in(&self.preconditions)?;
+        Some(rules::FIRST_ACTION_PAIR + action)
     }
 
     pub fn random_pair(&self, random: &mut Random) -> usize {

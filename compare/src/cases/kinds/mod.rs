@@ -16,7 +16,7 @@ mod step;
 mod tally;
 mod translator;
 
-use super::{taking_plan, Case, Service};
+use super::{taking_plan, Case, Service, FIRST, SECOND, WRITTEN};
 use crate::makers::translator::faults as translator_faults;
 use crate::makers::{faults, List, Random, Task};
 
@@ -112,12 +112,12 @@ fn case_with(
     outputs: [usize; 2],
 ) -> Case {
     let mut lengths = service.lengths(outputs);
-    for length in [&mut lengths.end, &mut lengths.mask, &mut lengths.out] {
-        if *length > 0 {
+    for (length, (slice, _)) in lengths.iter_mut().zip(WRITTEN) {
+        if *length > 0 && ![FIRST, SECOND].contains(slice) {
             *length = random_length(random, *length);
         }
     }
-    Case::filled(service, words, plan, lengths, || random.filler())
+    Case::filled(service, words, plan, &lengths, || random.filler())
 }
 
 /// The steps of a plan that greedy elimination doesn't take long over.

@@ -2,7 +2,7 @@
 //! to strike and on plans that hold little.
 
 use super::{case_with, service_for_valid, Make, QUICK_STEPS};
-use crate::cases::{reducing, Case, Service};
+use crate::cases::{reducing, Case, Service, SECOND};
 use crate::makers::answered;
 use crate::makers::cycles::{self, Shape};
 use crate::makers::restores::{Asker, Restores, MOST_FOR_GOAL, MOST_LINKS};
@@ -143,7 +143,7 @@ fn with_short_output(
     let refusal = spoil(&mut walk, random)?;
     let service = random.pick(&reducing());
     let mut outputs = [(); 2].map(|_| random.size(0..=2 * steps));
-    let taken = if service == Service::Cheaper { 2 } else { 1 };
+    let taken = if service.takes(SECOND) { 2 } else { 1 };
     let short = random.index(taken);
     outputs[short] = random.pick(&[steps - 1, outputs[short] % steps]);
     let case = case_with(random, service, &walk.task.words(), &walk.plan, outputs);

@@ -8,7 +8,7 @@ mod texts;
 
 pub use sheets::{with_lamp_cost, SHEET_P};
 
-use super::{reducing, taking_plan, Answer, Case, Service};
+use super::{reducing, taking_plan, Answer, Case, Service, SECOND};
 use crate::rules::{Cause, Claim, Kept, Licensed, Mask, MAX_UNMARKED, MAX_VARIABLES};
 use sheets::{dearest, gate_alone, two_ways, u_and_v, LAMP};
 
@@ -252,7 +252,7 @@ fn short_outputs() -> Vec<Worked> {
     for service in reducing() {
         let with_21_unmarked = short(service, &lamps_then_drain(24), [23; 2]);
         cases.push(("short output, 21 unmarked", with_21_unmarked));
-        let outputs: &[[usize; 2]] = match service.takes("second") {
+        let outputs: &[[usize; 2]] = match service.takes(SECOND) {
             true => &[[2, 3], [3, 2]],
             false => &[[2, 0]],
         };

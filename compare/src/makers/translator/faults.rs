@@ -12,7 +12,7 @@ pub type PutUnsupported = fn(&mut Listing, &mut Random) -> Option<(Holds, usize)
 
 pub const UNSUPPORTED: [(&str, PutUnsupported); 3] = [
     ("translator: axiom layer", |listing, random| {
-        let variable = index(random, &listing.variables)?;
+        let variable = random.index_in(&listing.variables)?;
         listing.variables[variable].layer = Some(any_number(random));
         Some((Holds::Layer, variable))
     }),
@@ -66,12 +66,12 @@ pub const UNFIT: [(&str, PutUnfit); 18] = [
         has_room.then(|| listing.variables.push(one_value(0)))
     }),
     ("translator: range over 256", |listing, random| {
-        let variable = index(random, &listing.variables)?;
+        let variable = random.index_in(&listing.variables)?;
         listing.variables[variable].range = MAX_DOMAIN + random.size(1..=8);
         Some(())
     }),
     ("translator: starting value", |listing, random| {
-        let variable = index(random, &listing.variables)?;
+        let variable = random.index_in(&listing.variables)?;
         let variable = &mut listing.variables[variable];
         variable.start = unknown(random, variable.range, variable.start);
         Some(())
@@ -82,7 +82,7 @@ pub const UNFIT: [(&str, PutUnfit); 18] = [
         Some(())
     }),
     ("translator: cost", |listing, random| {
-        let operator = index(random, &listing.operators)?;
+        let operator = random.index_in(&listing.operators)?;
         for operator in listing.operators.iter_mut().filter(|_| !listing.has_costs) {
             operator.cost = 0;
         }
@@ -156,10 +156,13 @@ const VALUE: usize = 1;
 impl Listing {
     fn any_place(&self, random: &mut Random, facts: Facts) -> Option<Place> {
         match facts {
-            Goal => Some((0, index(random, &self.goal)?)),
+            Goal => Some((0, random.index_in(&self.goal)?)),
             Prevail => {
-                let operator = index(random, &self.operators)?;
-                Some((operator, index(random, &self.operators[operator].prevail)?))
+                let operator = random.index_in(&self.operators)?;
+                Some((
+                    operator,
+                    random.index_in(&self.operators[operator].prevail)?,
+                ))
             }
             Old | New => any_effect(random, self),
         }
@@ -219,18 +222,14 @@ fn one_value(range: usize) -> Variable {
     }
 }
 
-fn index<T>(random: &mut Random, all: &[T]) -> Option<usize> {
-    (!all.is_empty()).then(|| random.index(all.len()))
-}
-
 fn insert<T>(random: &mut Random, all: &mut Vec<T>, it: T) {
     all.insert(random.index(all.len() + 1), it);
 }
 
 /// The indices of an operator and of one of its effects.
 fn any_effect(random: &mut Random, listing: &Listing) -> Option<Place> {
-    let operator = index(random, &listing.operators)?;
-    let effect = index(random, &listing.operators[operator].effects)?;
+    let operator = random.index_in(&listing.operators)?;
+    let effect = random.index_in(&listing.operators[operator].effects)?;
     Some((operator, effect))
 }
 
