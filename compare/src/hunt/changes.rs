@@ -1,6 +1,6 @@
 //! The changes that the hunt makes to a list: of costs, facts, steps and variables.
 
-use crate::makers::{Fact, List, Random, Walk};
+use crate::makers::{Fact, Known, List, Random, Walk};
 use crate::rules::{State, MAX_ACTION_COST, MAX_DOMAIN, MAX_STEPS, MAX_VARIABLES};
 
 /// Makes one change at the step with this index, or elsewhere, or none where the list has no spot
@@ -28,8 +28,10 @@ const CHANGES: [Change; 14] = [
 ];
 const MOST_CHANGES: usize = 3;
 
-/// Makes some changes, and half of the time fits what is asked for to them.
+/// Makes some changes, and half of the time fits what is asked for to them. What was known of the
+/// list is known no more.
 pub fn change(random: &mut Random, list: &mut List) {
+    list.known = Known::default();
     for _ in 0..random.size(1..=MOST_CHANGES) {
         if let Some(step) = random.index_in(&list.plan) {
             random.pick(&CHANGES)(random, list, step);
