@@ -1,6 +1,6 @@
 //! Inputs of the programs: those of document 01, cut off and run on, and seeded ones.
 
-use super::text;
+use super::report;
 use crate::cases::worked::{self, LIST_1, SHEET_P};
 use crate::cases::{damaged, kinds, Case, Memory, Service};
 use crate::makers::{List, Random};
@@ -47,7 +47,7 @@ fn bytes_of(words: &[u32]) -> Vec<u8> {
 
 /// The sheet, the length of the plan and the plan.
 pub fn input_bytes(words: &[u32], plan: &[u32]) -> Vec<u8> {
-    bytes_of(&text::input_words(words, plan))
+    bytes_of(&report::input_words(words, plan))
 }
 
 impl List {

@@ -1,15 +1,13 @@
 //! The comparison: the services of the library and the built programs, held to the rules.
 
-mod claims;
 mod faulty;
 pub mod inputs;
 pub mod long_lists;
 pub mod programs;
 mod record;
-mod report;
+pub mod report;
 pub mod self_test;
 mod services;
-pub mod text;
 mod trial;
 
 use crate::cases::{kinds, CLAIM, CLAIMS, SERVICES};

@@ -2,7 +2,7 @@
 
 use super::inputs::{Form, Input};
 use super::record::Record;
-use super::{report, text};
+use super::report;
 use crate::rules::{exact, license_by_search, search, words_of, Written};
 use crate::rules::{
     written_by_license, written_by_shorten, written_by_translate, written_by_validate,
@@ -154,9 +154,9 @@ fn print_input(input: &Input) {
         return report::print_text(&input.bytes);
     }
     let (words, rest) = words_of(&input.bytes);
-    print!("{}", text::of_input(&words));
+    print!("{}", report::of_input(&words));
     if !rest.is_empty() {
-        println!("# and bytes that are no word: {}", text::listed(rest));
+        println!("# and bytes that are no word: {}", report::listed(rest));
     }
 }
 

@@ -1,7 +1,8 @@
 //! The record of a run: what it has tried, what was answered, and how many answers differed.
 
-use super::claims::Claims;
-use super::text;
+use super::report;
+use crate::rules::license::Grounds;
+use crate::rules::{Claim, Licensed};
 use std::collections::{BTreeMap, BTreeSet};
 use std::time::Instant;
 
@@ -107,11 +108,62 @@ impl Record {
         );
         let unseen = answers.iter().copied().filter(|it| times(it) == 0);
         let unseen: Vec<u64> = unseen.collect();
-        let text = || format!("never answered by {name}: {}", text::listed(&unseen));
+        let text = || format!("never answered by {name}: {}", report::listed(&unseen));
         (!unseen.is_empty()).then(text)
     }
 }
 
 pub fn print_count(kind: &str, count: usize) {
     println!("{kind:<42} {count:>9}");
+}
+
+/// How often each claim of the licence came out.
+#[derive(Default)]
+pub struct Claims {
+    licences: usize,
+    least: usize,
+    irreducible: usize,
+    /// Of the irreducible ones: the cheaper elimination had left unmarked steps.
+    left_unmarked: usize,
+    /// Of those: the exact reduction struck more.
+    struck_more: usize,
+    open: usize,
+}
+
+impl Claims {
+    pub fn count(&mut self, Licensed { claim, kept }: &Licensed, grounds: &Grounds) {
+        self.licences += 1;
+        match claim {
+            Claim::Least => self.least += 1,
+            Claim::Open(_) => self.open += 1,
+            Claim::Irreducible => {
+                self.irreducible += 1;
+                self.left_unmarked += usize::from(grounds.unmarked > 0);
+                self.struck_more += usize::from(kept.actions.len() < grounds.steps.len());
+            }
+        }
+    }
+
+    /// Whether all claims were seen, and the exact reduction striking more.
+    pub fn show_all(&self) -> bool {
+        [self.least, self.struck_more, self.open]
+            .iter()
+            .all(|&seen| seen > 0)
+    }
+
+    /// One line for lists of this kind.
+    pub fn print(&self, kind: &str) {
+        let Claims {
+            licences,
+            least,
+            irreducible,
+            left_unmarked,
+            struck_more,
+            open,
+        } = self;
+        println!(
+            "claims about {kind}: {licences} licences, least: {least}, irreducible: {irreducible} \
+             (left unmarked: {left_unmarked}, more struck: {struck_more}), open: {open}"
+        );
+    }
 }

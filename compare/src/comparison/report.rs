@@ -1,8 +1,10 @@
 //! Prints a case whose answers differ. All but the words of the sheet and the plan is a comment, so
-//! that the text can be fed back as it is printed.
+//! that the text can be fed back as it is printed: the front end reads it, and says what a sheet
+//! means or what is wrong with it.
 
-use super::text;
 use crate::cases::{Call, Case, Memory};
+use crate::rules::sheet_and_rest;
+use std::fmt::Display;
 
 /// The lines of a text that are printed.
 const MOST_LINES: usize = 200;
@@ -12,10 +14,7 @@ pub fn print_difference(case: &Case, by_rules: &Memory, others: &[(&str, Option<
     let Case { call, lent, due } = case;
     println!("# call: {}", described(*call));
     if call.service.takes("words") {
-        print!(
-            "{}",
-            text::of_input(&text::input_words(&lent.words, &lent.plan))
-        );
+        print!("{}", of_input(&input_words(&lent.words, &lent.plan)));
     }
     if !lent.text.is_empty() {
         print_text(&lent.text);
@@ -74,4 +73,20 @@ fn print_if_changed(name: &str, is_as_before: bool) {
     if !is_as_before {
         println!("#   {name} changed");
     }
+}
+
+/// A sheet, the length of the plan and the plan.
+pub fn input_words(sheet: &[u32], plan: &[u32]) -> Vec<u32> {
+    [sheet, &[plan.len() as u32], plan].concat()
+}
+
+/// A line for the sheet, and one for what stands behind it.
+pub fn of_input(words: &[u32]) -> String {
+    let (sheet, rest) = sheet_and_rest(words);
+    [sheet, rest].map(|words| listed(words) + "\n").concat()
+}
+
+pub fn listed<T: Display>(words: &[T]) -> String {
+    let words: Vec<String> = words.iter().map(T::to_string).collect();
+    words.join(" ")
 }

@@ -1,7 +1,7 @@
 //! Tries the claims of the licence on all reductions of short plans, at limits so low that these
 //! come to each claim, and the marks with them. No search is trusted here.
 
-use super::claims::Claims;
+use super::record::Claims;
 use super::self_test::numbered_cases;
 use crate::rules::license::{Ways, BY_RULES};
 use crate::rules::{has, steps_of, Claim, Kept, Lodged, MAX_UNMARKED};

@@ -4,13 +4,12 @@
 //! program, since many are as high as any and a turn doesn't take as long in each.
 
 mod changes;
-mod list;
 
 use crate::bench::{best_time_of, Timed, MOST_TIME};
 use crate::cases::Service;
 use crate::comparison::inputs::closed;
 use crate::comparison::programs::{written, Built};
-use crate::comparison::text;
+use crate::comparison::report;
 use crate::makers::families::{Shape, FAMILIES, PLACEMENTS};
 use crate::makers::{cycles, List, Random};
 use crate::rules::MAX_UNMARKED;
@@ -62,7 +61,7 @@ pub fn run(built: &[Built], seed: u64, seconds: u64) -> bool {
         let List { task, plan, .. } = &shown.list;
         print!(
             "{}",
-            text::of_input(&text::input_words(&task.words(), plan))
+            report::of_input(&report::input_words(&task.words(), plan))
         );
     }
     slow.iter().all(Slow::is_in_order)

@@ -12,7 +12,6 @@ pub mod passes;
 mod plan;
 mod program;
 pub mod search;
-mod states;
 mod task;
 mod translator;
 
