@@ -3,7 +3,7 @@
 
 use super::{Answer, Case, Service};
 use crate::makers::{List, Walk};
-use crate::rules::{mask_of, Cause, Claim, Kept, Licensed, Refusal, MAX_UNMARKED};
+use crate::rules::{mask_of, Cause, Claim, Kept, Licensed, MAX_UNMARKED};
 
 impl List {
     /// The lengths are those that the service needs.
@@ -15,38 +15,36 @@ impl List {
 
     pub fn with_due(&self, case: Case) -> Case {
         match self.due(case.call.service) {
-            Some(Ok(answer)) => case.due(answer),
-            Some(Err(refusal)) => case.refused(refusal),
+            Some(answer) => case.due(answer),
             None => case,
         }
     }
 
-    fn due(&self, service: Service) -> Option<Result<Answer, Refusal>> {
+    fn due(&self, service: Service) -> Option<Answer> {
         let known = &self.known;
         let kept = |steps: &Option<Vec<usize>>| steps.as_ref().map(|steps| self.keeping(steps));
-        let answer = match service {
-            Service::CheckPlan => known
-                .unmarked
-                .map(|_| Walk::of(self.task.clone(), &self.plan).answer()),
-            Service::Marks => {
-                let marked = known.marked.iter().flatten();
-                let mask = mask_of(marked.copied());
-                known.marked.is_some().then(|| Answer::marking(mask))
+        match (service, known.unmarked) {
+            (Service::CheckPlan, Some(_)) => {
+                let walk = Walk::of(self.task.clone(), &self.plan);
+                Some(walk.answer())
             }
-            Service::Eliminate => kept(&known.eliminated).map(Answer::keeping),
-            Service::Greedy => kept(&known.greedy).map(Answer::keeping),
-            Service::Cheaper => {
+            (Service::Marks, _) => {
+                let marked = known.marked.as_ref()?;
+                Some(Answer::marking(mask_of(marked.iter().copied())))
+            }
+            (Service::Eliminate, _) => kept(&known.eliminated).map(Answer::keeping),
+            (Service::Greedy, _) => kept(&known.greedy).map(Answer::keeping),
+            (Service::Cheaper, _) => {
                 let both = [kept(&known.eliminated)?, kept(&known.greedy)?];
                 Some(Answer::keeping_both(both))
             }
-            Service::Exact => match known.unmarked {
-                Some(many) if many > MAX_UNMARKED => return Some(Err(Cause::Unmarked.at(many))),
-                _ => kept(&known.exact).map(Answer::keeping),
-            },
-            Service::License => self.licensed().map(Answer::licensed),
+            (Service::Exact, Some(many)) if many > MAX_UNMARKED => {
+                Some(Answer::refused(service, Cause::Unmarked.at(many)))
+            }
+            (Service::Exact, _) => kept(&known.exact).map(Answer::keeping),
+            (Service::License, _) => self.licensed().map(Answer::licensed),
             _ => None,
-        };
-        answer.map(Ok)
+        }
     }
 
     fn keeping(&self, steps: &[usize]) -> Kept {

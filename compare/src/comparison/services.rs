@@ -49,7 +49,7 @@ fn try_case(
         ("library", with_library.then(|| by_library(case))),
         ("faster way", call.by_faster(lent).map(|it| lent.after(&it))),
     ];
-    compare(record, kind, case, call.by_rules(lent), others, title);
+    compare(record, kind, case, call.by_rules(lent), &others, title);
 }
 
 /// The library against an answer that stands for that of the rules.
@@ -61,7 +61,7 @@ pub fn try_answer(
     title: impl Fn() -> String,
 ) {
     let others = [("library", Some(by_library(case)))];
-    compare(record, kind, case, answer, others, title);
+    compare(record, kind, case, answer, &others, title);
 }
 
 fn by_library(case: &Case) -> Memory {
@@ -70,12 +70,12 @@ fn by_library(case: &Case) -> Memory {
     memory
 }
 
-fn compare<const N: usize>(
+fn compare(
     record: &mut Record,
     kind: &'static str,
     case: &Case,
     answer: Answer,
-    others: [(&str, Option<Memory>); N],
+    others: &[(&str, Option<Memory>)],
     title: impl Fn() -> String,
 ) {
     let Case { lent, due, .. } = case;
@@ -85,7 +85,7 @@ fn compare<const N: usize>(
     let alike = |(_, other): &(_, Option<_>)| other.as_ref().is_none_or(|it| *it == by_rules);
     if !(as_due && others.iter().all(alike)) {
         record.differ(&title());
-        report::print_difference(case, &by_rules, &others);
+        report::print_difference(case, &by_rules, others);
     }
 }
 
