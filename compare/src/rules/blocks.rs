@@ -1,7 +1,6 @@
 //! What the search tests a state with at each unmarked step, and what it writes over it.
 
-use super::facts::Facts;
-use super::{has, split, Lodged, Mask, State, MAX_VARIABLES};
+use super::{has, split, Lodged, Mask, State, FACT_BASE, MAX_VARIABLES};
 use std::array::from_fn;
 use std::hint::select_unpredictable;
 
@@ -128,27 +127,43 @@ struct Behind {
     used: u64,
 }
 
-/// Bit k says whether the k-th fact is in the set.
-fn bits_of(facts: &[u32], set: &Facts) -> u64 {
-    let bits = facts.iter().enumerate();
-    bits.fold(0, |bits, (k, &fact)| bits | u64::from(set.has(fact)) << k)
-}
-
 fn behind(lodged: &Lodged, marked: Mask) -> Vec<Behind> {
     let [mut wanted, mut used] = [(); 2].map(|_| Facts::none());
-    wanted.add(lodged.task.goal());
-    used.add(lodged.task.goal());
+    wanted.set(lodged.task.goal(), true);
+    used.set(lodged.task.goal(), true);
     let mut table = vec![Behind::default(); lodged.actions.len()];
     for (step, action) in lodged.actions.iter().enumerate().rev() {
         table[step] = Behind {
-            wanted: bits_of(action.effects, &wanted),
-            used: bits_of(action.effects, &used),
+            wanted: wanted.bits_of(action.effects),
+            used: used.bits_of(action.effects),
         };
-        wanted.drop(action.effects);
+        wanted.set(action.effects, false);
         if has(&marked, step) {
-            wanted.add(action.preconditions);
+            wanted.set(action.preconditions, true);
         }
-        used.add(action.preconditions);
+        used.set(action.preconditions, true);
     }
     table
+}
+
+/// A set of facts, by their words.
+struct Facts(Vec<bool>);
+
+impl Facts {
+    fn none() -> Self {
+        Facts(vec![false; MAX_VARIABLES * FACT_BASE])
+    }
+
+    fn set(&mut self, facts: &[u32], is_in: bool) {
+        for &fact in facts {
+            self.0[fact as usize] = is_in;
+        }
+    }
+
+    /// Bit k says whether the k-th fact is in the set.
+    fn bits_of(&self, facts: &[u32]) -> u64 {
+        let is_in = |&fact: &u32| u64::from(self.0[fact as usize]);
+        let bits = facts.iter().enumerate();
+        bits.fold(0, |bits, (k, fact)| bits | is_in(fact) << k)
+    }
 }

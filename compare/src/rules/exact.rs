@@ -7,9 +7,8 @@
 //! behind is the same for all that reach one state, so of those only the least can become the exact
 //! one.
 
-use super::facts::Facts;
-use super::{all_hold, do_step, refuse, split, Action, Cause, Kept, Lodged, Mask, Refusal, State};
-use super::{MASK_WORDS, MAX_UNMARKED, MAX_VARIABLES, WORD_BITS};
+use super::{all_hold, do_step, has, refuse, split, Action, Cause, Kept, Lodged, Mask};
+use super::{Refusal, State, FACT_BASE, MASK_WORDS, MAX_UNMARKED, MAX_VARIABLES, WORD_BITS};
 use std::collections::hash_map::{Entry, HashMap};
 
 /// Plans of so many steps have all their reductions gone through; longer ones would take too long.
@@ -202,5 +201,29 @@ impl<'a> Rest<'a> {
             }
         }
         reached.have_all(self.goal)
+    }
+}
+
+/// A set of facts, one bit for each word.
+struct Facts([u64; MAX_VARIABLES * FACT_BASE / WORD_BITS]);
+
+impl Facts {
+    /// All that hold in a state.
+    fn of(state: &State) -> Self {
+        let mut facts = Facts([0; MAX_VARIABLES * FACT_BASE / WORD_BITS]);
+        for (variable, &value) in state.iter().enumerate() {
+            facts.add(&[(variable * FACT_BASE) as u32 + value]);
+        }
+        facts
+    }
+
+    fn have_all(&self, facts: &[u32]) -> bool {
+        facts.iter().all(|&fact| has(&self.0, fact as usize))
+    }
+
+    fn add(&mut self, facts: &[u32]) {
+        for fact in facts.iter().map(|&fact| fact as usize) {
+            self.0[fact / WORD_BITS] |= 1 << (fact % WORD_BITS);
+        }
     }
 }

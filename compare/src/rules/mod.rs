@@ -5,7 +5,6 @@
 mod blocks;
 mod elimination;
 mod exact;
-mod facts;
 pub mod license;
 pub mod marks;
 pub mod passes;
