@@ -7,7 +7,8 @@
 //! - `rules`: the services by the documents, and the passes and the search that the library is timed
 //!   against;
 //! - `makers`: tasks, sheets, faults of sheets, plans and texts, from a seeded generator;
-//! - `cases`: what is called with what, in kinds of random cases and in the worked lists;
+//! - `cases`: the services, each declared in one place, and what is called with what, in kinds of
+//!   random cases and in the worked lists;
 //! - `comparison`: the library, the programs and the rules against each other, and its own test;
 //! - `bench`: times, instructions and stack;
 //! - `hunt`: a search for lists that the exact reduction is slow on;

@@ -108,11 +108,9 @@ impl Arguments {
                 size: self.one_of(&SIZES)?,
             }));
         }
-        Ok(Measured::Plan(HardPlan {
-            family: self.one_of(&FAMILIES)?,
-            placement: self.one_of(&PLACEMENTS)?,
-            steps: self.one_of(&LENGTHS)?,
-        }))
+        let (family, placement) = (self.one_of(&FAMILIES)?, self.one_of(&PLACEMENTS)?);
+        let steps = self.one_of(&LENGTHS)?;
+        Ok(Measured::Plan(HardPlan::of(family, placement, steps)))
     }
 
     fn text(&mut self) -> Result<String, String> {

@@ -3,7 +3,7 @@
 
 use crate::cases::{kinds, Case};
 use crate::comparison::{inputs, long_lists};
-use crate::makers::{List, Random, Task};
+use crate::makers::{Random, Task};
 use crate::rules::MAX_STEPS;
 use std::io::{self, BufWriter, Write};
 
@@ -36,12 +36,9 @@ fn all(seed: u64) -> impl Iterator<Item = Vec<u8>> {
         let of_case = of_case(&mut Random::of_case(!seed, number), &case);
         let is_long_next = number % CASES_BEFORE_LONG == 0;
         let long = is_long_next.then(|| long_lists.next()).flatten();
-        of_case.into_iter().chain(long.map(of_list))
+        let of_list = long.map(|list| list.input_bytes());
+        of_case.into_iter().chain(of_list)
     })
-}
-
-fn of_list(List { task, plan }: List) -> Vec<u8> {
-    inputs::input_bytes(&task.words(), &plan)
 }
 
 /// Nothing if the sheet is refused, or the plan is too long or has an unknown action. Where the case

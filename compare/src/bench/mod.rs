@@ -1,8 +1,6 @@
 //! Measures of the library against Rust versions, both in one run on the same input. What is printed
 //! is the tables of docs/PERFORMANCE.md, in Markdown.
 
-mod licences;
-mod marks;
 mod outside;
 mod plans;
 mod table;
@@ -14,12 +12,10 @@ pub use outside::{count_instructions, measure_stack};
 pub use plans::{name, HardPlan, LENGTHS};
 pub use table::MOST_TIME;
 pub use texts::{LongText, BULKS, SIZES};
-pub use timed::time_of;
+pub use timed::{best_time_of, Timed};
 pub use times::run;
 
 use crate::cases::{Call, Case, Memory, Service};
-use crate::comparison::{by_rules, library};
-use crate::rules::{license_by_search, passes, search};
 
 /// What is measured: the library, or the Rust version of the same rules.
 #[derive(Clone, Copy, Debug)]
@@ -31,17 +27,16 @@ pub enum Side {
 pub const SIDES: [Side; 2] = [Side::Library, Side::Rust];
 
 impl Side {
-    /// The Rust version of the exact reduction is the search with the library's cuts, and that of
-    /// marks has the library's passes; that of licences has both. The rules go other ways.
+    /// The Rust version goes the way that is like the library's, where there is one: the rules go
+    /// other ways.
     fn answer(self, call: Call, memory: &mut Memory) {
-        let answer = match (self, call.service) {
-            (Side::Library, _) => return library::answer(call, memory),
-            (Side::Rust, Service::Exact) => by_rules::exact_by(memory, search::exact),
-            (Side::Rust, Service::Marks) => by_rules::marks_by(memory, passes::marks),
-            (Side::Rust, Service::License) => by_rules::license_by(memory, license_by_search),
-            (Side::Rust, _) => by_rules::answer(call, memory),
-        };
-        memory.write(&answer);
+        match self {
+            Side::Library => call.by_library(memory),
+            Side::Rust => {
+                let faster = call.by_faster(memory);
+                memory.write(&faster.unwrap_or_else(|| call.by_rules(memory)));
+            }
+        }
     }
 }
 
@@ -58,7 +53,7 @@ pub const TEXT: &str = "text";
 impl Measured {
     fn case(self) -> Case {
         match self {
-            Measured::Plan(plan) => plan.case(),
+            Measured::Plan(plan) => plan.make().fitting(Service::Exact),
             Measured::Text(text) => text.case(),
         }
     }

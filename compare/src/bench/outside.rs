@@ -5,39 +5,52 @@
 use super::plans::{name, HardPlan};
 use super::texts::LongText;
 use super::timed::unmarked;
-use super::{licences, table, Measured, Side, SIDES};
+use super::times::inputs_for_licences;
+use super::{table, Measured, Side, SIDES};
 use crate::cases::Service;
-use crate::comparison::inputs::input_bytes;
 use crate::comparison::programs::{Built, LICENSE};
-use crate::makers::families::{Made, FAMILIES};
+use crate::makers::families::FAMILIES;
 use crate::rules::{MAX_STEPS, MAX_UNMARKED};
 use std::env;
 use std::ffi::OsString;
 use std::io::Write;
 use std::process::{Command, Stdio};
 
-/// The cells of a row behind the family's name, or what went wrong.
+/// The cells of a row behind those that tell what is measured, or what went wrong.
 type Cells = Result<Vec<String>, String>;
 
-/// Prints a table with a row for each family, and answers whether everything could be measured.
-fn print_table(measure: &str, columns: &[&str], cells: impl Fn(HardPlan) -> Cells) -> bool {
-    println!(
-        "{measure} at {MAX_STEPS} steps, with the {MAX_UNMARKED} beside the chain in front:\n"
-    );
-    table::print_head(&[&["Family", "Unmarked", "Library", "Rust"], columns].concat());
-    FAMILIES.into_iter().all(|family| {
-        let plan = HardPlan::longest_in_front(family);
-        let cells = cells(plan);
+/// Prints a table with a row for each, and answers whether everything could be measured.
+fn print_table<T>(
+    title: &str,
+    heads: &[&str],
+    all: impl IntoIterator<Item = T>,
+    told: impl Fn(&T) -> Vec<String>,
+    cells: impl Fn(&T) -> Cells,
+) -> bool {
+    println!("{title}:\n");
+    table::print_head(heads);
+    all.into_iter().all(|it| {
+        let (told, cells) = (told(&it), cells(&it));
         match &cells {
-            Ok(cells) => {
-                let Made { task, plan, .. } = plan.make();
-                let told = [name(family), unmarked(&task.words(), &plan)];
-                table::print_row(&[&told, &cells[..]].concat());
-            }
-            Err(error) => println!("{}: {error}", name(family)),
+            Ok(cells) => table::print_row(&[&told[..], cells].concat()),
+            Err(error) => println!("{}: {error}", told.join(" ")),
         }
         cells.is_ok()
     })
+}
+
+/// A table with a row for each family.
+fn print_families(measure: &str, columns: &[&str], cells: impl Fn(&HardPlan) -> Cells) -> bool {
+    let title = format!(
+        "{measure} at {MAX_STEPS} steps, with the {MAX_UNMARKED} beside the chain in front"
+    );
+    let heads = [&["Family", "Unmarked", "Library", "Rust"], columns].concat();
+    let told = |plan: &HardPlan| {
+        let list = plan.make();
+        vec![name(plan.family), unmarked(&list.task.words(), &list.plan)]
+    };
+    let plans = FAMILIES.map(HardPlan::longest_in_front);
+    print_table(&title, &heads, plans, told, cells)
 }
 
 /// The command that runs one side one time.
@@ -51,24 +64,17 @@ fn once(side: Side, measured: Measured) -> Result<Vec<OsString>, String> {
 /// Prints the instructions of the exact reduction and of reading texts, counted by valgrind: a
 /// figure that others on the machine don't change.
 pub fn count_instructions() -> bool {
-    let of_plans = print_table("Instructions", &["Ratio"], |plan| {
+    let of_plans = print_families("Instructions", &["Ratio"], |&plan| {
         instructions_of_both(Service::Exact, Measured::Plan(plan))
     });
-    of_plans && count_instructions_of_texts()
-}
-
-fn count_instructions_of_texts() -> bool {
-    println!("\nInstructions of reading a text for the translator:\n");
-    table::print_head(&["Text of", "Bytes", "Library", "Rust", "Ratio"]);
-    LongText::all().all(|text| {
-        let told = text.arguments();
-        let cells = instructions_of_both(Service::Translate, Measured::Text(text));
-        match &cells {
-            Ok(cells) => table::print_row(&[&told, &cells[..]].concat()),
-            Err(error) => println!("{}: {error}", told.join(" ")),
-        }
-        cells.is_ok()
-    })
+    of_plans
+        && print_table(
+            "\nInstructions of reading a text for the translator",
+            &["Text of", "Bytes", "Library", "Rust", "Ratio"],
+            LongText::all(),
+            |text| text.arguments().to_vec(),
+            |&text| instructions_of_both(Service::Translate, Measured::Text(text)),
+        )
 }
 
 fn instructions_of_both(service: Service, measured: Measured) -> Cells {
@@ -111,34 +117,29 @@ const UNDER_LIMIT: &str = "ulimit -c 0 && ulimit -s \"$0\" && exec \"$@\"";
 /// anew under a limit, which is sought by halves between one that is too low and one that is enough.
 pub fn measure_stack(built: &[Built]) -> bool {
     let names: Vec<&str> = built.iter().map(|built| built.program.name).collect();
-    let of_families = print_table("Least stack in KiB", &names, |plan| {
+    let of_families = print_families("Least stack in KiB", &names, |plan| {
         let mut cells = Vec::new();
         for side in SIDES {
-            cells.push(least_stack(&once(side, Measured::Plan(plan))?, &[])?);
+            cells.push(least_stack(&once(side, Measured::Plan(*plan))?, &[])?);
         }
-        let Made { task, plan, .. } = plan.make();
-        let bytes = input_bytes(&task.words(), &plan);
+        let bytes = plan.make().input_bytes();
         for built in built {
             cells.push(least_stack_of(built, &bytes)?);
         }
         Ok(cells)
     });
     let mut licensing = built.iter().filter(|it| it.program.name == LICENSE);
-    of_families && licensing.all(measure_stack_of_licences)
-}
-
-/// On the plans that licences are timed on, which take it further than those of the families.
-fn measure_stack_of_licences(built: &Built) -> bool {
-    println!("\nLeast stack in KiB of the program that licenses:\n");
-    table::print_head(&["Plan", "Stack"]);
-    licences::inputs().iter().all(|input| {
-        let stack = least_stack_of(built, &input.bytes);
-        match &stack {
-            Ok(cell) => table::print_row(&[input.name.as_str(), cell]),
-            Err(error) => println!("{}: {error}", input.name),
-        }
-        stack.is_ok()
-    })
+    of_families
+        && licensing.all(|built| {
+            // The plans that licences are timed on take it further than those of the families.
+            print_table(
+                "\nLeast stack in KiB of the program that licenses",
+                &["Plan", "Stack"],
+                inputs_for_licences(),
+                |input| vec![input.name.clone()],
+                |input| Ok(vec![least_stack_of(built, &input.bytes)?]),
+            )
+        })
 }
 
 fn least_stack_of(built: &Built, input: &[u8]) -> Result<String, String> {

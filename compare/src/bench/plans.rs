@@ -1,12 +1,10 @@
 //! The plans that are measured.
 
-use crate::cases::{Answer, Case, Service};
-use crate::makers::answered::{self, Answered};
-use crate::makers::families::{Family, Made, Placement, Shape};
-use crate::makers::knots::tied_gates;
+use crate::makers::answered::{self, tied_gates};
+use crate::makers::families::{Family, Placement, Shape, FAMILIES, PLACEMENTS};
 use crate::makers::restores::{Asker, Restores, MOST_LINKS};
-use crate::makers::{fact, jobs, List, Random, Task, Walk};
-use crate::rules::{Kept, MAX_STEPS, MAX_UNMARKED, MAX_VARIABLES};
+use crate::makers::{fact, jobs, List, Random, Task};
+use crate::rules::{MAX_STEPS, MAX_UNMARKED, MAX_VARIABLES};
 use std::fmt::Debug;
 
 pub const LENGTHS: [usize; 3] = [60, 128, MAX_STEPS];
@@ -30,16 +28,20 @@ pub fn name(it: impl Debug) -> String {
 }
 
 impl HardPlan {
-    /// As long as a plan may be, with the family's steps in front.
-    pub fn longest_in_front(family: Family) -> Self {
+    pub fn of(family: Family, placement: Placement, steps: usize) -> Self {
         HardPlan {
             family,
-            placement: Placement::Front,
-            steps: MAX_STEPS,
+            placement,
+            steps,
         }
     }
 
-    pub fn make(self) -> Made {
+    /// As long as a plan may be, with the family's steps in front.
+    pub fn longest_in_front(family: Family) -> Self {
+        HardPlan::of(family, Placement::Front, MAX_STEPS)
+    }
+
+    pub fn make(self) -> List {
         let shape = Shape {
             family: self.family,
             placement: self.placement,
@@ -50,17 +52,15 @@ impl HardPlan {
         shape.make(&mut Random::of_case(SEED, hardest(self.family)))
     }
 
-    /// With the answer that is due where the way that the plan is made says it.
-    pub fn case(self) -> Case {
-        let Made {
-            task, plan, kept, ..
-        } = self.make();
-        let case = case_of(Service::Exact, &task, &plan);
-        let Some(steps) = kept else {
-            return case;
-        };
-        let kept = Kept::of(&plan, &steps, |step| task.cost(plan[step]));
-        case.due(Answer::keeping(kept))
+    /// Each family at each placement, at growing lengths.
+    pub fn all() -> Vec<HardPlan> {
+        let mut plans = Vec::new();
+        for family in FAMILIES {
+            for placement in PLACEMENTS {
+                plans.extend(LENGTHS.map(|steps| HardPlan::of(family, placement, steps)));
+            }
+        }
+        plans
     }
 
     /// What tells it to the program.
@@ -87,40 +87,40 @@ fn hardest(family: Family) -> u64 {
     }
 }
 
-pub fn case_of(service: Service, task: &Task, plan: &[u32]) -> Case {
-    Case::fitting(service, &task.words(), plan, [plan.len(), 0])
+fn random() -> Random {
+    Random::of_case(SEED, 0)
 }
 
 /// A walk among gates, as long as a plan may be.
-pub fn gates_walk() -> Walk {
-    jobs::gates(&mut Random::of_case(SEED, 0), MAX_STEPS)
+pub fn gates_walk() -> List {
+    jobs::gates(&mut random(), MAX_STEPS).into()
 }
 
 /// A walk of trucks and parcels, as long as a plan may be.
-pub fn deliveries_walk() -> Walk {
-    jobs::deliveries(&mut Random::of_case(SEED, 0), MAX_STEPS)
+pub fn deliveries_walk() -> List {
+    jobs::deliveries(&mut random(), MAX_STEPS).into()
 }
 
 /// As many lamps as there may be beside a few needed steps.
-pub fn lamps() -> Answered {
+pub fn lamps() -> List {
     let needed = 3;
-    answered::with_lamps(&mut Random::of_case(SEED, 0), needed, MAX_STEPS - needed)
+    answered::with_lamps(&mut random(), needed, MAX_STEPS - needed)
 }
 
 /// Tied gates with so many steps in all, among lamps.
 pub fn knots(steps: usize) -> List {
-    let random = &mut Random::of_case(SEED, 0);
+    let random = &mut random();
     let gates = 3;
     let count = steps / (gates + 1);
-    let knots = (0..count).map(|_| tied_gates(random, gates).into());
-    let knots = knots.collect();
+    let knots = (0..count).map(|_| tied_gates(random, gates)).collect();
     List::among_lamps(random, knots, MAX_STEPS)
 }
 
-/// The same task with variables that never change: each action asks for many of them and sets as
+/// The same list with variables that never change: each action asks for many of them and sets as
 /// many.
-pub fn with_large_actions(task: &Task) -> Task {
-    let mut task = task.clone();
+pub fn with_large_actions(list: &List) -> List {
+    let mut list = list.clone();
+    let task = &mut list.task;
     let unchanging = task.sizes.len()..MAX_VARIABLES;
     task.sizes.resize(unchanging.end, 1);
     task.start.resize(unchanging.end, 0);
@@ -131,7 +131,7 @@ pub fn with_large_actions(task: &Task) -> Task {
             facts.extend(more.map(|variable| fact(variable, 0)));
         }
     }
-    task
+    list
 }
 
 /// How many facts an action has, from the fewest to the most.
@@ -146,17 +146,17 @@ pub fn facts_of(task: &Task) -> String {
 
 /// As many needed steps as there may be, each of which makes the next one possible: each is marked
 /// by the one behind it, a round later.
-pub fn chain_of_needs() -> Answered {
-    answered::with_lamps(&mut Random::of_case(SEED, 0), MAX_STEPS, 0)
+pub fn chain_of_needs() -> List {
+    answered::with_lamps(&mut random(), MAX_STEPS, 0)
 }
 
 /// As many restores as there may be: each is marked by the one before it, a pass later.
-pub fn chain_of_earlier_steps() -> Answered {
+pub fn chain_of_earlier_steps() -> List {
     let restores = Restores {
         links: MOST_LINKS,
         marked: MOST_LINKS,
         asker: Asker::NextStep(2),
         lamps: MAX_STEPS - 2 * MOST_LINKS,
     };
-    restores.make(&mut Random::of_case(SEED, 0))
+    restores.make(&mut random())
 }

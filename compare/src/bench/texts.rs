@@ -1,10 +1,8 @@
-//! The texts for the translator that are measured, and the table of their times.
+//! The texts for the translator that are measured.
 
 use super::plans::name;
-use super::table;
-use super::timed::{times_of, Timed, RUNS};
 use crate::cases::{Case, Service};
-use crate::makers::translator::{Effect, Listing, Number, Operator, Pair, Text};
+use crate::makers::translator::{Change, Listing, Number, Operator, Pair, Text};
 use crate::makers::Task;
 use crate::rules::{MAX_VARIABLES, MAX_WORDS};
 
@@ -55,8 +53,7 @@ impl LongText {
     }
 
     pub fn case(self) -> Case {
-        let case = Case::fitting(Service::Translate, &[], &[], [MAX_WORDS, 0]);
-        case.with_text(&self.make())
+        Case::without_sheet(Service::Translate, MAX_WORDS).with_text(&self.make())
     }
 
     /// The names of the variables and their values are empty, so that nearly all of even a short
@@ -100,22 +97,12 @@ fn mutex_group(variables: usize, piece: usize) -> Vec<Pair> {
         .collect()
 }
 
-fn effect(variable: usize, old: Option<Number>, piece: usize) -> Effect {
-    let [variable, new] = pair(variable, piece);
-    Effect {
-        conditions: Vec::new(),
-        variable,
-        old,
-        new,
-    }
-}
-
 fn small_operator(variables: usize, piece: usize) -> Operator {
     let asked = piece % variables;
     let set = (piece + 1) % variables;
     Operator {
         prevail: vec![pair(asked, piece)],
-        effects: vec![effect(set, Some(0), piece)],
+        effects: vec![Change::to(pair(set, piece), Some(0))],
         cost: 1,
     }
 }
@@ -124,33 +111,9 @@ fn full_operator(variables: usize, piece: usize) -> Operator {
     let falling = (0..variables).rev();
     Operator {
         prevail: falling.clone().map(|it| pair(it, piece)).collect(),
-        effects: falling.map(|it| effect(it, None, piece + 1)).collect(),
+        effects: falling
+            .map(|it| Change::to(pair(it, piece + 1), None))
+            .collect(),
         cost: 1,
     }
-}
-
-/// Prints the times of all texts. Growth is against the shortest text of the same bulk: where a text
-/// is four times as long, it is four at most. Answers whether all answers were right.
-pub fn run() -> bool {
-    let texts: Vec<LongText> = LongText::all().collect();
-    let times = times_of(texts.iter().map(|text| text.case()));
-    println!("\nTexts for the translator, best of {RUNS} runs:\n");
-    let columns = ["Text of", "Bytes", "Words"];
-    table::print_head(&[&columns[..], &["Library", "Rust", "Ratio", "Growth"]].concat());
-    for (index, (text, timed)) in texts.iter().zip(&times).enumerate() {
-        let shortest = &times[index - index % SIZES.len()];
-        let growth = format!("{:.2}", timed.library() / shortest.library());
-        let cells = [name(text.bulk), bytes_of(timed), words_of(timed)];
-        table::print_row(&[&cells[..], &timed.cells(), &[growth]].concat());
-    }
-    times.iter().all(|timed| timed.answer().is_some())
-}
-
-fn bytes_of(timed: &Timed) -> String {
-    timed.case.lent.text.len().to_string()
-}
-
-/// The last word of `out`.
-fn words_of(timed: &Timed) -> String {
-    timed.told(|memory| memory.out.last().map_or(String::new(), u64::to_string))
 }

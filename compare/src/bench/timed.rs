@@ -2,7 +2,6 @@
 
 use super::{table, Side, SIDES};
 use crate::cases::{Case, Memory};
-use crate::comparison::by_rules;
 use crate::rules::{search, Lodged};
 use std::hint::black_box;
 use std::time::{Duration, Instant};
@@ -19,17 +18,55 @@ pub struct Timed {
     best: [f64; 2],
 }
 
-/// Times all the cases, which take turns.
-pub fn times_of(cases: impl Iterator<Item = Case>) -> Vec<Timed> {
-    let mut all: Vec<Timed> = cases.map(Timed::of).collect();
+/// A row of a table: what is timed, and the first of the rows that are of one thing at growing
+/// lengths.
+pub struct Row<'a, T> {
+    pub it: &'a T,
+    pub timed: &'a Timed,
+    first: &'a Timed,
+}
+
+/// A column of a table: its head, and the cell that it has in a row.
+pub type Column<T> = (&'static str, fn(&Row<T>) -> String);
+
+/// Times all the cases, which take turns, and prints a row for each, with columns in front of the
+/// times of both sides and behind them; so many rows are of one thing. Answers whether all answers
+/// were right.
+pub fn print_times<T>(
+    title: &str,
+    rows: Vec<(T, Case)>,
+    lengths: usize,
+    [front, behind]: [&[Column<T>]; 2],
+) -> bool {
+    let timed = |(it, case)| (it, Timed::of(case));
+    let (all, mut times): (Vec<T>, Vec<Timed>) = rows.into_iter().map(timed).unzip();
     for _ in 0..RUNS {
-        all.iter_mut().for_each(Timed::run);
+        times.iter_mut().for_each(Timed::run);
     }
-    all
+    println!("{title}, best of {RUNS} runs:\n");
+    let heads = |columns: &[Column<T>]| columns.iter().map(|it| it.0).collect::<Vec<_>>();
+    let of_sides = ["Library", "Rust", "Ratio"];
+    table::print_head(&[&heads(front), &of_sides[..], &heads(behind)].concat());
+    let mut all_right = true;
+    for (index, (it, timed)) in all.iter().zip(&times).enumerate() {
+        let first = &times[index - index % lengths];
+        let row = Row { it, timed, first };
+        let cells = |columns: &[Column<T>]| columns.iter().map(|it| it.1(&row)).collect::<Vec<_>>();
+        table::print_row(&[&cells(front), &timed.cells()[..], &cells(behind)].concat());
+        all_right &= timed.answer().is_some();
+    }
+    all_right
+}
+
+impl<T> Row<'_, T> {
+    /// The cell of how the library's time grows.
+    pub fn growth(&self) -> String {
+        format!("{:.2}", self.timed.best[0] / self.first.best[0])
+    }
 }
 
 impl Timed {
-    fn of(case: Case) -> Self {
+    pub fn of(case: Case) -> Self {
         Timed {
             sides: SIDES.map(|side| (side, case.lent.clone())),
             case,
@@ -37,7 +74,7 @@ impl Timed {
         }
     }
 
-    fn run(&mut self) {
+    pub fn run(&mut self) {
         let call = self.case.call;
         for ((side, memory), best) in self.sides.iter_mut().zip(&mut self.best) {
             *best = best.min(time_of(|| side.answer(call, black_box(memory))));
@@ -56,18 +93,27 @@ impl Timed {
         unmarked(words, plan)
     }
 
+    /// The cell of how many steps the right answer marks or keeps.
+    pub fn steps_in_mask(&self) -> String {
+        self.told(|memory| {
+            let steps = memory.mask.iter().map(|word| word.count_ones());
+            steps.sum::<u32>().to_string()
+        })
+    }
+
     /// The cell of something that the right answer tells, if both sides gave it.
     pub fn told(&self, tell: impl Fn(&Memory) -> String) -> String {
         let told = self.answer().map(|memory| tell(&memory));
         told.unwrap_or_else(|| "**the answers differ**".to_string())
     }
 
-    pub fn library(&self) -> f64 {
-        self.best[0]
+    /// The best times of the library and of the Rust version.
+    pub fn best(&self) -> [f64; 2] {
+        self.best
     }
 
     /// The cells of a table under "Library", "Rust" and "Ratio".
-    pub fn cells(&self) -> [String; 3] {
+    fn cells(&self) -> [String; 3] {
         let [library, rust] = self.best;
         let ratio = table::ratio(self.case.call.service, library / rust);
         [table::time(library), table::time(rust), ratio]
@@ -79,10 +125,15 @@ impl Timed {
         let Case { call, lent, due } = &self.case;
         let right = match due {
             Some(due) => lent.after(due),
-            None => lent.after(&by_rules::answer(*call, lent)),
+            None => lent.after(&call.by_rules(lent)),
         };
-        let alike = self.sides.iter().all(|(_, memory)| *memory == right);
-        (alike && is_accepted(&right)).then_some(right)
+        let as_right = self.sides.iter().all(|(_, memory)| *memory == right);
+        (as_right && is_accepted(&right)).then_some(right)
+    }
+
+    /// Whether both sides give the same answer, right or not.
+    pub fn are_alike(&self) -> bool {
+        self.sides[0].1 == self.sides[1].1
     }
 }
 
@@ -91,19 +142,19 @@ pub fn unmarked(words: &[u32], plan: &[u32]) -> String {
     lodged.map_or(0, |lodged| lodged.unmarked()).to_string()
 }
 
-/// How many steps the mask has.
-pub fn steps_in_mask(memory: &Memory) -> String {
-    let steps = memory.mask.iter().map(|word| word.count_ones());
-    steps.sum::<u32>().to_string()
-}
-
 /// A refusal has its number in the first word of `out`.
 pub fn is_accepted(memory: &Memory) -> bool {
     memory.out.first() == Some(&0)
 }
 
+/// The best of so many times.
+pub fn best_time_of(runs: usize, mut call: impl FnMut()) -> f64 {
+    let times = (0..runs).map(|_| time_of(&mut call));
+    times.fold(f64::INFINITY, f64::min)
+}
+
 /// The microseconds that one of as many calls takes as make up a run.
-pub fn time_of(mut call: impl FnMut()) -> f64 {
+fn time_of(mut call: impl FnMut()) -> f64 {
     let begin = Instant::now();
     let mut calls = 0;
     while calls == 0 || begin.elapsed() < LEAST_RUN {

@@ -1,19 +1,7 @@
-//! What a service answers, told in one form by the rules and by the makers of cases.
+//! The forms that answers have, told alike by the rules and by the makers of cases.
 
-use super::Service;
+use super::{Answer, Service};
 use crate::rules::{Kept, Licensed, Mask, Refusal};
-
-/// The words that are written to the front of each lent slice, and what is returned by value.
-#[derive(Default, PartialEq, Eq)]
-pub struct Answer {
-    pub state: Vec<u32>,
-    pub first: Vec<u32>,
-    pub second: Vec<u32>,
-    pub part: Vec<u32>,
-    pub mask: Vec<u64>,
-    pub out: Vec<u64>,
-    pub returned: u64,
-}
 
 impl Answer {
     /// The number and the place are zero, and these counts stand behind them.
@@ -26,22 +14,27 @@ impl Answer {
     }
 
     /// Counts and masks are zero, outputs stay, one step leaves the state, and a plan's end state is
-    /// zero.
+    /// zero. What the service doesn't take has no room for the zeros.
     pub fn refused(service: Service, refusal: Refusal) -> Self {
-        let lengths = service.lengths([0; 2]);
-        let mut out = vec![refusal.cause as u64, refusal.place as u64];
-        out.resize(lengths.out, 0);
+        let number = refusal.cause as u64;
+        let mut out = vec![number, refusal.place as u64];
+        out.resize(service.declared().out.len(), 0);
         Answer {
-            state: vec![0; lengths.state],
-            mask: vec![0; lengths.mask],
             out,
-            ..Answer::default()
+            number,
+            ..Answer::zeros()
         }
     }
 
-    pub fn telling(out: [u32; 2]) -> Self {
+    pub fn of(service: Service, answer: Result<Self, Refusal>) -> Self {
+        answer.unwrap_or_else(|refusal| Answer::refused(service, refusal))
+    }
+
+    /// A tally; the answer is counted under the number.
+    pub fn telling(out: [u32; 2], number: u64) -> Self {
         Answer {
             out: out.map(u64::from).to_vec(),
+            number,
             ..Answer::default()
         }
     }
@@ -49,14 +42,18 @@ impl Answer {
     pub fn returning(returned: u64) -> Self {
         Answer {
             returned,
+            number: returned,
             ..Answer::default()
         }
     }
 
-    pub fn showing(part: &[u32]) -> Self {
+    /// The part of the output with this index.
+    pub fn showing(index: usize, part: &[u32]) -> Self {
         Answer {
             part: part.to_vec(),
-            ..Answer::returning(part.len() as u64)
+            returned: part.len() as u64,
+            number: index as u64,
+            ..Answer::default()
         }
     }
 
@@ -65,10 +62,17 @@ impl Answer {
         Answer { state, ..self }
     }
 
-    pub fn marking(mask: Mask) -> Self {
-        let mask = mask.to_vec();
+    /// The tally and the end state of a valid plan.
+    pub fn valid(cost: usize, steps: usize, end: &[u32]) -> Self {
         Answer {
-            mask,
+            end: end.to_vec(),
+            ..Answer::accepted(&[cost, steps])
+        }
+    }
+
+    pub fn marking(mask: Mask) -> Self {
+        Answer {
+            mask: mask.to_vec(),
             ..Answer::accepted(&[])
         }
     }
@@ -76,36 +80,33 @@ impl Answer {
     pub fn keeping(kept: Kept) -> Self {
         Answer {
             mask: kept.mask.to_vec(),
-            out: Answer::accepted(&[kept.cost, kept.actions.len()]).out,
-            first: kept.actions,
-            ..Answer::default()
+            ..Answer::accepted(&kept.tally()).with_first(kept.actions)
         }
     }
 
     /// The claim stands behind the tally.
     pub fn licensed(Licensed { claim, kept }: Licensed) -> Self {
-        let [claim, open] = claim.numbers();
+        let counts = [kept.tally(), claim.numbers()].concat();
         Answer {
-            out: Answer::accepted(&[kept.cost, kept.actions.len(), claim, open]).out,
+            out: Answer::accepted(&counts).out,
             ..Answer::keeping(kept)
+        }
+    }
+
+    pub fn keeping_both([first, second]: [Kept; 2]) -> Self {
+        let counts = [first.tally(), second.tally()].concat();
+        Answer {
+            second: second.actions,
+            ..Answer::accepted(&counts).with_first(first.actions)
         }
     }
 
     /// The words of a sheet, and how many they are.
     pub fn translated(words: Vec<u32>) -> Self {
-        Answer {
-            out: Answer::accepted(&[words.len()]).out,
-            first: words,
-            ..Answer::default()
-        }
+        Answer::accepted(&[words.len()]).with_first(words)
     }
 
-    pub fn keeping_both([first, second]: [Kept; 2]) -> Self {
-        let [counts, more] = [&first, &second].map(|kept| [kept.cost, kept.actions.len()]);
-        Answer {
-            first: first.actions,
-            second: second.actions,
-            ..Answer::accepted(&[counts, more].concat())
-        }
+    fn with_first(self, first: Vec<u32>) -> Self {
+        Answer { first, ..self }
     }
 }

@@ -17,11 +17,12 @@ pub type Damaged = (String, Case);
 pub fn cases() -> impl Iterator<Item = Damaged> {
     (1..=TEXTS).flat_map(|number| {
         let (text, words) = small_text(number);
-        let cases = lines_changed(&text, &words).chain(lines_out_of_order(&text));
-        let cases: Vec<Damaged> = cases
-            .chain(cut_off(&text))
-            .chain(running_on(&text))
-            .collect();
+        let mut cases = Vec::new();
+        for line in 0..text.lines() {
+            let of_line = lines_damaged(&text, &words, line).into_iter();
+            cases.extend(of_line.map(|(name, case)| (format!("line {}: {name}", line + 1), case)));
+        }
+        cases.extend(cut_off_and_running_on(&text));
         let named = move |(name, case)| (format!("text {number}, {name}"), case);
         cases.into_iter().map(named)
     })
@@ -46,7 +47,7 @@ fn small_text(number: u64) -> (Text, Option<Vec<u32>>) {
 /// With more room than any small text needs.
 fn case(text: &[u8]) -> Case {
     let room = 512;
-    Case::fitting(Service::Translate, &[], &[], [room, 0]).with_text(text)
+    Case::without_sheet(Service::Translate, room).with_text(text)
 }
 
 /// Line numbers count from 1.
@@ -54,49 +55,38 @@ fn broken(text: &[u8], line: usize) -> Case {
     case(text).refused(Cause::Text.at(line + 1))
 }
 
-/// A name that is changed is a name; another line may or may not break the form.
-fn lines_changed<'a>(
-    text: &'a Text,
-    words: &'a Option<Vec<u32>>,
-) -> impl Iterator<Item = Damaged> + 'a {
-    let of_line = move |line| {
-        changed(text.line(line)).into_iter().map(move |way| {
-            let bytes = text.replaced(text.content(line), &way.content);
-            let case = match (text.is_name(line), words) {
-                (true, Some(words)) => case(&bytes).due(Answer::translated(words.clone())),
-                (false, _) if way.breaks => broken(&bytes, line),
-                _ => case(&bytes),
-            };
-            (format!("line {}: {}", line + 1, way.name), case)
-        })
-    };
-    (0..text.lines()).flat_map(of_line)
+/// A name that is changed is a name; another line may or may not break the form, and so may lines
+/// out of order.
+fn lines_damaged(text: &Text, words: &Option<Vec<u32>>, line: usize) -> Vec<(&'static str, Case)> {
+    let mut cases = Vec::new();
+    for way in changed(text.line(line)) {
+        let bytes = text.replaced(text.content(line), &way.content);
+        let case = match (text.is_name(line), words) {
+            (true, Some(words)) => case(&bytes).due(Answer::translated(words.clone())),
+            (false, _) if way.breaks => broken(&bytes, line),
+            _ => case(&bytes),
+        };
+        cases.push((way.name, case));
+    }
+    for (name, way) in OF_ORDER {
+        cases.extend(way(text, line).map(|bytes| (name, case(&bytes))));
+    }
+    cases
 }
 
-fn lines_out_of_order(text: &Text) -> impl Iterator<Item = Damaged> + '_ {
-    (0..text.lines()).flat_map(move |line| {
-        OF_ORDER.into_iter().filter_map(move |(name, way)| {
-            let bytes = way(text, line)?;
-            Some((format!("line {}: {name}", line + 1), case(&bytes)))
-        })
-    })
-}
-
-/// The first line that isn't whole is missing, or doesn't end.
-fn cut_off(text: &Text) -> impl Iterator<Item = Damaged> + '_ {
-    let front = |length| {
-        let bytes = &text.bytes[..length];
-        let whole = bytes.iter().filter(|&&byte| byte == b'\n').count();
-        (format!("{length} bytes of it"), broken(bytes, whole))
-    };
-    (0..text.bytes.len()).map(front)
-}
-
-/// Every byte that may follow.
-fn running_on(text: &Text) -> impl Iterator<Item = Damaged> + '_ {
-    (0..=u8::MAX).map(|byte| {
-        let bytes = [&text.bytes[..], &[byte]].concat();
+/// The first line that isn't whole is missing, or doesn't end. Every byte that may follow is one too
+/// many.
+fn cut_off_and_running_on(text: &Text) -> Vec<Damaged> {
+    let mut cases = Vec::new();
+    for length in 0..text.bytes.len() {
+        let front = &text.bytes[..length];
+        let whole = front.iter().filter(|&&byte| byte == b'\n').count();
+        cases.push((format!("{length} bytes of it"), broken(front, whole)));
+    }
+    for byte in 0..=u8::MAX {
+        let long = [&text.bytes[..], &[byte]].concat();
         let name = format!("byte {byte} behind it");
-        (name, broken(&bytes, text.lines()))
-    })
+        cases.push((name, broken(&long, text.lines())));
+    }
+    cases
 }

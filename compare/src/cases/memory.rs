@@ -1,7 +1,7 @@
 //! The memory lent in a case, with guards on both sides of each slice, so that a write beside it
-//! shows.
+//! shows, and what a service answers in it.
 
-use super::Answer;
+use crate::rules::{MASK_WORDS, MAX_VARIABLES};
 use std::fmt::Display;
 use std::ops::{Deref, DerefMut};
 
@@ -10,19 +10,23 @@ const GUARD: usize = 4;
 /// What slices are lent of: words and bytes, each with the one that guards are full of.
 pub trait Word: Copy + PartialEq + Display {
     const GUARD: Self;
+    /// The low part of a word of 64 bits.
+    fn of(word: u64) -> Self;
 }
 
-impl Word for u8 {
-    const GUARD: Self = 0xa5;
+macro_rules! words {
+    ($($word:ty: $guard:literal),*) => {
+        $(impl Word for $word {
+            const GUARD: Self = $guard;
+
+            fn of(word: u64) -> Self {
+                word as $word
+            }
+        })*
+    };
 }
 
-impl Word for u32 {
-    const GUARD: Self = 0xa5a5_a5a5;
-}
-
-impl Word for u64 {
-    const GUARD: Self = 0xa5a5_a5a5;
-}
+words! { u8: 0xa5, u32: 0xa5a5_a5a5, u64: 0xa5a5_a5a5 }
 
 /// A lent slice between its guards.
 #[derive(Clone, PartialEq, Eq)]
@@ -32,6 +36,11 @@ impl<T: Word> Lent<T> {
     pub fn of(words: impl AsRef<[T]>) -> Self {
         let guards = [T::GUARD; GUARD];
         Lent([&guards, words.as_ref(), &guards].concat())
+    }
+
+    fn filled(length: usize, filler: &mut impl FnMut() -> u64) -> Self {
+        let words: Vec<T> = (0..length).map(|_| T::of(filler())).collect();
+        Lent::of(words)
     }
 
     /// Writes at the front; what doesn't fit is dropped, and words behind it stay.
@@ -71,50 +80,83 @@ impl<T> DerefMut for Lent<T> {
     }
 }
 
-#[derive(Clone, Default, PartialEq, Eq)]
-pub struct Memory {
-    pub words: Lent<u32>,
-    pub plan: Lent<u32>,
-    pub text: Lent<u8>,
-    pub state: Lent<u32>,
-    /// The output, or the first of two.
-    pub first: Lent<u32>,
-    pub second: Lent<u32>,
-    pub part: Lent<u32>,
-    pub mask: Lent<u64>,
-    pub out: Lent<u64>,
-    /// What a service returns by value.
-    pub returned: u64,
+/// Declares the slices: those that services only read, and those that they write to. Of these some
+/// have a length that every service needs which takes them, and are zero after a refusal.
+macro_rules! slices {
+    (read $($read:ident: $unit:ty),*; written $($slice:ident: $word:ty = $needed:expr),*) => {
+        #[derive(Clone, Default, PartialEq, Eq)]
+        pub struct Memory {
+            $(pub $read: Lent<$unit>,)*
+            $(pub $slice: Lent<$word>,)*
+            /// What a service returns by value.
+            pub returned: u64,
+        }
+
+        /// The words that are written to the front of each slice, and what is returned by value.
+        #[derive(Clone, Default, PartialEq, Eq)]
+        pub struct Answer {
+            $(pub $slice: Vec<$word>,)*
+            pub returned: u64,
+            /// What the answer is counted under: the number of a refusal, where there is one.
+            pub number: u64,
+        }
+
+        /// The slices that are written to, each with the length that it needs, or 0.
+        pub const WRITTEN: &[(&str, usize)] = &[$((stringify!($slice), $needed)),*];
+
+        impl Memory {
+            /// Slices of these lengths, in the order of `WRITTEN`, full of words by the filler.
+            pub fn filled(lengths: &[usize], mut filler: impl FnMut() -> u64) -> Self {
+                let mut lengths = lengths.iter().copied();
+                Memory {
+                    $($slice: Lent::filled(lengths.next().unwrap_or(0), &mut filler),)*
+                    ..Memory::default()
+                }
+            }
+
+            pub fn write(&mut self, answer: &Answer) {
+                $(self.$slice.write(&answer.$slice);)*
+                self.returned = answer.returned;
+            }
+
+            /// The slices that services write to, each with its name, its words and whether its
+            /// guards stand.
+            pub fn written(&self) -> Vec<(&'static str, (Vec<String>, bool))> {
+                vec![$((stringify!($slice), self.$slice.shown())),*]
+            }
+
+            /// The slices that services only read, each with its name and whether it is as in the
+            /// other memory.
+            pub fn read(&self, other: &Self) -> Vec<(&'static str, bool)> {
+                vec![$((stringify!($read), self.$read == other.$read)),*]
+            }
+        }
+
+        impl Answer {
+            /// Zeros in the slices that need a length.
+            pub fn zeros() -> Self {
+                Answer {
+                    $($slice: vec![0; $needed],)*
+                    ..Answer::default()
+                }
+            }
+        }
+    };
+}
+
+// A site state is rolled forward where it is lent, and the end of a plan is told in words that
+// stand for nothing before. Of two outputs, `first` is elimination's.
+slices! {
+    read words: u32, plan: u32, text: u8;
+    written state: u32 = 0, end: u32 = MAX_VARIABLES, first: u32 = 0, second: u32 = 0,
+        part: u32 = 0, mask: u64 = MASK_WORDS, out: u64 = 0
 }
 
 impl Memory {
-    pub fn write(&mut self, answer: &Answer) {
-        self.state.write(&answer.state);
-        self.first.write(&answer.first);
-        self.second.write(&answer.second);
-        self.part.write(&answer.part);
-        self.mask.write(&answer.mask);
-        self.out.write(&answer.out);
-        self.returned = answer.returned;
-    }
-
     /// The memory with the answer written to it.
     pub fn after(&self, answer: &Answer) -> Self {
         let mut memory = self.clone();
         memory.write(answer);
         memory
-    }
-
-    /// The slices that services write to, each with its name, its words and whether its guards
-    /// stand.
-    pub fn written(&self) -> [(&'static str, (Vec<String>, bool)); 6] {
-        [
-            ("state", self.state.shown()),
-            ("first", self.first.shown()),
-            ("second", self.second.shown()),
-            ("part", self.part.shown()),
-            ("mask", self.mask.shown()),
-            ("out", self.out.shown()),
-        ]
     }
 }

@@ -4,23 +4,16 @@
 mod answer;
 pub mod damaged;
 pub mod kinds;
+mod known;
 mod memory;
 mod service;
 pub mod worked;
 
-pub use answer::Answer;
-pub use memory::{Lent, Memory};
-pub use service::{Lengths, Service, LEFT, REDUCING, SERVICES, TAKEN, TAKING_PLAN};
-pub use service::{ACCEPTED, CLAIM, CLAIMS, CLAIM_AT};
+pub use memory::{Answer, Lent, Memory, WRITTEN};
+pub use service::{going, reducing, taking_plan, Call, Numbers, Service, SERVICES};
+pub use service::{CLAIM, CLAIMS, CLAIM_AT, FIRST, SECOND};
 
 use crate::rules::Refusal;
-
-/// A service and the numbers that it takes beside slices; those that it doesn't take are zero.
-#[derive(Clone, Copy)]
-pub struct Call {
-    pub service: Service,
-    pub numbers: [u32; 4],
-}
 
 pub struct Case {
     pub call: Call,
@@ -35,20 +28,13 @@ impl Case {
         service: Service,
         words: &[u32],
         plan: &[u32],
-        lengths: Lengths,
-        mut filler: impl FnMut() -> u64,
+        lengths: &[usize],
+        filler: impl FnMut() -> u64,
     ) -> Self {
-        let mut fill = |length| -> Vec<u64> { (0..length).map(|_| filler()).collect() };
-        let narrow = |words: Vec<u64>| words.iter().map(|&word| word as u32).collect::<Vec<u32>>();
         let lent = Memory {
-            out: Lent::of(fill(lengths.out)),
             words: Lent::of(words),
             plan: Lent::of(plan),
-            state: Lent::of(narrow(fill(lengths.state))),
-            first: Lent::of(narrow(fill(lengths.outputs[0]))),
-            second: Lent::of(narrow(fill(lengths.outputs[1]))),
-            mask: Lent::of(fill(lengths.mask)),
-            ..Memory::default()
+            ..Memory::filled(lengths, filler)
         };
         let numbers = [0; 4];
         let call = Call { service, numbers };
@@ -59,20 +45,24 @@ impl Case {
     /// The lengths are those that the service needs, and the words are such as no answer has.
     pub fn fitting(service: Service, words: &[u32], plan: &[u32], outputs: [usize; 2]) -> Self {
         let lengths = service.lengths(outputs);
-        Case::filled(service, words, plan, lengths, || u64::MAX)
+        Case::filled(service, words, plan, &lengths, || u64::MAX)
+    }
+
+    /// A case that takes neither a sheet nor a plan, with an output of this length if it takes one.
+    pub fn without_sheet(service: Service, output: usize) -> Self {
+        Case::fitting(service, &[], &[], [output, 0])
     }
 
     /// A case of the kept part of these outputs.
-    pub fn of_parts(outputs: [Vec<u32>; 2], part: Vec<u32>) -> Self {
-        let mut case = Case::fitting(Service::KeptPart, &[], &[], [0; 2]);
-        let [first, second] = outputs;
+    pub fn of_parts([first, second]: [Vec<u32>; 2], part: Vec<u32>) -> Self {
+        let mut case = Case::without_sheet(Service::KeptPart, 0);
         case.lent.first = Lent::of(first);
         case.lent.second = Lent::of(second);
         case.lent.part = Lent::of(part);
         case
     }
 
-    pub fn with_numbers(mut self, numbers: [u32; 4]) -> Self {
+    pub fn with_numbers(mut self, numbers: Numbers) -> Self {
         self.call.numbers = numbers;
         self
     }

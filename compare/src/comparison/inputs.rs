@@ -1,9 +1,9 @@
 //! Inputs of the programs: those of document 01, cut off and run on, and seeded ones.
 
-use super::text;
+use super::report;
 use crate::cases::worked::{self, LIST_1, SHEET_P};
 use crate::cases::{damaged, kinds, Case, Memory, Service};
-use crate::makers::Random;
+use crate::makers::{List, Random};
 use crate::rules::{COUNT_WORD, EDITION_WORD, HEADER, MAX_ACTION_COST, MAX_STEPS, MAX_WORDS};
 
 /// What programs read: a sheet with its list, or the text of a translator.
@@ -47,7 +47,14 @@ fn bytes_of(words: &[u32]) -> Vec<u8> {
 
 /// The sheet, the length of the plan and the plan.
 pub fn input_bytes(words: &[u32], plan: &[u32]) -> Vec<u8> {
-    bytes_of(&[words, &text::length_and_plan(plan)].concat())
+    bytes_of(&report::input_words(words, plan))
+}
+
+impl List {
+    /// The same of a list.
+    pub fn input_bytes(&self) -> Vec<u8> {
+        input_bytes(&self.task.words(), &self.plan)
+    }
 }
 
 /// The input of a case that has a plan or a text.

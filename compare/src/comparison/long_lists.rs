@@ -2,10 +2,10 @@
 
 use super::record::Record;
 use super::services;
-use crate::cases::{Answer, Case, Service};
+use crate::cases::{Answer, Service};
+use crate::makers::answered::{tied_gates, twins};
 use crate::makers::cycles::{self, Shape};
 use crate::makers::families::{self, Family, FAMILIES, PLACEMENTS};
-use crate::makers::knots::{tied_gates, twins};
 use crate::makers::{dense, jobs, List, Random, Walk};
 use crate::rules::license::BY_SEARCH;
 use crate::rules::{MAX_STEPS, MAX_UNMARKED};
@@ -21,53 +21,59 @@ const LENGTHS: RangeInclusive<usize> = 100..=MAX_STEPS;
 const KNOTS: RangeInclusive<usize> = 1..=12;
 const TIED: usize = 4;
 
-/// The name of a kind, and what makes a list of such a length.
-type Kind = (String, Box<dyn Fn(&mut Random, usize) -> List>);
-
-fn kind(name: &str, make: impl Fn(&mut Random, usize) -> List + 'static) -> Kind {
-    (name.to_string(), Box::new(make))
+/// Where a list comes from.
+#[derive(Clone, Copy)]
+enum Source {
+    AnyTask,
+    Gates,
+    Deliveries,
+    /// Knots among lamps.
+    Knots(fn(&mut Random) -> List),
+    Cycles(Shape),
+    Hard(Family),
 }
 
+/// The name of a kind, and where its lists come from.
+type Kind = (String, Source);
+
+const KINDS: [(&str, Source); 11] = [
+    ("random tasks", Source::AnyTask),
+    ("walks among gates", Source::Gates),
+    ("deliveries", Source::Deliveries),
+    ("knots, dense", Source::Knots(dense::knot)),
+    (
+        "knots, tied gates",
+        Source::Knots(|random| tied_gates(random, TIED)),
+    ),
+    ("knots, twins", Source::Knots(twins)),
+    ("cycles", Source::Cycles(cycles::USUAL)),
+    ("cycles, few actions", Source::Cycles(cycles::FEW_ACTIONS)),
+    ("cycles, free actions", Source::Cycles(cycles::FREE_ACTIONS)),
+    ("cycles, many writers", Source::Cycles(cycles::MANY_WRITERS)),
+    ("cycles, tied costs", Source::Cycles(cycles::TIED_COSTS)),
+];
+
 fn kinds() -> Vec<Kind> {
-    let mut kinds = vec![
-        kind("random tasks", random_task),
-        kind("walks among gates", |random, length| {
-            jobs::gates(random, length).into()
-        }),
-        kind("deliveries", |random, length| {
-            jobs::deliveries(random, length).into()
-        }),
-        kind("knots, dense", |random, length| {
-            of_knots(random, length, dense::knot)
-        }),
-        kind("knots, tied gates", |random, length| {
-            of_knots(random, length, |random| tied_gates(random, TIED).into())
-        }),
-        kind("knots, twins", |random, length| {
-            of_knots(random, length, |random| twins(random).into())
-        }),
-    ];
-    kinds.extend(CYCLES.map(|(name, shape)| {
-        kind(name, move |random, length| {
-            cycles::walk(random, shape, length).into()
-        })
-    }));
+    let mut kinds = Vec::from(KINDS.map(|(name, source)| (name.to_string(), source)));
     kinds.extend(FAMILIES.map(|family| {
         let name = format!("family of {family:?}").to_lowercase();
-        kind(&name, move |random, length| {
-            of_family(random, family, length)
-        })
+        (name, Source::Hard(family))
     }));
     kinds
 }
 
-const CYCLES: [(&str, Shape); 5] = [
-    ("cycles", cycles::USUAL),
-    ("cycles, few actions", cycles::FEW_ACTIONS),
-    ("cycles, free actions", cycles::FREE_ACTIONS),
-    ("cycles, many writers", cycles::MANY_WRITERS),
-    ("cycles, tied costs", cycles::TIED_COSTS),
-];
+impl Source {
+    fn make(self, random: &mut Random, length: usize) -> List {
+        match self {
+            Source::AnyTask => random_task(random, length),
+            Source::Gates => jobs::gates(random, length).into(),
+            Source::Deliveries => jobs::deliveries(random, length).into(),
+            Source::Knots(knot) => of_knots(random, length, knot),
+            Source::Cycles(shape) => cycles::list(random, shape, length),
+            Source::Hard(family) => of_family(random, family, length),
+        }
+    }
+}
 
 /// Tasks are tried until one has actions.
 fn random_task(random: &mut Random, length: usize) -> List {
@@ -84,7 +90,7 @@ fn of_family(random: &mut Random, family: Family, length: usize) -> List {
         size: random.size(MAX_UNMARKED + 1..=length / 2),
         costs: 1..=100,
     };
-    shape.make(random).into()
+    shape.make(random)
 }
 
 fn of_knots(random: &mut Random, length: usize, knot: fn(&mut Random) -> List) -> List {
@@ -94,10 +100,10 @@ fn of_knots(random: &mut Random, length: usize, knot: fn(&mut Random) -> List) -
 }
 
 /// The list of a kind with this number.
-fn numbered((_, make): &Kind, seed: u64, number: u64) -> List {
+fn numbered((_, source): &Kind, seed: u64, number: u64) -> List {
     let random = &mut Random::of_case(seed, number);
     let length = random.size(LENGTHS);
-    make(random, length)
+    source.make(random, length)
 }
 
 /// Lists without end, of which the kinds take turns.
@@ -125,10 +131,9 @@ pub fn compare(record: &mut Record, seed: u64) {
 }
 
 fn try_list(record: &mut Record, kind: &str, list: &List, title: impl Fn() -> String) {
-    let (words, plan) = (list.task.words(), &list.plan);
-    let licence = BY_SEARCH.license(MAX_UNMARKED, &words, plan, plan.len());
+    let case = list.fitting(Service::License);
+    let licence = BY_SEARCH.license(&case.lent.words, &list.plan, list.plan.len());
     let (licensed, grounds) = licence.ok().expect("the lists are valid");
     record.claims_about(kind).count(&licensed, &grounds);
-    let case = Case::fitting(Service::License, &words, plan, [plan.len(), 0]);
-    services::try_answer(record, KIND, &case, Answer::licensed(licensed), true, title);
+    services::try_answer(record, KIND, &case, Answer::licensed(licensed), title);
 }

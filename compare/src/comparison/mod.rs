@@ -1,17 +1,13 @@
 //! The comparison: the services of the library and the built programs, held to the rules.
 
-pub mod by_rules;
-mod claims;
 mod faulty;
 pub mod inputs;
-pub mod library;
 pub mod long_lists;
 pub mod programs;
 mod record;
-mod report;
+pub mod report;
 pub mod self_test;
 mod services;
-pub mod text;
 mod trial;
 
 use crate::cases::{kinds, CLAIM, CLAIMS, SERVICES};
@@ -76,18 +72,19 @@ pub fn long(built: &[Built], first_seed: u64, seconds: u64) -> bool {
 fn expecting_all(built: &[Built]) -> Record {
     let mut record = Record::default();
     for service in SERVICES {
-        record.expect(service.name(), service.answers());
-        for &(number, least) in service.places() {
-            record.expect_places(service.name(), number, least);
-        }
+        let declared = service.declared();
+        record.expected.push((service.name(), declared.answers));
+        let places = declared.places.iter();
+        let places = places.map(|&(number, least)| ((service.name(), number), least));
+        record.expected_places.extend(places);
     }
-    record.expect(CLAIM, CLAIMS);
-    for (kind, _) in kinds::all() {
-        record.expect_kind(kind);
-    }
-    for Built { program, .. } in built {
-        record.expect(program.kind, program.answers);
-    }
+    record.expected.push((CLAIM, CLAIMS));
+    let kinds = kinds::all().into_iter();
+    record.expected_kinds = kinds.map(|(kind, _)| kind).collect();
+    let programs = built.iter().map(|built| built.program);
+    record
+        .expected
+        .extend(programs.map(|it| (it.kind, it.answers)));
     record
 }
 

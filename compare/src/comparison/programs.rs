@@ -2,10 +2,11 @@
 
 use super::inputs::{Form, Input};
 use super::record::Record;
-use super::{report, text};
-use crate::rules::{exact, license_by_search, search};
-use crate::rules::{printed_by_license, printed_by_shorten, printed_by_validate};
-use crate::rules::{written_by_translate, Written};
+use super::report;
+use crate::rules::{exact, license_by_search, search, words_of, Written};
+use crate::rules::{
+    written_by_license, written_by_shorten, written_by_translate, written_by_validate,
+};
 use std::fs;
 use std::io::{Read, Write};
 use std::path::{Path, PathBuf};
@@ -35,16 +36,16 @@ static PROGRAMS: [Program; 4] = [
         name: "validate",
         kind: "program: validate",
         reads: Form::Record,
-        due: |bytes| Written::lines(printed_by_validate(bytes)),
-        due_of_hard: |bytes| Written::lines(printed_by_validate(bytes)),
+        due: written_by_validate,
+        due_of_hard: written_by_validate,
         answers: &[0, 1, 2, 3, 4, 5, 6, 7, 8, 9, 11],
     },
     Program {
         name: "shorten",
         kind: "program: shorten",
         reads: Form::Record,
-        due: |bytes| Written::lines(printed_by_shorten(bytes, exact)),
-        due_of_hard: |bytes| Written::lines(printed_by_shorten(bytes, search::exact)),
+        due: |bytes| written_by_shorten(bytes, exact),
+        due_of_hard: |bytes| written_by_shorten(bytes, search::exact),
         answers: &[0, 1, 2, 3, 4, 5, 6, 7, 8, 9, 11, 12],
     },
     Program {
@@ -52,8 +53,8 @@ static PROGRAMS: [Program; 4] = [
         kind: "program: license",
         reads: Form::Record,
         // The exact reduction refuses some of the hard plans, and the licence takes them all.
-        due: |bytes| Written::lines(printed_by_license(bytes, license_by_search)),
-        due_of_hard: |bytes| Written::lines(printed_by_license(bytes, license_by_search)),
+        due: |bytes| written_by_license(bytes, license_by_search),
+        due_of_hard: |bytes| written_by_license(bytes, license_by_search),
         answers: &[0, 1, 2, 3, 4, 5, 6, 7, 8, 9, 11],
     },
     Program {
@@ -152,28 +153,19 @@ fn print_input(input: &Input) {
     if input.form == Form::Text {
         return report::print_text(&input.bytes);
     }
-    let (words, rest) = input.bytes.as_chunks();
-    let words: Vec<u32> = words.iter().map(|&word| u32::from_le_bytes(word)).collect();
-    print!("{}", text::of_program_input(&words));
+    let (words, rest) = words_of(&input.bytes);
+    print!("{}", report::of_input(&words));
     if !rest.is_empty() {
-        println!("# and bytes that are no word: {}", text::listed(rest));
+        println!("# and bytes that are no word: {}", report::listed(rest));
     }
 }
 
 /// Output that is words is no text, and shows its bytes by their numbers.
 fn print_written(title: &str, written: &Written) {
-    print_lines(
-        title,
-        &written
-            .output
-            .escape_ascii()
-            .to_string()
-            .replace("\\n", "\n"),
-    );
-    print_lines(
-        "and to standard error",
-        &String::from_utf8_lossy(&written.errors),
-    );
+    let output = written.output.escape_ascii().to_string();
+    print_lines(title, &output.replace("\\n", "\n"));
+    let errors = String::from_utf8_lossy(&written.errors);
+    print_lines("and to standard error", &errors);
 }
 
 fn print_lines(title: &str, lines: &str) {

@@ -1,7 +1,8 @@
 //! The record of a run: what it has tried, what was answered, and how many answers differed.
 
-use super::claims::Claims;
-use super::text;
+use super::report;
+use crate::rules::license::Grounds;
+use crate::rules::{Claim, Licensed};
 use std::collections::{BTreeMap, BTreeSet};
 use std::time::Instant;
 
@@ -13,40 +14,24 @@ pub struct Record {
     pub differences: usize,
     /// When the run ends, unless what there is to try ends it.
     pub end: Option<Instant>,
-    /// The cases tried of each kind, by its name.
+    /// The cases tried of each kind, by its name. A run must try each kind that is expected: where a
+    /// kind says what its cases are refused for, a case of it shows that cause, which its number may
+    /// share with others.
     counts: BTreeMap<&'static str, usize>,
-    /// The answers seen of each service and of each program, by its name.
+    pub expected_kinds: Vec<&'static str>,
+    /// The answers seen of each service and of each program, by its name, and those that the run
+    /// must show: one that never saw one shows too little.
     answers: BTreeMap<&'static str, BTreeMap<u64, usize>>,
-    /// The places that each service's refusals of each number were seen at.
+    pub expected: Vec<(&'static str, &'static [u64])>,
+    /// The places that each service's refusals of each number were seen at, and the refusals that
+    /// the run must show, at how many places at least.
     places: BTreeMap<(&'static str, u64), BTreeSet<u64>>,
+    pub expected_places: Vec<((&'static str, u64), usize)>,
     /// The claims about each kind of long lists.
     claims: BTreeMap<String, Claims>,
-    /// The answers that the run must show.
-    expected: Vec<(&'static str, &'static [u64])>,
-    /// The kinds of which the run must try a case.
-    expected_kinds: Vec<&'static str>,
-    /// The refusals that the run must show, and at how many places at least.
-    expected_places: Vec<((&'static str, u64), usize)>,
 }
 
 impl Record {
-    /// Has the run show each of these answers of a service or a program: a run that never saw one
-    /// shows too little.
-    pub fn expect(&mut self, name: &'static str, answers: &'static [u64]) {
-        self.expected.push((name, answers));
-    }
-
-    /// Has the run try this kind. Where a kind says what its cases are refused for, a case of it
-    /// shows that cause, which its number may share with others.
-    pub fn expect_kind(&mut self, kind: &'static str) {
-        self.expected_kinds.push(kind);
-    }
-
-    /// Has the run show a service's refusal of this number at so many places at least.
-    pub fn expect_places(&mut self, name: &'static str, number: u64, least: usize) {
-        self.expected_places.push(((name, number), least));
-    }
-
     pub fn is_over(&self) -> bool {
         let is_late = self.end.is_some_and(|end| Instant::now() >= end);
         is_late || self.differences >= MOST_DIFFERENCES
@@ -86,56 +71,99 @@ impl Record {
         for (kind, &count) in &self.counts {
             print_count(kind, count);
         }
-        let mut all_seen = true;
-        for (name, answers) in &self.expected {
-            all_seen &= self.print_answers(name, answers);
+        let answers = self.expected.iter();
+        let mut unseen: Vec<String> = answers.flat_map(|it| self.print_answers(it)).collect();
+        for ((name, number), least) in &self.expected_places {
+            let places = self.places.get(&(*name, *number)).map_or(0, BTreeSet::len);
+            println!("places of {name}, refusal {number}: {places}, {least} are enough");
+            if places < *least {
+                unseen.push(format!("at too few places: {name}, refusal {number}"));
+            }
         }
-        for (refusal, least) in &self.expected_places {
-            all_seen &= self.print_places(*refusal, *least);
+        for kind in &self.expected_kinds {
+            if !self.counts.contains_key(kind) {
+                unseen.push(format!("never tried: {kind}"));
+            }
         }
-        all_seen &= self.all_kinds_tried();
         for (kind, claims) in &self.claims {
             claims.print(kind);
         }
+        // A run that differences have ended has failed anyway.
+        if self.differences == 0 {
+            unseen.iter().for_each(|it| println!("{it}"));
+        }
         let tried: usize = self.counts.values().sum();
         println!("compared {tried} cases, {} differences", self.differences);
-        self.differences == 0 && all_seen
+        self.differences == 0 && unseen.is_empty()
     }
 
-    /// Answers whether each was seen. A run that differences have ended has failed anyway.
-    fn print_answers(&self, name: &str, answers: &[u64]) -> bool {
+    /// Answers with what was not seen.
+    fn print_answers(&self, (name, answers): &(&str, &[u64])) -> Option<String> {
         let seen = self.answers.get(name);
         let times = |answer: &u64| *seen.and_then(|seen| seen.get(answer)).unwrap_or(&0);
         let listed = answers.iter().map(|it| format!("{it}: {}", times(it)));
-        let listed: Vec<String> = listed.collect();
-        println!("answers of {name}: {}", listed.join(", "));
+        println!(
+            "answers of {name}: {}",
+            listed.collect::<Vec<_>>().join(", ")
+        );
         let unseen = answers.iter().copied().filter(|it| times(it) == 0);
         let unseen: Vec<u64> = unseen.collect();
-        if !unseen.is_empty() && self.differences == 0 {
-            println!("never answered by {name}: {}", text::listed(&unseen));
-        }
-        unseen.is_empty()
-    }
-
-    /// Answers whether there were as many as there must be.
-    fn print_places(&self, refusal: (&'static str, u64), least: usize) -> bool {
-        let places = self.places.get(&refusal).map_or(0, BTreeSet::len);
-        let (name, number) = refusal;
-        println!("places of {name}, refusal {number}: {places}, {least} are enough");
-        places >= least
-    }
-
-    fn all_kinds_tried(&self) -> bool {
-        let untried = |kind: &&&str| !self.counts.contains_key(**kind);
-        let mut untried = self.expected_kinds.iter().filter(untried).peekable();
-        let all_tried = untried.peek().is_none();
-        if self.differences == 0 {
-            untried.for_each(|kind| println!("never tried: {kind}"));
-        }
-        all_tried
+        let text = || format!("never answered by {name}: {}", report::listed(&unseen));
+        (!unseen.is_empty()).then(text)
     }
 }
 
 pub fn print_count(kind: &str, count: usize) {
     println!("{kind:<42} {count:>9}");
+}
+
+/// How often each claim of the licence came out.
+#[derive(Default)]
+pub struct Claims {
+    licences: usize,
+    least: usize,
+    irreducible: usize,
+    /// Of the irreducible ones: the cheaper elimination had left unmarked steps.
+    left_unmarked: usize,
+    /// Of those: the exact reduction struck more.
+    struck_more: usize,
+    open: usize,
+}
+
+impl Claims {
+    pub fn count(&mut self, Licensed { claim, kept }: &Licensed, grounds: &Grounds) {
+        self.licences += 1;
+        match claim {
+            Claim::Least => self.least += 1,
+            Claim::Open(_) => self.open += 1,
+            Claim::Irreducible => {
+                self.irreducible += 1;
+                self.left_unmarked += usize::from(grounds.unmarked > 0);
+                self.struck_more += usize::from(kept.actions.len() < grounds.steps.len());
+            }
+        }
+    }
+
+    /// Whether all claims were seen, and the exact reduction striking more.
+    pub fn show_all(&self) -> bool {
+        [self.least, self.struck_more, self.open]
+            .iter()
+            .all(|&seen| seen > 0)
+    }
+
+    /// One line for lists of this kind.
+    pub fn print(&self, kind: &str) {
+        let Claims {
+            licences,
+            least,
+            irreducible,
+            left_unmarked,
+            struck_more,
+            open,
+        } = self;
+        println!(
+            "claims about {kind}: {licences} licences, least: {least}, irreducible: {irreducible} \
+             (left unmarked: {left_unmarked}, more struck: {struck_more}), open: {open}"
+        );
+    }
 }

@@ -1,8 +1,10 @@
 //! Prints a case whose answers differ. All but the words of the sheet and the plan is a comment, so
-//! that the text can be fed back as it is printed.
+//! that the text can be fed back as it is printed: the front end reads it, and says what a sheet
+//! means or what is wrong with it.
 
-use super::text;
 use crate::cases::{Call, Case, Memory};
+use crate::rules::sheet_and_rest;
+use std::fmt::Display;
 
 /// The lines of a text that are printed.
 const MOST_LINES: usize = 200;
@@ -11,14 +13,13 @@ const MOST_LINES: usize = 200;
 pub fn print_difference(case: &Case, by_rules: &Memory, others: &[(&str, Option<Memory>)]) {
     let Case { call, lent, due } = case;
     println!("# call: {}", described(*call));
-    if call.service.takes_sheet() {
-        let length_and_plan = text::length_and_plan(&lent.plan);
-        print!("{}", text::of_input(&lent.words, &length_and_plan));
+    if call.service.takes("words") {
+        print!("{}", of_input(&input_words(&lent.words, &lent.plan)));
     }
     if !lent.text.is_empty() {
         print_text(&lent.text);
     }
-    println!("# out has: {}", call.service.out().join(", "));
+    println!("# out has: {}", call.service.declared().out.join(", "));
     let print_answer = |title: &str, memory: &Memory| {
         println!("# {title}, returned {}:", memory.returned);
         print_memory(memory, lent);
@@ -50,7 +51,7 @@ pub fn print_text(text: &[u8]) {
 }
 
 fn described(call: Call) -> String {
-    let named = call.service.numbers().iter().zip(call.numbers);
+    let named = call.service.declared().numbers.iter().zip(call.numbers);
     let numbers = named.map(|(name, number)| format!(", {name} {number}"));
     format!("{}{}", call.service.name(), numbers.collect::<String>())
 }
@@ -63,13 +64,29 @@ fn print_memory(memory: &Memory, lent: &Memory) {
         }
         print_if_changed(&format!("memory beside {name}"), guards_stand);
     }
-    print_if_changed("words", memory.words == lent.words);
-    print_if_changed("plan", memory.plan == lent.plan);
-    print_if_changed("text", memory.text == lent.text);
+    for (name, is_as_before) in memory.read(lent) {
+        print_if_changed(name, is_as_before);
+    }
 }
 
 fn print_if_changed(name: &str, is_as_before: bool) {
     if !is_as_before {
         println!("#   {name} changed");
     }
+}
+
+/// A sheet, the length of the plan and the plan.
+pub fn input_words(sheet: &[u32], plan: &[u32]) -> Vec<u32> {
+    [sheet, &[plan.len() as u32], plan].concat()
+}
+
+/// A line for the sheet, and one for what stands behind it.
+pub fn of_input(words: &[u32]) -> String {
+    let (sheet, rest) = sheet_and_rest(words);
+    [sheet, rest].map(|words| listed(words) + "\n").concat()
+}
+
+pub fn listed<T: Display>(words: &[T]) -> String {
+    let words: Vec<String> = words.iter().map(T::to_string).collect();
+    words.join(" ")
 }

@@ -1,11 +1,10 @@
-//! Compares the services: the library, the search and the passes against the rules, and the rules
-//! against the answers that are due.
+//! Compares the services: the library and the ways that are like its own against the rules, and the
+//! rules against the answers that are due.
 
 use super::record::Record;
-use super::{by_rules, library, report};
-use crate::cases::{damaged, kinds, worked, Answer, Case, Service};
-use crate::cases::{ACCEPTED, CLAIM, CLAIM_AT};
-use crate::rules::{passes, search};
+use super::report;
+use crate::cases::{damaged, kinds, worked, Answer, Case, Memory, Service};
+use crate::cases::{CLAIM, CLAIM_AT};
 use std::ops::RangeInclusive;
 
 const WORKED: &str = "documents: worked lists, texts and limits";
@@ -37,6 +36,7 @@ pub fn try_random(record: &mut Record, seed: u64, numbers: RangeInclusive<u64>) 
     }
 }
 
+/// The rules answer, and where there is a way like the library's it answers too.
 fn try_case(
     record: &mut Record,
     kind: &'static str,
@@ -44,52 +44,58 @@ fn try_case(
     with_library: bool,
     title: impl Fn() -> String,
 ) {
-    let answer = by_rules::answer(case.call, &case.lent);
-    try_answer(record, kind, case, answer, with_library, title);
+    let Case { call, lent, .. } = case;
+    let others = [
+        ("library", with_library.then(|| by_library(case))),
+        ("faster way", call.by_faster(lent).map(|it| lent.after(&it))),
+    ];
+    compare(record, kind, case, call.by_rules(lent), &others, title);
 }
 
-/// The answer stands for that of the rules.
+/// The library against an answer that stands for that of the rules.
 pub fn try_answer(
     record: &mut Record,
     kind: &'static str,
     case: &Case,
     answer: Answer,
-    with_library: bool,
     title: impl Fn() -> String,
 ) {
-    let Case { call, lent, due } = case;
+    let others = [("library", Some(by_library(case)))];
+    compare(record, kind, case, answer, &others, title);
+}
+
+fn by_library(case: &Case) -> Memory {
+    let mut memory = case.lent.clone();
+    case.call.by_library(&mut memory);
+    memory
+}
+
+fn compare(
+    record: &mut Record,
+    kind: &'static str,
+    case: &Case,
+    answer: Answer,
+    others: &[(&str, Option<Memory>)],
+    title: impl Fn() -> String,
+) {
+    let Case { lent, due, .. } = case;
     let by_rules = lent.after(&answer);
-    let by_library = with_library.then(|| {
-        let mut memory = lent.clone();
-        library::answer(*call, &mut memory);
-        memory
-    });
-    let by_search = (call.service == Service::Exact)
-        .then(|| lent.after(&by_rules::exact_by(lent, search::exact)));
-    let by_passes = (call.service == Service::Marks)
-        .then(|| lent.after(&by_rules::marks_by(lent, passes::marks)));
     count(record, kind, case, &answer);
     let as_due = due.as_ref().is_none_or(|due| lent.after(due) == by_rules);
-    let others = [
-        ("library", by_library),
-        ("search", by_search),
-        ("passes", by_passes),
-    ];
     let alike = |(_, other): &(_, Option<_>)| other.as_ref().is_none_or(|it| *it == by_rules);
     if !(as_due && others.iter().all(alike)) {
         record.differ(&title());
-        report::print_difference(case, &by_rules, &others);
+        report::print_difference(case, &by_rules, others);
     }
 }
 
 fn count(record: &mut Record, kind: &'static str, case: &Case, answer: &Answer) {
     let service = case.call.service;
-    let number = by_rules::number(case.call, &case.lent, answer);
-    record.count(kind, service.name(), number);
+    record.count(kind, service.name(), answer.number);
     if let [number, place, ..] = answer.out[..] {
         record.note_place(service.name(), number, place);
     }
-    if service == Service::License && number == ACCEPTED {
+    if service == Service::License && answer.number == 0 {
         record.note_answer(CLAIM, answer.out[CLAIM_AT]);
     }
 }

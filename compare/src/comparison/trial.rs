@@ -1,10 +1,10 @@
 //! Tries the claims of the licence on all reductions of short plans, at limits so low that these
 //! come to each claim, and the marks with them. No search is trusted here.
 
-use super::claims::Claims;
+use super::record::Claims;
 use super::self_test::numbered_cases;
-use crate::rules::license::BY_RULES;
-use crate::rules::{has, mask_of, steps_of, Claim, Kept, Lodged, MAX_UNMARKED};
+use crate::rules::license::{Ways, BY_RULES};
+use crate::rules::{has, steps_of, Claim, Kept, Lodged, MAX_UNMARKED};
 
 /// All reductions of plans of at most so many steps are gone through.
 const FEW_STEPS: usize = 12;
@@ -42,9 +42,8 @@ impl<'a> Trial<'a> {
     fn of(words: &'a [u32], plan: &'a [u32]) -> Option<Self> {
         let lodged = Lodged::check(words, plan, &[]).ok()?;
         (plan.len() <= FEW_STEPS).then_some(())?;
-        let valid = lodged.reductions().filter(|kept| lodged.is_valid(kept));
         Some(Trial {
-            valid: valid.collect(),
+            valid: lodged.valid_reductions().collect(),
             words,
             lodged,
         })
@@ -56,7 +55,7 @@ impl<'a> Trial<'a> {
         let marked = self.lodged.marked();
         let keeps_marked = |kept: &Vec<bool>| {
             let mut steps = kept.iter().enumerate();
-            steps.all(|(step, &is_kept)| is_kept || !has(marked, step))
+            steps.all(|(step, &is_kept)| is_kept || !has(&marked, step))
         };
         let all_keep = self.valid.iter().all(keeps_marked);
         (!all_keep).then_some("a marked step can be struck")
@@ -65,7 +64,9 @@ impl<'a> Trial<'a> {
     /// What is wrong with the licence at this limit, if something is.
     fn wrong_licence(&self, limit: usize, claims: &mut Claims) -> Option<&'static str> {
         let plan = self.lodged.plan;
-        let licence = BY_RULES.license(limit, self.words, plan, plan.len());
+        let limits = [limit; 2];
+        let ways = Ways { limits, ..BY_RULES };
+        let licence = ways.license(self.words, plan, plan.len());
         let Ok((licensed, grounds)) = licence else {
             return Some("a valid plan is refused");
         };
@@ -79,35 +80,28 @@ impl<'a> Trial<'a> {
     fn wrong_reduction(&self, kept: &Kept) -> Option<&'static str> {
         let lodged = &self.lodged;
         let flags = self.flags(kept);
-        let steps = steps_of(&flags);
-        let actions: Vec<u32> = steps.iter().map(|&step| lodged.plan[step]).collect();
+        let again = lodged.keeping(&steps_of(&flags));
         let told = (kept.cost, kept.actions.len());
-        let is_told_alike = kept.mask == mask_of(steps.iter().copied())
-            && kept.actions == actions
-            && lodged.tally(&steps) == told;
         let eliminations = [lodged.eliminated(), lodged.greedily_eliminated()];
         let is_cheaper = |steps: &Vec<usize>| lodged.tally(steps) < told;
-        [
-            ("what is left is not valid", !self.valid.contains(&flags)),
-            ("the tally, the mask and the words differ", !is_told_alike),
-            (
-                "an elimination is cheaper",
-                eliminations.iter().any(is_cheaper),
-            ),
-        ]
-        .into_iter()
-        .find_map(|(wrong, is_wrong)| is_wrong.then_some(wrong))
+        if !self.valid.contains(&flags) {
+            Some("what is left is not valid")
+        } else if *kept != again {
+            Some("the tally, the mask and the words differ")
+        } else {
+            let is_wrong = eliminations.iter().any(is_cheaper);
+            is_wrong.then_some("an elimination is cheaper")
+        }
     }
 
     fn wrong_claim(&self, claim: Claim, limit: usize, kept: &Kept) -> Option<&'static str> {
         let flags = self.flags(kept);
         let key = |kept: &Vec<bool>| (self.lodged.counts(kept), kept.clone());
-        let is_lesser = |other: &Vec<bool>| key(other) < key(&flags);
-        let is_least = !self.valid.iter().any(is_lesser);
-        let strikes_more = |other: &Vec<bool>| *other != flags && is_within(other, &flags);
-        let is_irreducible = !self.valid.iter().any(strikes_more);
-        let unmarked = Lodged::check(self.words, &kept.actions, &[])
-            .map_or(0, |left| left.outside(left.marked_by_rounds().0));
+        let is_least = self.valid.iter().all(|other| key(other) >= key(&flags));
+        let keeps_more = |other: &Vec<bool>| *other == flags || !is_within(other, &flags);
+        let is_irreducible = self.valid.iter().all(keeps_more);
+        let left = Lodged::check(self.words, &kept.actions, &[]);
+        let unmarked = left.map_or(0, |left| left.outside(left.marked_by_rounds().0));
         let may_be_least = self.lodged.unmarked() <= limit;
         let holds = match claim {
             Claim::Least => may_be_least && is_least && is_irreducible,
@@ -119,18 +113,13 @@ impl<'a> Trial<'a> {
 
     /// Whether each step of the plan is kept.
     fn flags(&self, kept: &Kept) -> Vec<bool> {
-        let mut flags = vec![false; self.lodged.actions.len()];
-        for step in kept.steps() {
-            flags[step] = true;
-        }
-        flags
+        let steps = 0..self.lodged.actions.len();
+        steps.map(|step| has(&kept.mask, step)).collect()
     }
 }
 
 /// Whether all that is kept in the first is kept in the second.
 fn is_within(inner: &[bool], outer: &[bool]) -> bool {
-    inner
-        .iter()
-        .zip(outer)
-        .all(|(&inner, &outer)| outer || !inner)
+    let mut both = inner.iter().zip(outer);
+    both.all(|(inner, outer)| inner <= outer)
 }

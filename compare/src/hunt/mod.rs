@@ -4,17 +4,15 @@
 //! program, since many are as high as any and a turn doesn't take as long in each.
 
 mod changes;
-mod list;
 
-use crate::bench::{time_of, MOST_TIME};
-use crate::cases::{Case, Service};
-use crate::comparison::inputs::{closed, input_bytes};
+use crate::bench::{best_time_of, Timed, MOST_TIME};
+use crate::cases::Service;
+use crate::comparison::inputs::closed;
 use crate::comparison::programs::{written, Built};
-use crate::comparison::{by_rules, library, text};
+use crate::comparison::report;
 use crate::makers::families::{Shape, FAMILIES, PLACEMENTS};
 use crate::makers::{cycles, List, Random};
-use crate::rules::{search, MAX_UNMARKED};
-use std::hint::black_box;
+use crate::rules::MAX_UNMARKED;
 use std::time::{Duration, Instant};
 
 /// A climb is stuck where so many changes in a row have not led higher by a hundredth.
@@ -52,17 +50,21 @@ pub fn run(built: &[Built], seed: u64, seconds: u64) -> bool {
     println!("# seed {seed}: {tried} lists tried in {climbs} climbs");
     let random = &mut Random::of_case(seed, climbs);
     let lists = highest.iter().flat_map(|it| it.list.with_lengths(random));
-    let timed: Vec<Timed> = lists.map(|list| Timed::of(list, built)).collect();
-    for timed in &timed {
-        println!("# {}", timed.described(built));
+    let slow: Vec<Slow> = lists.map(|list| Slow::of(list, built)).collect();
+    for slow in &slow {
+        println!("# {}", slow.described(built));
     }
-    let by_time = |a: &&Timed, b: &&Timed| a.slowest().total_cmp(&b.slowest());
-    let differing = timed.iter().find(|timed| !timed.alike);
-    if let Some(shown) = differing.or(timed.iter().max_by(by_time)) {
+    let by_time = |a: &&Slow, b: &&Slow| a.slowest().total_cmp(&b.slowest());
+    let differing = slow.iter().find(|slow| !slow.timed.are_alike());
+    if let Some(shown) = differing.or(slow.iter().max_by(by_time)) {
         println!("# the slowest: {}", shown.described(built));
-        shown.print_text();
+        let List { task, plan, .. } = &shown.list;
+        print!(
+            "{}",
+            report::of_input(&report::input_words(&task.words(), plan))
+        );
     }
-    timed.iter().all(Timed::is_in_order)
+    slow.iter().all(Slow::is_in_order)
 }
 
 /// Climbs from the start with this number until it is stuck. Answers with how many lists it has
@@ -99,7 +101,7 @@ fn start(random: &mut Random, number: u64) -> List {
     let dense = [cycles::USUAL, cycles::MANY_WRITERS, cycles::TIED_COSTS];
     let index = number as usize % (FAMILIES.len() + dense.len());
     let Some(&family) = FAMILIES.iter().rev().nth(index) else {
-        return cycles::walk(random, dense[index - FAMILIES.len()], MAX_UNMARKED).into();
+        return cycles::list(random, dense[index - FAMILIES.len()], MAX_UNMARKED);
     };
     let shape = Shape {
         family,
@@ -108,82 +110,62 @@ fn start(random: &mut Random, number: u64) -> List {
         size: random.size(MAX_UNMARKED - 1..=MAX_UNMARKED + 1),
         costs: 1..=100,
     };
-    shape.make(random).into()
+    shape.make(random)
 }
 
-fn best_time_of(mut call: impl FnMut()) -> f64 {
-    let times = (0..RUNS).map(|_| time_of(&mut call));
-    times.fold(f64::INFINITY, f64::min)
-}
-
-/// A list with its times in microseconds.
-struct Timed {
+/// A list with its times, those of the programs in microseconds.
+struct Slow {
     list: List,
-    library: f64,
-    /// The search that the climb goes by.
-    rust: f64,
+    timed: Timed,
     programs: Vec<f64>,
-    /// Whether the library answers as the search does.
-    alike: bool,
 }
 
-impl Timed {
+impl Slow {
     fn of(list: List, built: &[Built]) -> Self {
-        let words = list.task.words();
-        let Case { call, mut lent, .. } =
-            Case::fitting(Service::Exact, &words, &list.plan, [list.plan.len(), 0]);
-        let by_search = lent.after(&by_rules::exact_by(&lent, search::exact));
-        let library = best_time_of(|| library::answer(call, &mut lent));
-        let rust = best_time_of(|| {
-            let _ = black_box(search::exact(&words, &list.plan, list.plan.len()));
-        });
-        let input = closed("the hunt's", input_bytes(&words, &list.plan));
+        let mut timed = Timed::of(list.fitting(Service::Exact));
+        (0..RUNS).for_each(|_| timed.run());
+        let input = closed("the hunt's", list.input_bytes());
         let programs = built.iter().map(|built| {
-            best_time_of(|| {
+            best_time_of(RUNS, || {
                 if let Err(error) = written(&built.path, &input) {
                     println!("# {}: {error}", built.program.name);
                 }
             })
         });
-        Timed {
-            library,
-            rust,
+        Slow {
+            timed,
             programs: programs.collect(),
-            alike: lent == by_search,
             list,
         }
     }
 
     fn is_in_order(&self) -> bool {
-        self.alike && self.programs.iter().all(|&time| time <= MOST_TIME)
+        self.timed.are_alike() && self.programs.iter().all(|&time| time <= MOST_TIME)
     }
 
     fn slowest(&self) -> f64 {
-        self.programs.iter().copied().fold(self.library, f64::max)
+        let [library, _] = self.timed.best();
+        self.programs.iter().copied().fold(library, f64::max)
     }
 
     /// One line for its figures.
     fn described(&self, built: &[Built]) -> String {
-        let turns = self.list.turns().unwrap_or_default();
+        let [library, rust] = self.timed.best();
         let programs = built.iter().map(|built| built.program.name);
         let times = programs.zip(self.programs.iter().copied());
-        let times = [("library", self.library), ("Rust", self.rust)]
+        let times = [("library", library), ("Rust", rust)]
             .into_iter()
             .chain(times)
             .map(|(name, time)| format!(", {name} {time:.0} µs"));
-        let steps = self.list.plan.len();
-        let figures = format!("{steps} steps, {turns} turns");
-        let others = if self.alike {
-            ""
-        } else {
-            ", the answers differ"
+        let figures = format!(
+            "{} steps, {} turns",
+            self.list.plan.len(),
+            self.timed.turns()
+        );
+        let others = match self.timed.are_alike() {
+            true => "",
+            false => ", the answers differ",
         };
         format!("{figures}{}{others}", times.collect::<String>())
-    }
-
-    fn print_text(&self) {
-        let List { task, plan } = &self.list;
-        let length_and_plan = text::length_and_plan(plan);
-        print!("{}", text::of_input(&task.words(), &length_and_plan));
     }
 }

@@ -1,7 +1,7 @@
 //! Plans of small tasks that go round in circles, so that many strikings succeed: gates that are
 //! lifted and dropped, steps that undo others, and several ways to the same fact.
 
-use super::{action, set, Fact, Random, Task, Walk};
+use super::{action, set, Fact, List, Random, Task, Walk};
 use crate::rules::State;
 
 /// The most actions of a task, what their costs are taken from, and whether most of them move a
@@ -42,6 +42,10 @@ pub fn walk(random: &mut Random, shape: Shape, length: usize) -> Walk {
     }
     walk.task.goal = some_facts(random, &walk);
     walk
+}
+
+pub fn list(random: &mut Random, shape: Shape, length: usize) -> List {
+    walk(random, shape, length).into()
 }
 
 /// The first action has no preconditions, so that some action is applicable in every state.

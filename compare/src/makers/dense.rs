@@ -20,7 +20,7 @@ pub fn knot(random: &mut Random) -> List {
     knot.unwrap_or_else(|| any(random))
 }
 
-fn is_knot(List { task, plan }: &List) -> bool {
+fn is_knot(List { task, plan, .. }: &List) -> bool {
     let words = task.words();
     let left = Lodged::check(&words, plan, &[]).map(|lodged| {
         let steps = lodged.cheaper_eliminated();
@@ -51,8 +51,7 @@ fn any(random: &mut Random) -> List {
     let asked = (0..variables).filter(|_| is_whole || !random.once_in(3));
     task.goal = asked.map(|variable| fact(variable, 0)).collect();
     fit(&mut task.goal, &state);
-    let plan = (0..steps as u32).collect();
-    List { task, plan }
+    List::of(task, (0..steps as u32).collect())
 }
 
 /// So many facts at least.

@@ -7,7 +7,6 @@ pub mod dense;
 pub mod families;
 pub mod faults;
 pub mod jobs;
-pub mod knots;
 mod list;
 mod parts;
 mod random;
@@ -17,7 +16,8 @@ mod task;
 pub mod translator;
 mod walk;
 
-pub use list::List;
+pub use list::{Known, List};
+pub use parts::chain;
 pub use random::Random;
 pub use sheet::{length_word, Sheet};
 pub use task::{action, fact, fit, set, Action, Fact, Task};

@@ -30,6 +30,11 @@ impl Random {
         ((u128::from(self.filler()) * count as u128) >> u64::BITS) as usize
     }
 
+    /// The index of one of these, unless there is none.
+    pub fn index_in<T>(&mut self, all: &[T]) -> Option<usize> {
+        (!all.is_empty()).then(|| self.index(all.len()))
+    }
+
     pub fn within(&mut self, range: RangeInclusive<u32>) -> u32 {
         self.size(*range.start() as usize..=*range.end() as usize) as u32
     }

@@ -1,8 +1,8 @@
 //! Plans of restores, whose marks come about one after the other by the earlier step.
 
-use super::answered::{Answered, COSTS};
+use super::answered::COSTS;
 use super::parts::{chain, laid_into_each_other};
-use super::{action, fact, Action, Fact, Random, Task};
+use super::{action, fact, Action, Fact, List, Random, Task};
 use crate::rules::{MAX_STEPS, MAX_VARIABLES};
 
 /// Restores and needed steps take turns. Each restore sets what the needed step behind it or the goal
@@ -39,7 +39,7 @@ const COUNTER: usize = 0;
 const FIRST: usize = 1;
 
 impl Restores {
-    pub fn make(&self, random: &mut Random) -> Answered {
+    pub fn make(&self, random: &mut Random) -> List {
         let actions = self.actions(random);
         let lamps = vec![actions.len() as u32 - 1; self.lamps];
         let (plan, places) = laid_into_each_other(random, &[self.lane(), lamps]);
@@ -52,7 +52,7 @@ impl Restores {
         if self.marked > 0 {
             task.start[self.fact(1, 1).variable] = 0;
         }
-        Answered::alike(task, plan, kept.clone(), kept)
+        List::alike(task, plan, kept.clone(), kept)
     }
 
     /// How many variables are restored or spoilt.

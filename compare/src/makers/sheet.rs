@@ -2,7 +2,7 @@
 //! so one fault can be put beside another.
 
 use super::{Random, Task};
-use crate::rules::{self, pair_word, Cause, Refusal};
+use crate::rules::{self, pair_word};
 use std::ops::Range;
 
 pub struct Sheet {
@@ -20,9 +20,10 @@ pub fn length_word(pair: usize) -> usize {
 
 impl Sheet {
     pub fn of(task: &Task) -> Self {
+        let words = task.words();
         Sheet {
-            words: task.words(),
-            parts: task.places(),
+            parts: rules::parts(&words),
+            words,
             preconditions: task.actions.iter().map(|a| a.preconditions.len()).collect(),
         }
     }
@@ -55,16 +56,10 @@ impl Sheet {
         }
     }
 
-    /// Sets a word that is refused for this cause at this place.
-    pub fn spoil(
-        &mut self,
-        index: usize,
-        word: u32,
-        cause: Cause,
-        place: usize,
-    ) -> Option<Refusal> {
+    /// Sets a word that is refused at this place.
+    pub fn spoil(&mut self, index: usize, word: u32, place: usize) -> Option<usize> {
         self.set(index, word);
-        Some(cause.at(place))
+        Some(place)
     }
 
     /// Has word 3 say how many words there are.
@@ -126,17 +121,14 @@ impl Sheet {
     pub fn random_fact(&self, random: &mut Random, before: usize) -> Option<usize> {
         let mut groups = self.groups();
         groups.retain(|group| group.len() > before);
-        if groups.is_empty() {
-            return None;
-        }
-        let group = &groups[random.index(groups.len())];
+        let group = &groups[random.index_in(&groups)?];
         Some(random.size(group.start + before..=group.end - 1))
     }
 
     /// The pair of an action.
     pub fn random_action(&self, random: &mut Random) -> Option<usize> {
-        let actions = self.actions();
-        (actions > 0).then(|| rules::FIRST_ACTION_PAIR + random.index(actions))
+        let action = random.index_in(&self.preconditions)?;
+        Some(rules::FIRST_ACTION_PAIR + action)
     }
 
     pub fn random_pair(&self, random: &mut Random) -> usize {

@@ -2,7 +2,7 @@
 
 use super::Random;
 use crate::rules::{self, pair_word, State};
-use std::ops::{Range, RangeInclusive};
+use std::ops::RangeInclusive;
 
 #[derive(Clone, Copy)]
 pub struct Fact {
@@ -227,42 +227,12 @@ impl Task {
         })
     }
 
-    /// The parts of the sheet in the order of their pairs, each with its word indices: they stand
-    /// one behind the other from the end of the pairs.
-    fn parts(&self) -> Vec<(Range<usize>, Vec<u32>)> {
-        let goal = self.goal.iter().map(|fact| fact.word()).collect();
-        let values = [self.sizes.clone(), self.start.clone(), goal];
-        let mut end = pair_word(values.len() + self.actions.len());
-        let parts = values
-            .into_iter()
-            .chain(self.actions.iter().map(Action::part));
-        let with_place = |part: Vec<u32>| {
-            let start = end;
-            end += part.len();
-            (start..end, part)
-        };
-        parts.map(with_place).collect()
-    }
-
-    /// The word indices of the parts.
-    pub fn places(&self) -> Vec<Range<usize>> {
-        self.parts().into_iter().map(|(place, _)| place).collect()
-    }
-
     pub fn words(&self) -> Vec<u32> {
-        let parts = self.parts();
-        let count = parts.last().map_or(0, |(last, _)| last.end);
-        let edition = rules::EDITION;
-        let header = [edition, self.sizes.len(), self.actions.len(), count];
-        let pairs = parts
-            .iter()
-            .flat_map(|(place, _)| [place.start, place.len()]);
-        let front = header.into_iter().chain(pairs);
-        let mut words: Vec<u32> = front.map(|word| word as u32).collect();
-        for (_, part) in &parts {
-            words.extend(part);
-        }
-        words
+        let goal = self.goal.iter().map(|fact| fact.word()).collect();
+        let mut parts = vec![self.sizes.clone(), self.start.clone(), goal];
+        parts.extend(self.actions.iter().map(Action::part));
+        let lengths: Vec<usize> = parts.iter().map(Vec::len).collect();
+        rules::sheet_of(self.sizes.len(), &lengths, &parts.concat())
     }
 }
 

@@ -119,8 +119,7 @@ impl Walk {
 
     /// The index of a step, if there is one.
     pub fn random_step(&self, random: &mut Random) -> Option<usize> {
-        let steps = self.plan.len();
-        (steps > 0).then(|| random_step(random, steps))
+        (!self.plan.is_empty()).then(|| random_step(random, self.plan.len()))
     }
 
     /// Has the step with this index fail, either by one precondition alone or by another action in
@@ -155,10 +154,7 @@ impl Walk {
 
     /// Another value for one of the facts, with its index.
     fn other_fact(&self, random: &mut Random, facts: &[Fact]) -> Option<(usize, Fact)> {
-        if facts.is_empty() {
-            return None;
-        }
-        let index = random.index(facts.len());
+        let index = random.index_in(facts)?;
         Some((index, self.task.other_value(random, facts[index])?))
     }
 

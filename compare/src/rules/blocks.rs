@@ -87,7 +87,7 @@ impl Blocks {
         let mut in_front = Row::EMPTY;
         let mut of_steps: Vec<Block> = Vec::new();
         for (step, action) in lodged.actions.iter().enumerate() {
-            let is_marked = has(marked, step);
+            let is_marked = has(&marked, step);
             match of_steps.last_mut() {
                 None if is_marked => in_front.put(action.effects),
                 Some(block) if is_marked => {
@@ -138,7 +138,7 @@ fn behind(lodged: &Lodged, marked: Mask) -> Vec<Behind> {
             used: used.bits_of(action.effects),
         };
         wanted.set(action.effects, false);
-        if has(marked, step) {
+        if has(&marked, step) {
             wanted.set(action.preconditions, true);
         }
         used.set(action.preconditions, true);

@@ -3,7 +3,7 @@
 //! changes. Marks only come about from the start step and the end step, so steps that merely support
 //! each other get none.
 
-use super::{mask_of, split, Lodged, Mask, Refusal, MASK_WORDS, MAX_VARIABLES, WORD_BITS};
+use super::{has, mask_of, split, Lodged, Mask, Refusal, MASK_WORDS, MAX_VARIABLES, WORD_BITS};
 use std::mem::replace;
 
 /// Refusals 1 to 9 and 11.
@@ -189,7 +189,7 @@ impl Set {
     }
 
     pub fn has(&self, position: usize) -> bool {
-        self.0[position / WORD_BITS] >> (position % WORD_BITS) & 1 == 1
+        has(&self.0, position)
     }
 
     fn meets(&self, other: &Self) -> bool {

@@ -7,14 +7,10 @@ mod elimination;
 mod exact;
 pub mod license;
 pub mod marks;
-mod meter;
 pub mod passes;
 mod plan;
 mod program;
-pub mod rounds;
 pub mod search;
-mod states;
-mod tally;
 mod task;
 mod translator;
 
@@ -22,11 +18,12 @@ pub use elimination::{cheaper, eliminate, greedy, kept_part};
 pub use exact::{exact, steps_of};
 pub use license::{license, license_by_search, Claim, Licensed};
 pub use plan::{all_hold, do_step, has, mask_of, step, Kept, Lodged, Mask, State};
-pub use plan::{MASK_WORDS, WORD_BITS};
-pub use program::{printed_by_license, printed_by_shorten, printed_by_validate};
-pub use program::{written_by_translate, Written};
-pub use tally::Tally;
-pub use task::{check_sheet, pair_word, Action};
+pub use plan::{Tally, MASK_WORDS, WORD_BITS};
+pub use program::{sheet_and_rest, words_of, Way, Written};
+pub use program::{
+    written_by_license, written_by_shorten, written_by_translate, written_by_validate,
+};
+pub use task::{check_sheet, pair_word, parts, sheet_of, Action};
 pub use translator::{translate, MAX_TEXT};
 
 pub const EDITION: usize = 1;

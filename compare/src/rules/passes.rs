@@ -27,17 +27,31 @@ impl Lodged<'_> {
             next
         })
     }
+
+    /// The same round by round: a round marks the steps that the rule marks by the steps of earlier
+    /// rounds alone. It tells how many rounds a plan has, and what they cost one by one.
+    pub fn marked_by_rounds(&self) -> (Mask, usize) {
+        repeated(self, |needs, supporters, marked| {
+            let mut next = *marked;
+            for (position, needed) in needs.by_position() {
+                if marked[position] {
+                    mark(needed, supporters, &mut next);
+                }
+            }
+            next
+        })
+    }
 }
 
 /// By the position, the end step's too.
-pub type Marked = [bool; MAX_STEPS + 2];
+type Marked = [bool; MAX_STEPS + 2];
 
 /// The position of the start step.
 const START: u8 = 0;
 
 /// Finds supporters and has them marked by needs until nothing changes. Answers with the marks, and
 /// with how often something was marked.
-pub fn repeated(
+fn repeated(
     lodged: &Lodged,
     mark_by_needs: impl Fn(&Needs, &[u8], &Marked) -> Marked,
 ) -> (Mask, usize) {
@@ -71,7 +85,7 @@ struct Write {
 
 /// For each fact that a step or the goal needs, the number of the write that it rests on: from 1, in
 /// the order of the steps, and 0 for a fact that holds from the start on.
-pub struct Needs {
+struct Needs {
     writes: Vec<u16>,
     /// The needs of a step, and at last of the end step, begin at its bound and end at the next one.
     bounds: Vec<u16>,
@@ -92,7 +106,7 @@ impl Needs {
     }
 
     /// The positions in their order, each with the writes that its needs rest on.
-    pub fn by_position(&self) -> impl DoubleEndedIterator<Item = (usize, &[u16])> {
+    fn by_position(&self) -> impl DoubleEndedIterator<Item = (usize, &[u16])> {
         let steps = self.bounds.windows(2).enumerate();
         steps.map(|(step, bounds)| {
             let [begin, end] = [bounds[0], bounds[1]].map(usize::from);
@@ -166,7 +180,7 @@ fn find_supporters(start: State, writes: &[Write], marked: &Marked, supporters: 
 }
 
 /// Marks the supporters of these needs.
-pub fn mark(needed: &[u16], supporters: &[u8], marked: &mut Marked) {
+fn mark(needed: &[u16], supporters: &[u8], marked: &mut Marked) {
     for &write in needed {
         marked[usize::from(supporters[usize::from(write)])] = true;
     }

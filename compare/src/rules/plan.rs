@@ -1,7 +1,8 @@
-//! States and steps, the check of a plan, and the steps of it that a reduction keeps.
+//! States and steps, the check of a plan, the steps of it that a reduction keeps, and tallies.
 
 use super::task::Task;
-use super::{check_sheet, refuse, split, Action, Cause, Refusal, MAX_STEPS, MAX_VARIABLES};
+use super::{check_sheet, refuse, split, Action, Cause, Refusal};
+use super::{MAX_STEPS, MAX_TALLY_COST, MAX_VARIABLES};
 
 /// Any 64 values; those past a task's variables mean nothing to it.
 pub type State = [u32; MAX_VARIABLES];
@@ -87,7 +88,7 @@ impl<'a> Lodged<'a> {
 }
 
 /// What a reduction keeps.
-#[derive(Clone)]
+#[derive(Clone, PartialEq)]
 pub struct Kept {
     pub cost: usize,
     /// The kept action numbers, in the order of the plan.
@@ -105,9 +106,14 @@ impl Kept {
         }
     }
 
+    /// Its cost and its steps, in the order that they are compared in.
+    pub fn tally(&self) -> [usize; 2] {
+        [self.cost, self.actions.len()]
+    }
+
     /// The indices of the kept steps.
     pub fn steps(&self) -> impl Iterator<Item = usize> + '_ {
-        (0..MAX_STEPS).filter(|&step| has(self.mask, step))
+        (0..MAX_STEPS).filter(|&step| has(&self.mask, step))
     }
 }
 
@@ -126,7 +132,29 @@ pub fn mask_of(indices: impl Iterator<Item = usize>) -> Mask {
     mask
 }
 
-/// Whether the step with this index is in the mask.
-pub fn has(mask: Mask, index: usize) -> bool {
-    mask[index / WORD_BITS] >> (index % WORD_BITS) & 1 == 1
+/// Whether a set of bits, such as a mask, has the one with this index.
+pub fn has(bits: &[u64], index: usize) -> bool {
+    bits[index / WORD_BITS] >> (index % WORD_BITS) & 1 == 1
+}
+
+/// A tally may hold any words. The fields stand in the order that two tallies are compared in.
+#[derive(Clone, Copy, PartialEq, Eq, PartialOrd, Ord)]
+pub struct Tally {
+    pub cost: u32,
+    pub steps: u32,
+}
+
+impl Tally {
+    pub fn of([cost, steps]: [u32; 2]) -> Self {
+        Tally { cost, steps }
+    }
+
+    /// One step more, or the same tally when it is full or its cost would pass the limit.
+    pub fn add(self, cost: u32) -> Self {
+        let total = self.cost as usize + cost as usize;
+        if self.steps as usize >= MAX_STEPS || total > MAX_TALLY_COST {
+            return self;
+        }
+        Tally::of([total as u32, self.steps + 1])
+    }
 }

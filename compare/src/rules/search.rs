@@ -7,8 +7,8 @@
 //! are tested: of a valid plan, what passes the tests of the turns is valid.
 
 use super::blocks::{Block, Blocks, Bytes};
-use super::meter::{Meter, Turns, Unmetered};
 use super::{has, mask_of, Kept, Lodged, Mask, Refusal, Tally};
+use std::cell::Cell;
 use std::ops::Range;
 
 /// Refusals 1 to 12.
@@ -21,9 +21,9 @@ pub fn exact(words: &[u32], plan: &[u32], output: usize) -> Result<Kept, Refusal
 /// How many turns the search takes, unless the plan is refused.
 pub fn turns(words: &[u32], plan: &[u32]) -> Result<u64, Refusal> {
     let (lodged, marked) = check(words, plan, plan.len())?;
-    let search = Search::of(&lodged, marked, Turns::default());
+    let search = Search::<true>::of(&lodged, marked);
     search.run();
-    Ok(search.meter.count())
+    Ok(search.turns.get())
 }
 
 /// The plan with its marks, which are found by passes.
@@ -41,7 +41,7 @@ fn check<'a>(
 impl Lodged<'_> {
     /// The exact reduction as the steps that it keeps; no more than 32 steps are unmarked.
     pub fn least_by_search(&self, marked: Mask) -> Vec<usize> {
-        Search::of(self, marked, Unmetered).run()
+        Search::<false>::of(self, marked).run()
     }
 }
 
@@ -57,7 +57,7 @@ impl Choice {
     /// No unmarked step is kept yet.
     fn of_marks(lodged: &Lodged, marked: Mask) -> Self {
         let steps = lodged.actions.iter().enumerate();
-        let marked = steps.filter(|&(step, _)| has(marked, step));
+        let marked = steps.filter(|&(step, _)| has(&marked, step));
         let nothing = Tally { cost: 0, steps: 0 };
         Choice {
             tally: marked.fold(nothing, |tally, (_, action)| tally.add(action.cost as u32)),
@@ -81,25 +81,32 @@ impl Choice {
     }
 }
 
-struct Search<M> {
+/// Turns are counted or cost nothing: a figure that is the same in each run and on each machine.
+struct Search<const COUNTS: bool> {
     /// The steps of the plan, and those that are not marked, by their number.
     steps: Range<usize>,
     unmarked: Vec<usize>,
     /// The choice that keeps nothing unmarked.
     marks: Choice,
     blocks: Blocks,
-    meter: M,
+    turns: Cell<u64>,
 }
 
-impl<M: Meter> Search<M> {
-    fn of(lodged: &Lodged, marked: Mask, meter: M) -> Self {
+impl<const COUNTS: bool> Search<COUNTS> {
+    fn of(lodged: &Lodged, marked: Mask) -> Self {
         let steps = 0..lodged.actions.len();
         Search {
             marks: Choice::of_marks(lodged, marked),
             blocks: Blocks::of(lodged, marked),
-            unmarked: steps.clone().filter(|&step| !has(marked, step)).collect(),
+            unmarked: steps.clone().filter(|&step| !has(&marked, step)).collect(),
             steps,
-            meter,
+            turns: Cell::new(0),
+        }
+    }
+
+    fn count_turn(&self) {
+        if COUNTS {
+            self.turns.update(|turns| turns + 1);
         }
     }
 
@@ -114,7 +121,7 @@ impl<M: Meter> Search<M> {
         let struck = unmarked.filter(|&(number, _)| !best.keeps(number));
         let struck = mask_of(struck.map(|(_, &step)| step));
         let steps = self.steps.clone();
-        steps.filter(|&step| !has(struck, step)).collect()
+        steps.filter(|&step| !has(&struck, step)).collect()
     }
 
     /// None behind the last unmarked step.
@@ -132,7 +139,7 @@ impl<M: Meter> Search<M> {
     /// The striking turn: each fact that is wanted behind the step holds already. At the end the
     /// choice is taken where it is lower.
     fn strike(&self, number: usize, state: &Bytes, choice: Choice, best: Choice) -> Choice {
-        self.meter.turn();
+        self.count_turn();
         let Some(block) = self.block(number) else {
             let is_new = choice.is_lower_than(&best);
             return if is_new { choice } else { best };
@@ -147,7 +154,7 @@ impl<M: Meter> Search<M> {
     /// The keeping turn: the step can be done, and it gives a fact that is needed behind it and does
     /// not hold. At the end there is nothing to keep.
     fn keep(&self, number: usize, state: &Bytes, choice: Choice, best: Choice) -> Choice {
-        self.meter.turn();
+        self.count_turn();
         let Some(block) = self.block(number) else {
             return best;
         };

@@ -1,5 +1,6 @@
-//! The task that a sheet holds, and the checks of the sheet. Words are read as `usize` of 64 bits,
-//! so that no sum of them can wrap.
+//! The layout of a sheet, which is read and written here alone: the task that a sheet holds, its
+//! checks, and the words of its parts put together. Words are read as `usize` of 64 bits, so that no
+//! sum of them can wrap.
 
 use super::*;
 use std::iter::once;
@@ -176,4 +177,25 @@ impl<'a> Task<'a> {
             effects,
         }
     }
+}
+
+/// The word indices of the parts of a sheet whose pairs are in order.
+pub fn parts(words: &[u32]) -> Vec<Range<usize>> {
+    let task = Task { words };
+    (0..task.pairs()).map(|pair| task.part(pair)).collect()
+}
+
+/// The words of a sheet, by those of its parts, which stand one behind the other.
+pub fn sheet_of(variables: usize, lengths: &[usize], parts: &[u32]) -> Vec<u32> {
+    let mut offset = pair_word(lengths.len());
+    let count = offset + parts.len();
+    let actions = lengths.len() - FIRST_ACTION_PAIR;
+    let mut words = Vec::with_capacity(count);
+    words.extend([EDITION, variables, actions, count].map(|word| word as u32));
+    for &length in lengths {
+        words.extend([offset as u32, length as u32]);
+        offset += length;
+    }
+    words.extend_from_slice(parts);
+    words
 }

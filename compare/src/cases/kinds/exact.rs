@@ -1,10 +1,10 @@
 //! The exact reduction: on hard plans at many lengths, at the border of 20 unmarked steps, and on
 //! plans of which all or nothing is struck.
 
-use super::{case_with, kept, plan_case, Make};
-use crate::cases::{Answer, Case, Service};
-use crate::makers::families::{Family, Made, Shape, FAMILIES, PLACEMENTS};
-use crate::makers::{action, cycles, fact, Action, Random, Task, Walk};
+use super::{case_with, plan_case, Make};
+use crate::cases::{Case, Service};
+use crate::makers::families::{Family, Shape, FAMILIES, PLACEMENTS};
+use crate::makers::{action, cycles, fact, Action, List, Random, Task, Walk};
 use crate::rules::{Cause, MAX_ACTION_COST, MAX_STEPS, MAX_UNMARKED};
 use std::ops::RangeInclusive;
 
@@ -20,14 +20,17 @@ pub const KINDS: &[(&str, Make)] = kinds! { random:
     "exact: facts that are set again, and many" => of_family(random, Family::Laden),
     "exact: one step for several" => with_one_for_all(random),
     "exact: 20 unmarked" => with_most_unmarked(random),
-    "exact: 21 unmarked" => with_unmarked(random, &FAMILIES, MAX_UNMARKED + 1)?.refused(random),
-    "exact: over 20 unmarked" => with_too_many(random)?.refused(random),
+    "exact: 21 unmarked" => {
+        let list = with_unmarked(random, &FAMILIES, MAX_UNMARKED + 1)?;
+        list.case(random, Service::Exact)
+    },
+    "exact: over 20 unmarked" => with_too_many(random)?.case(random, Service::Exact),
     "exact: over 20 unmarked, not valid" => not_valid(random, Service::Exact),
     "exact: over 20 unmarked, output short" => output_short(random, Service::Exact),
     "exact: everything struck" => everything_struck(random),
     "exact: nothing struck" => {
         let shape = random_shape(random, Family::Lamps);
-        Some(Shape { size: 0, ..shape }.make(random).case(random))
+        exact_case(random, Shape { size: 0, ..shape })
     },
     "exact: few actions, alike or free" => of_cycles(random, &ALIKE_OR_FREE),
     "exact: cycles, up to 20 steps" => of_cycles(random, &[cycles::USUAL, cycles::MANY_WRITERS]),
@@ -80,29 +83,13 @@ fn random_costs(random: &mut Random, most: usize) -> RangeInclusive<u32> {
     lowest..=(lowest + width).min(most)
 }
 
-impl Made {
-    fn case(&self, random: &mut Random) -> Case {
-        match &self.kept {
-            Some(steps) => keeping(random, &self.task, &self.plan, steps),
-            None => plan_case(random, Service::Exact, &self.task, &self.plan),
-        }
-    }
-
-    /// The plan has too many unmarked steps.
-    fn refused(&self, random: &mut Random) -> Option<Case> {
-        let refusal = Cause::Unmarked.at(self.unmarked);
-        Some(self.case(random).refused(refusal))
-    }
-}
-
-/// The exact reduction keeps the steps with these indices.
-fn keeping(random: &mut Random, task: &Task, plan: &[u32], steps: &[usize]) -> Case {
-    let case = plan_case(random, Service::Exact, task, plan);
-    case.due(Answer::keeping(kept(task, plan, steps)))
+fn exact_case(random: &mut Random, shape: Shape) -> Option<Case> {
+    shape.make(random).case(random, Service::Exact)
 }
 
 fn of_family(random: &mut Random, family: Family) -> Option<Case> {
-    Some(random_shape(random, family).make(random).case(random))
+    let shape = random_shape(random, family);
+    exact_case(random, shape)
 }
 
 /// Steps that each give one goal fact, and one step that costs as much as they all and gives all: it
@@ -118,11 +105,18 @@ fn with_one_for_all(random: &mut Random) -> Option<Case> {
     actions.insert(one, action(cost_of_all, vec![], goal.clone()));
     let plan: Vec<u32> = (0..actions.len() as u32).collect();
     let task = Task::from_zero(vec![2; goals], goal, actions);
-    Some(keeping(random, &task, &plan, &[one]))
+    keeping(random, task, plan, vec![one])
+}
+
+/// The exact reduction keeps the steps with these indices, and nothing else is known.
+fn keeping(random: &mut Random, task: Task, plan: Vec<u32>, steps: Vec<usize>) -> Option<Case> {
+    let mut list = List::of(task, plan);
+    list.known.exact = Some(steps);
+    list.case(random, Service::Exact)
 }
 
 /// A plan of this size, if there is room for it.
-fn of_size(random: &mut Random, families: &[Family], size: usize) -> Option<Made> {
+fn of_size(random: &mut Random, families: &[Family], size: usize) -> Option<List> {
     let family = random.pick(families);
     let shape = random_shape(random, family);
     let shape = Shape { size, ..shape };
@@ -130,10 +124,10 @@ fn of_size(random: &mut Random, families: &[Family], size: usize) -> Option<Made
 }
 
 /// A plan with so many unmarked steps: some families have a marked step among those of their size.
-fn with_unmarked(random: &mut Random, families: &[Family], unmarked: usize) -> Option<Made> {
+fn with_unmarked(random: &mut Random, families: &[Family], unmarked: usize) -> Option<List> {
     let size = unmarked + random.index(2);
-    let made = of_size(random, families, size)?;
-    (made.unmarked == unmarked).then_some(made)
+    let list = of_size(random, families, size)?;
+    (list.known.unmarked == Some(unmarked)).then_some(list)
 }
 
 /// Whether no two reductions of a front reach one state, so that the rules take minutes over many
@@ -151,46 +145,45 @@ fn with_most_unmarked(random: &mut Random) -> Option<Case> {
     if has_many_states(family) {
         return None;
     }
-    Some(with_unmarked(random, &[family], MAX_UNMARKED)?.case(random))
+    with_unmarked(random, &[family], MAX_UNMARKED)?.case(random, Service::Exact)
 }
 
-fn with_too_many(random: &mut Random) -> Option<Made> {
+fn with_too_many(random: &mut Random) -> Option<List> {
     let size = random.size(TOO_MANY);
-    let made = of_size(random, &FAMILIES, size)?;
-    (made.unmarked > MAX_UNMARKED).then_some(made)
+    let list = of_size(random, &FAMILIES, size)?;
+    (list.known.unmarked > Some(MAX_UNMARKED)).then_some(list)
 }
 
 /// Whether a plan is valid is told before its marks are counted.
 pub fn not_valid(random: &mut Random, service: Service) -> Option<Case> {
-    let made = with_too_many(random)?;
-    let mut walk = Walk::of(made.task, &made.plan);
+    let list = with_too_many(random)?;
+    let mut walk = Walk::of(list.task, &list.plan);
     let refusal = walk.spoil(random)?;
     let case = plan_case(random, service, &walk.task, &walk.plan);
     Some(case.refused(refusal))
 }
 
 pub fn output_short(random: &mut Random, service: Service) -> Option<Case> {
-    let made = with_too_many(random)?;
-    let steps = made.plan.len();
+    let list = with_too_many(random)?;
+    let steps = list.plan.len();
     let shorter = random.size(0..=steps - 1);
     let outputs = [random.pick(&[steps - 1, shorter]), 0];
-    let words = made.task.words();
-    let case = case_with(random, service, &words, &made.plan, outputs);
+    let words = list.task.words();
+    let case = case_with(random, service, &words, &list.plan, outputs);
     Some(case.refused(Cause::ShortOutput.at(steps)))
 }
 
 /// The goal holds at the start, and at the end again.
 fn everything_struck(random: &mut Random) -> Option<Case> {
     let length = random.size(1..=MAX_UNMARKED);
-    let Walk { mut task, plan, .. } = cycles::walk(random, cycles::USUAL, length);
+    let List { mut task, plan, .. } = cycles::list(random, cycles::USUAL, length);
     let start = task.start();
     task.goal.retain(|fact| fact.holds(&start));
-    Some(keeping(random, &task, &plan, &[]))
+    keeping(random, task, plan, Vec::new())
 }
 
 fn of_cycles(random: &mut Random, shapes: &[cycles::Shape]) -> Option<Case> {
     let shape = random.pick(shapes);
     let length = random.size(0..=MAX_UNMARKED);
-    let walk = cycles::walk(random, shape, length);
-    Some(plan_case(random, Service::Exact, &walk.task, &walk.plan))
+    cycles::list(random, shape, length).case(random, Service::Exact)
 }

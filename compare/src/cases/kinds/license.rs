@@ -2,13 +2,12 @@
 //! the claim is known, too, and what is left.
 
 use super::exact::{has_many_states, not_valid, output_short, random_shape};
-use super::{kept, plan_case, Make, QUICK_STEPS};
-use crate::cases::{Answer, Case, Service, TAKING_PLAN};
-use crate::makers::answered::{self, Answered};
-use crate::makers::families::{Made, Shape, FAMILIES};
-use crate::makers::knots::{tied_gates, twins, FEWEST_TIED, TWINS};
+use super::{Make, QUICK_STEPS};
+use crate::cases::{taking_plan, Case, Service};
+use crate::makers::answered::{self, tied_gates, twins, FEWEST_TIED, TWINS};
+use crate::makers::families::{Shape, FAMILIES};
 use crate::makers::{cycles, dense, List, Random};
-use crate::rules::{Claim, Licensed, MAX_UNMARKED, MAX_VARIABLES};
+use crate::rules::{MAX_UNMARKED, MAX_VARIABLES};
 use std::ops::RangeInclusive;
 
 pub const KINDS: &[(&str, Make)] = kinds! { random:
@@ -50,23 +49,14 @@ const JOINED: RangeInclusive<usize> = 4..=10;
 fn of_cycles(random: &mut Random) -> Option<Case> {
     let shapes = [cycles::USUAL, cycles::FREE_ACTIONS, cycles::MANY_WRITERS];
     let (shape, length) = (random.pick(&shapes), random.size(0..=QUICK_STEPS));
-    let walk = cycles::walk(random, shape, length);
-    Some(plan_case(random, Service::License, &walk.task, &walk.plan))
+    cycles::list(random, shape, length).case(random, Service::License)
 }
 
 /// At most 20 steps are unmarked.
 fn of_families(random: &mut Random) -> Option<Case> {
     let family = random.pick(&FAMILIES);
-    let made = random_shape(random, family).make(random);
-    let Made { task, plan, .. } = &made;
-    let case = plan_case(random, Service::License, task, plan);
-    Some(match &made.kept {
-        Some(steps) => case.due(Answer::licensed(Licensed {
-            claim: Claim::Least,
-            kept: kept(task, plan, steps),
-        })),
-        None => case,
-    })
+    let shape = random_shape(random, family);
+    shape.make(random).case(random, Service::License)
 }
 
 fn of_families_with_many(random: &mut Random) -> Option<Case> {
@@ -78,12 +68,11 @@ fn of_families_with_many(random: &mut Random) -> Option<Case> {
         size,
         ..random_shape(random, family)
     };
-    let List { task, plan } = shape.make(random).into();
-    Some(plan_case(random, Service::License, &task, &plan))
+    shape.make(random).case(random, Service::License)
 }
 
 /// What parts are made by.
-const PARTS: [fn(&mut Random) -> Answered; 7] = [
+const PARTS: [fn(&mut Random) -> List; 7] = [
     answered::with_ways,
     answered::with_cover,
     answered::with_gates,
@@ -102,7 +91,7 @@ const PARTS: [fn(&mut Random) -> Answered; 7] = [
     twins,
 ];
 
-fn needed_and_lamps(random: &mut Random, lamps: usize) -> Answered {
+fn needed_and_lamps(random: &mut Random, lamps: usize) -> List {
     let needed = random.size(0..=SHORT);
     answered::with_lamps(random, needed, lamps)
 }
@@ -137,7 +126,7 @@ fn of_knots_among_others(random: &mut Random, steps: usize) -> Option<Case> {
 }
 
 /// Knots with so many steps in all, and other parts.
-fn of_knots(random: &mut Random, steps: usize, others: Vec<Answered>) -> Option<Case> {
+fn of_knots(random: &mut Random, steps: usize, others: Vec<List>) -> Option<Case> {
     let mut parts = others;
     let mut left = steps;
     while left > 0 {
@@ -155,23 +144,22 @@ fn of_knots(random: &mut Random, steps: usize, others: Vec<Answered>) -> Option<
 }
 
 /// Nothing if they have too many variables.
-fn joined(random: &mut Random, mut parts: Vec<Answered>) -> Option<Case> {
+fn joined(random: &mut Random, mut parts: Vec<List>) -> Option<Case> {
     let variables: usize = parts.iter().map(|part| part.task.sizes.len()).sum();
     (variables <= MAX_VARIABLES).then_some(())?;
     random.shuffle(&mut parts);
     let at_a_time = random.pick(&[1, 2, parts.len()]);
-    let joined = Answered::joined(random, &parts, at_a_time);
-    joined.case_of(random, Service::License)
+    List::joined(random, &parts, at_a_time).case(random, Service::License)
 }
 
 /// One or two of them.
 fn of_dense_knot(random: &mut Random) -> Option<Case> {
     let count = random.size(1..=2);
     let knots: Vec<List> = (0..count).map(|_| dense::knot(random)).collect();
-    let List { task, plan } = List::joined(random, &knots, count);
-    let any = random.pick(&TAKING_PLAN);
+    let list = List::joined(random, &knots, count);
+    let any = random.pick(&taking_plan());
     let service = random.pick(&[Service::License, any]);
-    Some(plan_case(random, service, &task, &plan))
+    list.case(random, service)
 }
 
 /// Few different ones, since they take long to find. The rules take long where the steps of many
@@ -182,6 +170,5 @@ fn of_dense_knots(random: &mut Random) -> Option<Case> {
     let knots = (0..count).map(|_| different[random.index(DIFFERENT)].clone());
     let knots: Vec<List> = knots.collect();
     let at_a_time = random.size(1..=2);
-    let List { task, plan } = List::joined(random, &knots, at_a_time);
-    Some(plan_case(random, Service::License, &task, &plan))
+    List::joined(random, &knots, at_a_time).case(random, Service::License)
 }

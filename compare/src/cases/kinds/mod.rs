@@ -16,10 +16,9 @@ mod step;
 mod tally;
 mod translator;
 
-use super::{Case, Service, TAKING_PLAN};
+use super::{taking_plan, Case, Service, FIRST, SECOND, WRITTEN};
 use crate::makers::translator::faults as translator_faults;
-use crate::makers::{faults, Random, Task};
-use crate::rules::Kept;
+use crate::makers::{faults, List, Random, Task};
 
 /// Makes a case, unless the random task has no spot for it.
 type Make = fn(&mut Random) -> Option<Case>;
@@ -27,36 +26,36 @@ type Make = fn(&mut Random) -> Option<Case>;
 /// The name of a kind, and what makes a case of it.
 pub type Kind = (&'static str, Box<dyn Fn(&mut Random) -> Option<Case>>);
 
-pub fn all() -> Vec<Kind> {
-    others().into_iter().chain(of_translator()).collect()
+/// A kind for each of these, of which a case is made in one way.
+fn each<T: Copy + 'static>(
+    all: &[(&'static str, T)],
+    make: fn(&mut Random, T) -> Option<Case>,
+) -> Vec<Kind> {
+    let kind = |&(name, it): &(&'static str, T)| -> Kind {
+        (name, Box::new(move |random: &mut Random| make(random, it)))
+    };
+    all.iter().map(kind).collect()
 }
 
-/// Those of texts that are read into a sheet, each fault among them.
-fn of_translator() -> Vec<Kind> {
-    let mut kinds: Vec<Kind> = boxed(translator::KINDS.to_vec()).collect();
-    for (name, put) in translator_faults::UNSUPPORTED {
-        let make = move |random: &mut Random| translator::unsupported(random, put);
-        kinds.push((name, Box::new(make)));
-    }
-    for (name, put) in translator_faults::UNFIT {
-        let make = move |random: &mut Random| translator::unfit(random, put);
-        kinds.push((name, Box::new(make)));
-    }
+fn listed(kinds: &[(&'static str, Make)]) -> Vec<Kind> {
+    each(kinds, |random, make| make(random))
+}
+
+pub fn all() -> Vec<Kind> {
+    let mut kinds = of_words();
+    kinds.extend(listed(translator::KINDS));
+    kinds.extend(each(
+        &translator_faults::UNSUPPORTED,
+        translator::unsupported,
+    ));
+    kinds.extend(each(&translator_faults::UNFIT, translator::unfit));
     kinds
 }
 
-fn boxed(kinds: Vec<(&'static str, Make)>) -> impl Iterator<Item = Kind> {
-    let boxed = |(name, make)| -> Kind { (name, Box::new(make)) };
-    kinds.into_iter().map(boxed)
-}
-
-/// Those of all other services.
-fn others() -> Vec<Kind> {
-    let faults = faults::all().into_iter().map(|(name, put)| -> Kind {
-        let make = move |random: &mut Random| sheet::with_fault(random, put);
-        (name, Box::new(make))
-    });
-    let others = [
+/// Those of the services that read no text.
+fn of_words() -> Vec<Kind> {
+    let mut kinds = each(&faults::all(), sheet::with_fault);
+    for others in [
         sheet::KINDS,
         plan::KINDS,
         step::KINDS,
@@ -65,8 +64,10 @@ fn others() -> Vec<Kind> {
         exact::KINDS,
         license::KINDS,
         tally::PART_KINDS,
-    ];
-    faults.chain(boxed(others.concat())).collect()
+    ] {
+        kinds.extend(listed(others));
+    }
+    kinds
 }
 
 /// The random case with this number and the name of its kind. Kinds take turns, so that a short run
@@ -111,12 +112,12 @@ fn case_with(
     outputs: [usize; 2],
 ) -> Case {
     let mut lengths = service.lengths(outputs);
-    for length in [&mut lengths.state, &mut lengths.mask, &mut lengths.out] {
-        if *length > 0 {
+    for (length, (slice, _)) in lengths.iter_mut().zip(WRITTEN) {
+        if *length > 0 && ![FIRST, SECOND].contains(slice) {
             *length = random_length(random, *length);
         }
     }
-    Case::filled(service, words, plan, lengths, || random.filler())
+    Case::filled(service, words, plan, &lengths, || random.filler())
 }
 
 /// The steps of a plan that greedy elimination doesn't take long over.
@@ -124,7 +125,7 @@ const QUICK_STEPS: usize = 40;
 
 /// A service for a valid plan: long ones seldom go to greedy elimination.
 fn service_for_valid(random: &mut Random, steps: usize) -> Service {
-    let service = random.pick(&TAKING_PLAN);
+    let service = random.pick(&taking_plan());
     let takes_long = matches!(
         service,
         Service::Greedy | Service::Cheaper | Service::License
@@ -136,9 +137,17 @@ fn service_for_valid(random: &mut Random, steps: usize) -> Service {
     }
 }
 
-/// What is kept where the steps with these indices are.
-fn kept(task: &Task, plan: &[u32], steps: &[usize]) -> Kept {
-    Kept::of(plan, steps, |step| task.cost(plan[step]))
+impl List {
+    fn case(&self, random: &mut Random, service: Service) -> Option<Case> {
+        let case = plan_case(random, service, &self.task, &self.plan);
+        Some(self.with_due(case))
+    }
+
+    /// For a plan that is valid.
+    fn case_of_some(&self, random: &mut Random) -> Option<Case> {
+        let service = service_for_valid(random, self.plan.len());
+        self.case(random, service)
+    }
 }
 
 fn fillers(random: &mut Random, length: usize) -> Vec<u32> {

@@ -2,7 +2,7 @@
 //! every service that takes a plan.
 
 use super::{plan_case, service_for_valid, Make};
-use crate::cases::{Answer, Case, Service, TAKING_PLAN};
+use crate::cases::{taking_plan, Case, Service};
 use crate::makers::{random_step, Random, Task, Walk};
 use crate::rules::{Cause, Refusal, MAX_ACTION_COST, MAX_STEPS};
 
@@ -41,8 +41,7 @@ const TOO_LONG: Refusal = Refusal {
 impl Walk {
     fn accepted(&self, random: &mut Random) -> Option<Case> {
         let case = plan_case(random, Service::CheckPlan, &self.task, &self.plan);
-        let answer = Answer::accepted(&[self.cost(), self.plan.len()]);
-        Some(case.due(answer.with_state(self.end())))
+        Some(case.due(self.answer()))
     }
 
     /// Spoils the walk and hands it to some service.
@@ -52,7 +51,7 @@ impl Walk {
         spoil: impl Fn(&mut Walk, &mut Random) -> Option<Refusal>,
     ) -> Option<Case> {
         let refusal = spoil(&mut self, random)?;
-        let service = random.pick(&TAKING_PLAN);
+        let service = random.pick(&taking_plan());
         Some(plan_case(random, service, &self.task, &self.plan).refused(refusal))
     }
 }
@@ -120,6 +119,6 @@ fn random_actions(random: &mut Random) -> Option<Case> {
     let actions = task.actions.len();
     let steps = if actions > 0 { random.size(1..=6) } else { 0 };
     let plan: Vec<u32> = (0..steps).map(|_| random.index(actions) as u32).collect();
-    let service = random.pick(&TAKING_PLAN);
+    let service = random.pick(&taking_plan());
     Some(plan_case(random, service, &task, &plan))
 }

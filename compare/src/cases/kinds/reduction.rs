@@ -1,14 +1,13 @@
 //! Marks, the three ways of striking and the cheaper of both eliminations, on plans that hold much
 //! to strike and on plans that hold little.
 
-use super::{case_with, kept, plan_case, service_for_valid, Make, QUICK_STEPS};
-use crate::cases::{Answer, Case, Service, REDUCING};
-use crate::makers::answered::{self, Answered};
+use super::{case_with, service_for_valid, Make, QUICK_STEPS};
+use crate::cases::{reducing, Case, Service, SECOND};
+use crate::makers::answered;
 use crate::makers::cycles::{self, Shape};
 use crate::makers::restores::{Asker, Restores, MOST_FOR_GOAL, MOST_LINKS};
-use crate::makers::{Random, Walk};
-use crate::rules::{mask_of, Cause, Claim, Kept, Licensed, Refusal};
-use crate::rules::{MAX_STEPS, MAX_UNMARKED};
+use crate::makers::{List, Random, Walk};
+use crate::rules::{Cause, Refusal, MAX_STEPS};
 use std::ops::RangeInclusive;
 
 pub const KINDS: &[(&str, Make)] = kinds! { random:
@@ -22,29 +21,30 @@ pub const KINDS: &[(&str, Make)] = kinds! { random:
     "reduction: 0 or 1 steps" => of_shape(random, cycles::USUAL, 1),
     "reduction: steps beside mask words" => of_edge_length(random),
     "reduction: task of any shape" => {
-        let walk = Walk::of_any_length(random)?;
-        Some(walk_case(random, &walk))
+        List::from(Walk::of_any_length(random)?).case_of_some(random)
     },
     "reduction: needed steps and lamps" => {
         let [needed, lamps] = [(); 2].map(|_| random.size(0..=SHORT));
-        answered::with_lamps(random, needed, lamps).case(random)
+        answered::with_lamps(random, needed, lamps).case_of_some(random)
     },
     "reduction: needed steps, few lamps" => {
         let lamps = random.size(0..=FEW_LAMPS);
         let steps = random.pick(&EDGE_LENGTHS).min(MAX_STEPS);
-        answered::with_lamps(random, steps - lamps, lamps).case(random)
+        answered::with_lamps(random, steps - lamps, lamps).case_of_some(random)
     },
-    "reduction: ways to one goal" => answered::with_ways(random).case(random),
-    "reduction: lifts, drains and drops" => answered::with_gates(random).case(random),
+    "reduction: ways to one goal" => answered::with_ways(random).case_of_some(random),
+    "reduction: lifts, drains and drops" => answered::with_gates(random).case_of_some(random),
     "marks: cycles" => marks_of_cycles(random),
     "marks: steps that support each other" => {
         let needed = random.size(0..=SHORT);
-        answered::with_idle_gates(random, needed).case_of_marks(random)
+        let list = answered::with_idle_gates(random, needed);
+        case_of_marks(random, list)
     },
     "marks: long chain of needs" => {
         let lamps = random.size(0..=FEW_LAMPS);
         let steps = random.size(LONG..=MAX_STEPS);
-        answered::with_lamps(random, steps - lamps, lamps).case_of_marks(random)
+        let list = answered::with_lamps(random, steps - lamps, lamps);
+        case_of_marks(random, list)
     },
     "marks: chain of earlier steps" => of_restores(random, SEVERAL, 0..=SHORT),
     "marks: long chain of earlier steps" => of_restores(random, SEVERAL, LONG / 2..=MOST_LINKS),
@@ -69,33 +69,27 @@ const LONG: usize = 200;
 const FEW_LAMPS: usize = 3;
 const SEVERAL: &[Asker] = &[Asker::NextStep(2), Asker::NextStep(3), Asker::NextStep(4)];
 
-fn walk_case(random: &mut Random, walk: &Walk) -> Case {
-    let service = service_for_valid(random, walk.plan.len());
-    plan_case(random, service, &walk.task, &walk.plan)
-}
-
 fn of_shape(random: &mut Random, shape: Shape, most_steps: usize) -> Option<Case> {
     let length = random.size(0..=most_steps);
-    let walk = cycles::walk(random, shape, length);
-    Some(walk_case(random, &walk))
+    cycles::list(random, shape, length).case_of_some(random)
 }
 
 /// Some of the goal, or all of it, holds at the start.
 fn of_goal_at_start(random: &mut Random) -> Option<Case> {
     let length = random.size(1..=SHORT);
-    let mut walk = cycles::walk(random, cycles::USUAL, length);
-    let start = walk.task.start();
+    let mut list = cycles::list(random, cycles::USUAL, length);
+    let start = list.task.start();
     if random.once_in(2) {
-        walk.task.goal.retain(|fact| fact.holds(&start));
+        list.task.goal.retain(|fact| fact.holds(&start));
     }
-    let is_held = walk.task.goal.iter().any(|fact| fact.holds(&start));
-    is_held.then(|| walk_case(random, &walk))
+    let is_held = list.task.goal.iter().any(|fact| fact.holds(&start));
+    is_held.then(|| list.case_of_some(random))?
 }
 
 fn of_edge_length(random: &mut Random) -> Option<Case> {
     let length = random.pick(&EDGE_LENGTHS);
-    let walk = cycles::walk(random, cycles::USUAL, length);
-    let case = walk_case(random, &walk);
+    let list = cycles::list(random, cycles::USUAL, length);
+    let case = list.case_of_some(random)?;
     Some(match length > MAX_STEPS {
         true => case.refused(Cause::PlanLength.at(MAX_STEPS)),
         false => case,
@@ -106,8 +100,7 @@ fn of_edge_length(random: &mut Random) -> Option<Case> {
 fn marks_of_cycles(random: &mut Random) -> Option<Case> {
     let shape = random.pick(&[cycles::USUAL, cycles::FEW_ACTIONS, cycles::MANY_WRITERS]);
     let length = random.size(0..=MAX_STEPS);
-    let walk = cycles::walk(random, shape, length);
-    Some(plan_case(random, Service::Marks, &walk.task, &walk.plan))
+    cycles::list(random, shape, length).case(random, Service::Marks)
 }
 
 /// Most often all restores are marked, or nearly all, so that the exact reduction takes the plan.
@@ -125,70 +118,15 @@ fn of_restores(
         asker: random.pick(askers),
         lamps: random.size(0..=FEW_LAMPS.min(MAX_STEPS - 2 * links)),
     };
-    restores.make(random).case_of_marks(random)
+    let list = restores.make(random);
+    case_of_marks(random, list)
 }
 
-impl Answered {
-    fn case(&self, random: &mut Random) -> Option<Case> {
-        let service = service_for_valid(random, self.plan.len());
-        self.case_of(random, service)
-    }
-
-    /// Most often of a service that the marks tell in.
-    fn case_of_marks(&self, random: &mut Random) -> Option<Case> {
-        let any = service_for_valid(random, self.plan.len());
-        let service = random.pick(&[Service::Marks, Service::Exact, any]);
-        self.case_of(random, service)
-    }
-
-    pub fn case_of(&self, random: &mut Random, service: Service) -> Option<Case> {
-        let case = plan_case(random, service, &self.task, &self.plan);
-        let unmarked = self.unmarked();
-        Some(match service {
-            Service::Exact if unmarked > MAX_UNMARKED => case.refused(Cause::Unmarked.at(unmarked)),
-            _ => case.due(self.answer(service)),
-        })
-    }
-
-    fn answer(&self, service: Service) -> Answer {
-        let [eliminated, greedy] =
-            [&self.eliminated, &self.greedy].map(|steps| self.keeping(steps));
-        match service {
-            Service::Marks => Answer::marking(mask_of(self.marked.iter().copied())),
-            Service::Eliminate => Answer::keeping(eliminated),
-            Service::Cheaper => Answer::keeping_both([eliminated, greedy]),
-            Service::Greedy => Answer::keeping(greedy),
-            Service::Exact => Answer::keeping(self.keeping(&self.exact)),
-            Service::License => Answer::licensed(self.licensed([eliminated, greedy])),
-            _ => {
-                let walk = Walk::of(self.task.clone(), &self.plan);
-                let answer = Answer::accepted(&[walk.cost(), walk.plan.len()]);
-                answer.with_state(walk.end())
-            }
-        }
-    }
-}
-
-/// What is left of the plan by the way that it was made.
-impl Answered {
-    fn keeping(&self, steps: &[usize]) -> Kept {
-        kept(&self.task, &self.plan, steps)
-    }
-
-    /// The eliminations have kept these.
-    fn licensed(&self, [eliminated, greedy]: [Kept; 2]) -> Licensed {
-        let tally = |kept: &Kept| (kept.cost, kept.actions.len());
-        let (left, kept) = match tally(&greedy) < tally(&eliminated) {
-            true => (&self.greedy, greedy),
-            false => (&self.eliminated, eliminated),
-        };
-        let (claim, kept) = match self.unmarked_left {
-            _ if self.unmarked() <= MAX_UNMARKED => (Claim::Least, self.keeping(&self.exact)),
-            open if open > MAX_UNMARKED => (Claim::Open(open), kept),
-            _ => (Claim::Irreducible, self.keeping(&self.without_idle(left))),
-        };
-        Licensed { claim, kept }
-    }
+/// Most often of a service that the marks tell in.
+fn case_of_marks(random: &mut Random, list: List) -> Option<Case> {
+    let any = service_for_valid(random, list.plan.len());
+    let service = random.pick(&[Service::Marks, Service::Exact, any]);
+    list.case(random, service)
 }
 
 fn short_output(walk: &Walk) -> Option<Refusal> {
@@ -203,9 +141,9 @@ fn with_short_output(
     let steps = random.size(1..=2 * SHORT);
     let mut walk = cycles::walk(random, cycles::USUAL, steps);
     let refusal = spoil(&mut walk, random)?;
-    let service = random.pick(&REDUCING);
+    let service = random.pick(&reducing());
     let mut outputs = [(); 2].map(|_| random.size(0..=2 * steps));
-    let taken = if service == Service::Cheaper { 2 } else { 1 };
+    let taken = if service.takes(SECOND) { 2 } else { 1 };
     let short = random.index(taken);
     outputs[short] = random.pick(&[steps - 1, outputs[short] % steps]);
     let case = case_with(random, service, &walk.task.words(), &walk.plan, outputs);

@@ -2,8 +2,8 @@
 
 use super::step::random_state;
 use super::{case_with, check_sheet, step, Make};
-use crate::cases::{Answer, Case, TAKING_PLAN};
-use crate::makers::faults::{self, Put};
+use crate::cases::{taking_plan, Answer, Case};
+use crate::makers::faults::{self, Fault};
 use crate::makers::{Random, Sheet, Task};
 use crate::rules;
 
@@ -33,11 +33,11 @@ fn random_task(random: &mut Random) -> Task {
     }
 }
 
-pub fn with_fault(random: &mut Random, put: Put) -> Option<Case> {
+pub fn with_fault(random: &mut Random, (cause, put): Fault) -> Option<Case> {
     let task = random_task(random);
     let mut sheet = Sheet::of(&task);
-    let refusal = put(&mut sheet, random)?;
-    Some(on_some_service(random, &task, sheet.words).refused(refusal))
+    let place = put(&mut sheet, random)?;
+    Some(on_some_service(random, &task, sheet.words).refused(cause.at(place)))
 }
 
 /// The faults stand in the order of the table: near ones are of one row or of rows that follow each
@@ -56,7 +56,7 @@ fn with_faults(random: &mut Random, faults: [usize; 2]) -> Option<Case> {
     let task = random_task(random);
     let mut sheet = Sheet::of(&task);
     for fault in faults {
-        let (_, put) = faults::all()[fault];
+        let (_, (_, put)) = faults::all()[fault];
         put(&mut sheet, random)?;
     }
     Some(on_some_service(random, &task, sheet.words))
@@ -113,7 +113,7 @@ fn on_some_service(random: &mut Random, task: &Task, words: Vec<u32>) -> Case {
             let steps = random.pick(&[0, 1, 2, 3, rules::MAX_STEPS + 1]);
             let plan: Vec<u32> = (0..steps).map(|_| action(random)).collect();
             let outputs = [(); 2].map(|_| random.size(0..=2 * steps));
-            let service = random.pick(&TAKING_PLAN);
+            let service = random.pick(&taking_plan());
             case_with(random, service, &words, &plan, outputs)
         }
         _ => check_sheet(random, &words),

@@ -39,8 +39,7 @@ struct Setting {
 impl Setting {
     fn random(random: &mut Random) -> Option<Self> {
         let task = Task::random(random);
-        let actions = task.actions.len();
-        let action = (actions > 0).then(|| random.index(actions))?;
+        let action = random.index_in(&task.actions)?;
         let state = random_state(random, &task);
         Some(Setting {
             task,
@@ -95,8 +94,7 @@ fn one_precondition_off(random: &mut Random) -> Option<Case> {
     let mut setting = Setting::random(random)?;
     setting.make_applicable();
     let preconditions = &setting.task.actions[setting.action].preconditions;
-    let count = preconditions.len();
-    let failing = (count > 0).then(|| preconditions[random.index(count)])?;
+    let failing = preconditions[random.index_in(preconditions)?];
     setting.state[failing.variable] = other_value(random, failing.value);
     let case = setting.case(random, &setting.state);
     Some(case.refused(Cause::NotValid.at(1)))

@@ -16,7 +16,7 @@ pub const KINDS: &[(&str, Make)] = kinds! { random:
     "tally: sum near a limit" => near_a_limit(random),
     "tally: comparison" => {
         let numbers = near_each_other(random);
-        let case = Case::fitting(Service::TallyCompare, &[], &[], [0; 2]);
+        let case = Case::without_sheet(Service::TallyCompare, 0);
         Some(case.with_numbers(numbers))
     },
 };

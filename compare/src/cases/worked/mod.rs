@@ -8,9 +8,9 @@ mod texts;
 
 pub use sheets::{with_lamp_cost, SHEET_P};
 
-use super::{Answer, Case, Service, TAKING_PLAN};
-use crate::rules::{Cause, Kept, Mask, MAX_VARIABLES};
-use sheets::{DEAREST, GATE_ALONE, LAMP, TWO_WAYS, U_AND_V};
+use super::{reducing, taking_plan, Answer, Case, Service, SECOND};
+use crate::rules::{Cause, Claim, Kept, Licensed, Mask, MAX_UNMARKED, MAX_VARIABLES};
+use sheets::{dearest, gate_alone, two_ways, u_and_v, LAMP};
 
 /// A case with its name in a report of differences.
 type Worked = (&'static str, Case);
@@ -26,7 +26,6 @@ pub fn cases() -> Vec<Worked> {
     cases.extend(reductions());
     cases.extend(refusals());
     cases.extend(short_outputs());
-    cases.extend(unmarked());
     cases.extend(kept_parts());
     cases.extend(licences::cases());
     cases.extend(texts::cases());
@@ -38,9 +37,8 @@ fn check_sheet(words: &[u32]) -> Case {
 }
 
 fn valid(words: &[u32], plan: &[u32], cost: usize, end: &[u32]) -> Case {
-    let answer = Answer::accepted(&[cost, plan.len()]);
     let case = Case::fitting(Service::CheckPlan, words, plan, [0; 2]);
-    case.due(answer.with_state(&state(end)))
+    case.due(Answer::valid(cost, plan.len(), &state(end)))
 }
 
 /// The first values of a state whose others are zero.
@@ -82,7 +80,7 @@ fn limits() -> Vec<Worked> {
         ("price", check_sheet(&too_dear).refused(refusal)),
         ("price, plan", too_dear_plan(Service::CheckPlan)),
         ("price, plan", too_dear_plan(Service::Exact)),
-        ("dearest", valid(&DEAREST, &[0; 255], 255_000_000, &[])),
+        ("dearest", valid(&dearest(), &[0; 255], 255_000_000, &[])),
     ]
 }
 
@@ -103,13 +101,13 @@ fn steps() -> Vec<Worked> {
 }
 
 fn tallies() -> Vec<Worked> {
-    let of = |service| Case::fitting(service, &[], &[], [0; 2]);
+    let of = |service, numbers| Case::without_sheet(service, 0).with_numbers(numbers);
     let add = |[cost, steps]: [u32; 2], more, after| {
-        let case = of(Service::TallyAdd).with_numbers([cost, steps, more, 0]);
-        case.due(Answer::telling(after))
+        let case = of(Service::TallyAdd, [cost, steps, more, 0]);
+        case.due(Answer::telling(after, 0))
     };
     let compare = |numbers, returned| {
-        let case = of(Service::TallyCompare).with_numbers(numbers);
+        let case = of(Service::TallyCompare, numbers);
         case.due(Answer::returning(returned))
     };
     let million = 1_000_000;
@@ -142,7 +140,8 @@ fn kept(mask: Mask, cost: usize, actions: &[u32]) -> Kept {
     }
 }
 
-/// A list with its marks and what elimination, greedy elimination and the exact reduction keep.
+/// A list with its marks and what elimination, greedy elimination and the exact reduction keep. If
+/// more than 20 steps are unmarked the last is what a licence leaves, of which all is marked.
 fn list(
     name: &'static str,
     words: &[u32],
@@ -150,24 +149,39 @@ fn list(
     marks: Mask,
     kept: [Kept; 3],
 ) -> Vec<Worked> {
-    let [eliminated, greedy, exact] = kept;
+    let [eliminated, greedy, left] = kept;
     let both = [eliminated.clone(), greedy.clone()];
+    let marked: u32 = marks.iter().map(|word| word.count_ones()).sum();
+    let unmarked = plan.len() - marked as usize;
+    let has_few = unmarked <= MAX_UNMARKED;
+    let licensed = Licensed {
+        claim: if has_few {
+            Claim::Least
+        } else {
+            Claim::Irreducible
+        },
+        kept: left.clone(),
+    };
+    let exact = match has_few {
+        true => Answer::keeping(left),
+        false => Answer::refused(Service::Exact, Cause::Unmarked.at(unmarked)),
+    };
     let answers = [
         (Service::Marks, Answer::marking(marks)),
         (Service::Eliminate, Answer::keeping(eliminated)),
         (Service::Greedy, Answer::keeping(greedy)),
         (Service::Cheaper, Answer::keeping_both(both)),
-        (Service::Exact, Answer::keeping(exact)),
+        (Service::Exact, exact),
+        (Service::License, Answer::licensed(licensed)),
     ];
     // The second output is longer than it has to be.
     let outputs = [plan.len(), plan.len() + 2];
-    let case = |(service, answer)| {
-        (
-            name,
-            Case::fitting(service, words, plan, outputs).due(answer),
-        )
-    };
-    answers.map(case).into()
+    let case = |(service, answer)| Case::fitting(service, words, plan, outputs).due(answer);
+    answers.map(|it| (name, case(it))).into()
+}
+
+fn alike(kept: Kept) -> [Kept; 3] {
+    [kept.clone(), kept.clone(), kept]
 }
 
 /// In list 1 the drain alone is marked, as before: the second lift would have to be by the first
@@ -177,9 +191,8 @@ fn list(
 /// two writers of a goal fact, and in list 9 the lift and the drop only support each other.
 ///
 /// Elimination on list 8, of which the document is silent, keeps step 2. The last step of the
-/// longest list is bit 62 of the mask's last word; the exact reduction refuses that list.
+/// longest list is bit 62 of the mask's last word.
 fn reductions() -> Vec<Worked> {
-    let alike = |kept: Kept| [kept.clone(), kept.clone(), kept];
     let in_p = |name, plan: &[u32], marks, mask| {
         let kept = alike(kept(mask, 12, &LIFT_DRAIN_DROP));
         list(name, &SHEET_P, plan, marks, kept)
@@ -189,17 +202,26 @@ fn reductions() -> Vec<Worked> {
     let both = kept(short(0b010), 6, &[1]);
     let covers = [both.clone(), kept(short(0b101), 8, &[0, 2]), both];
     let nothing = alike(kept(short(0), 0, &[]));
-    let last_word = |bits: u64| [0, 0, 0, bits << 60];
-    let longest = lamps_then_drain(255);
-    let mut longest = in_p("255 steps", &longest, last_word(0b111), last_word(0b111));
-    longest.pop();
+    let behind_lamps = |lamps: usize| {
+        let last_three = short(0b111_u64 << lamps);
+        in_p(
+            "list 10",
+            &lamps_then_drain(lamps + 3),
+            last_three,
+            last_three,
+        )
+    };
+    let last_three = [0, 0, 0, 0b111 << 60];
     let lists = [
         in_p("lists 1 and 2", &LIST_1, short(0b010000), short(0b111000)),
         in_p("list 3", &LIFT_DRAIN_DROP, short(0b111), short(0b111)),
-        list("list 7", &TWO_WAYS, &[0, 1], short(0), ways),
-        list("list 8", &U_AND_V, &[0, 1, 2], short(0), covers),
-        list("list 9", &GATE_ALONE, &[0, 2], short(0), nothing),
-        longest,
+        list("list 7", &two_ways(), &[0, 1], short(0), ways),
+        list("list 8", &u_and_v(), &[0, 1, 2], short(0), covers),
+        list("list 9", &gate_alone(), &[0, 2], short(0), nothing),
+        behind_lamps(19),
+        behind_lamps(20),
+        behind_lamps(21),
+        in_p("255 steps", &lamps_then_drain(255), last_three, last_three),
     ];
     lists.into_iter().flatten().collect()
 }
@@ -208,7 +230,7 @@ fn reductions() -> Vec<Worked> {
 fn refusals() -> Vec<Worked> {
     let too_long = lamps_then_drain(256);
     let mut cases = Vec::new();
-    for service in TAKING_PLAN {
+    for service in taking_plan() {
         let in_p = |plan: &[u32], outputs| Case::fitting(service, &SHEET_P, plan, outputs);
         let not_valid = |plan, place| in_p(plan, [2; 2]).refused(Cause::NotValid.at(place));
         let too_long = in_p(&too_long, [0; 2]).refused(Cause::PlanLength.at(255));
@@ -226,44 +248,22 @@ fn short_outputs() -> Vec<Worked> {
         let refusal = Cause::ShortOutput.at(plan.len());
         Case::fitting(service, &SHEET_P, plan, outputs).refused(refusal)
     };
-    let with_21_unmarked = [Service::Exact, Service::License].map(|service| {
-        let case = short(service, &lamps_then_drain(24), [23, 0]);
-        ("short output, 21 unmarked", case)
-    });
-    let mut cases = Vec::from(with_21_unmarked);
-    for (service, outputs) in [
-        (Service::Eliminate, [2, 0]),
-        (Service::Greedy, [2, 0]),
-        (Service::Exact, [2, 0]),
-        (Service::License, [2, 0]),
-        (Service::Cheaper, [2, 3]),
-        (Service::Cheaper, [3, 2]),
-    ] {
-        let valid = short(service, &LIFT_DRAIN_DROP, outputs);
-        let not_valid = short(service, &[0, 0, 1], outputs);
-        cases.push(("short output", valid));
-        cases.push(("short output, not valid", not_valid));
+    let mut cases = Vec::new();
+    for service in reducing() {
+        let with_21_unmarked = short(service, &lamps_then_drain(24), [23; 2]);
+        cases.push(("short output, 21 unmarked", with_21_unmarked));
+        let outputs: &[[usize; 2]] = match service.takes(SECOND) {
+            true => &[[2, 3], [3, 2]],
+            false => &[[2, 0]],
+        };
+        for &outputs in outputs {
+            let valid = short(service, &LIFT_DRAIN_DROP, outputs);
+            let not_valid = short(service, &[0, 0, 1], outputs);
+            cases.push(("short output", valid));
+            cases.push(("short output, not valid", not_valid));
+        }
     }
     cases
-}
-
-/// List 10. The lamps are not marked, and list 3 behind them is.
-fn unmarked() -> Vec<Worked> {
-    let behind_lamps = |lamps| {
-        let plan = lamps_then_drain(lamps + LIFT_DRAIN_DROP.len());
-        Case::fitting(Service::Exact, &SHEET_P, &plan, [plan.len(), 0])
-    };
-    let answered = |lamps| {
-        let last_three = kept(short(0b111_u64 << lamps), 12, &LIFT_DRAIN_DROP);
-        behind_lamps(lamps).due(Answer::keeping(last_three))
-    };
-    let refused = |lamps| behind_lamps(lamps).refused(Cause::Unmarked.at(lamps));
-    vec![
-        ("list 10, 19 unmarked", answered(19)),
-        ("list 10, 20 unmarked", answered(20)),
-        ("list 10, 21 unmarked", refused(21)),
-        ("255 steps, refused", refused(252)),
-    ]
 }
 
 /// The parts shown for lists 7 and 8, for two alike, for fewer steps, after a refusal, and of an
@@ -273,7 +273,7 @@ fn kept_parts() -> Vec<Worked> {
     let shown = |numbers, part: &[u32]| {
         let room = vec![u32::MAX; first.len()];
         let case = Case::of_parts([first.clone(), second.clone()], room);
-        case.with_numbers(numbers).due(Answer::showing(part))
+        case.with_numbers(numbers).due(Answer::showing(0, part))
     };
     vec![
         ("part, list 7", shown([9, 1, 1, 1], &[0])),

@@ -6,132 +6,10 @@ use crate::cases::{Answer, Case, Service};
 use crate::rules::{Cause, Refusal};
 
 /// The facts of the drop and of the goal stand in falling order, and one name is a keyword.
-const TEXT_P: &str = "\
-begin_version
-3
-end_version
-begin_metric
-1
-end_metric
-3
-begin_variable
-gate
--1
-2
-Atom shut(gate)
-Atom open(gate)
-end_variable
-begin_variable
-basin
--1
-2
-Atom full(basin)
-Atom empty(basin)
-end_variable
-begin_variable
-end_variable
--1
-2
-
-<none of those>
-end_variable
-1
-begin_mutex_group
-2
-0 0
-0 1
-end_mutex_group
-begin_state
-0
-0
-0
-end_state
-begin_goal
-2
-1 1
-0 0
-end_goal
-4
-begin_operator
-lift gate
-0
-1
-0 0 0 1
-5
-end_operator
-begin_operator
-drain basin
-1
-0 1
-1
-0 1 -1 1
-2
-end_operator
-begin_operator
-drop gate
-0
-1
-0 0 1 0
-5
-end_operator
-begin_operator
-lamp
-0
-1
-0 2 -1 1
-1
-end_operator
-0
-";
+const TEXT_P: &str = include_str!("sheet-p.sas");
 
 /// The same with what sheets don't have: axioms, layers and a condition.
-const TEXT_WITH_AXIOMS: &str = "\
-begin_version
-3
-end_version
-begin_metric
-0
-end_metric
-2
-begin_variable
-gate
--1
-2
-shut
-open
-end_variable
-begin_variable
-flow
-0
-2
-dry
-wet
-end_variable
-0
-begin_state
-0
-0
-end_state
-begin_goal
-1
-1 1
-end_goal
-1
-begin_operator
-lift gate
-0
-2
-1 1 0 0 0 1
-2 0 0 1 1 1 -1 1
-5
-end_operator
-1
-begin_rule
-1
-0 1
-1 0 1
-end_rule
-";
+const TEXT_WITH_AXIOMS: &str = include_str!("axioms.sas");
 
 /// Where the text with axioms tells first of what sheets don't have: the second layer.
 const SECOND_LAYER: usize = 17;
@@ -143,8 +21,7 @@ fn answered(text: &str, words: &[u32]) -> Case {
 }
 
 fn fitting(text: &str, room: usize) -> Case {
-    let case = Case::fitting(Service::Translate, &[], &[], [room, 0]);
-    case.with_text(text.as_bytes())
+    Case::without_sheet(Service::Translate, room).with_text(text.as_bytes())
 }
 
 fn refused(text: &str, refusal: Refusal) -> Case {

@@ -1,64 +1,70 @@
 //! Exact reductions with one fault each.
 
-use super::{with_refusal_written, Faulty};
-use crate::cases::{Answer, Memory, Service};
-use crate::comparison::by_rules::{exact_by, Way};
-use crate::rules::{self, steps_of, Cause, Kept, Lodged, Refusal, MAX_UNMARKED};
+use super::{fault, of_output, Fault};
+use crate::cases::{going, Answer, Memory, Service};
+use crate::rules::{self, steps_of, Cause, Kept, Lodged, Refusal, Way, MAX_UNMARKED};
 use std::cmp::Reverse;
 
-/// Each with its name.
-pub const FAULTS: [(&str, Faulty); 12] = [
-    ("hands the lodged plan back", |lent| {
-        keeping(lent, all_steps)
+pub fn faults() -> Vec<Fault> {
+    let mut faults = Vec::from(of_output(Service::Exact));
+    faults.extend(STEPS.map(|(name, steps)| fault(name, move |lent| keeping(lent, steps))));
+    faults.extend(WAYS.map(|(name, way)| fault(name, move |lent| by(lent, way))));
+    faults.push(fault("writes past the kept part", |lent| {
+        let mut answer = by(lent, rules::exact);
+        answer.first.push(0);
+        answer
+    }));
+    faults
+}
+
+/// The right checks, but other steps are kept.
+const STEPS: [(&str, fn(&Lodged) -> Vec<usize>); 6] = [
+    ("hands the lodged plan back", all_steps),
+    ("strikes everything", |_| Vec::new()),
+    ("is greedy", |lodged| lodged.greedily_eliminated()),
+    ("decides at one step alone", one_struck),
+    ("breaks ties the other way", |lodged| {
+        least_by(lodged, |kept| (lodged.counts(kept), Reverse(kept.clone())))
     }),
-    ("strikes everything", |lent| keeping(lent, |_| Vec::new())),
-    ("is greedy", |lent| {
-        keeping(lent, |lodged| lodged.greedily_eliminated())
+    ("compares costs alone", |lodged| {
+        least_by(lodged, |kept| (lodged.counts(kept).0, kept.clone()))
     }),
-    ("decides at one step alone", |lent| {
-        keeping(lent, one_struck)
+];
+
+const WAYS: [(&str, Way<Kept>); 3] = [
+    (
+        "refuses 20 unmarked steps",
+        |words, plan, output| match Lodged::check(words, plan, &[output])?.unmarked() {
+            MAX_UNMARKED => Err(Cause::Unmarked.at(MAX_UNMARKED)),
+            _ => rules::exact(words, plan, output),
+        },
+    ),
+    ("counts no marks", |words, plan, output| {
+        let kept = rules::exact(words, plan, output)?;
+        match plan.len() > MAX_UNMARKED {
+            true => Err(Cause::Unmarked.at(plan.len())),
+            false => Ok(kept),
+        }
     }),
-    ("breaks ties the other way", |lent| {
-        keeping(lent, |lodged| {
-            least_by(lodged, |kept| (lodged.counts(kept), Reverse(kept.clone())))
-        })
-    }),
-    ("compares costs alone", |lent| {
-        keeping(lent, |lodged| {
-            least_by(lodged, |kept| (lodged.counts(kept).0, kept.clone()))
-        })
-    }),
-    ("refuses 20 unmarked steps", |lent| {
-        going(lent, refuse_twenty)
-    }),
-    ("counts no marks", |lent| going(lent, count_no_marks)),
-    ("looks at the output last", |lent| going(lent, output_last)),
-    ("tells the lodged plan's cost", |lent| {
-        going(lent, lodged_cost)
-    }),
-    ("writes past the kept part", write_past_kept),
-    ("writes what it refuses", |lent| {
-        with_refusal_written(going(lent, rules::exact))
+    ("tells the lodged plan's cost", |words, plan, output| {
+        let kept = rules::exact(words, plan, output)?;
+        let cost = Lodged::check(words, plan, &[])?.cost();
+        Ok(Kept { cost, ..kept })
     }),
 ];
 
 /// The most steps of a plan whose reductions are all gone through; the answer about a longer one
 /// has no fault.
 const FEW_STEPS: usize = 10;
-/// Where `out` has the steps.
-const STEPS_AT: usize = 3;
 
-/// The right checks, but these steps are kept.
-fn keeping(lent: &Memory, steps: fn(&Lodged) -> Vec<usize>) -> Memory {
-    let lodged = Lodged::check_unmarked(&lent.words, &lent.plan, lent.first.len());
-    lent.after(&match lodged {
-        Ok(lodged) => Answer::keeping(lodged.kept(steps)),
-        Err(refusal) => Answer::refused(Service::Exact, refusal),
-    })
+fn by(lent: &Memory, way: Way<Kept>) -> Answer {
+    Answer::of(Service::Exact, going(lent, way, Answer::keeping))
 }
 
-fn going(lent: &Memory, way: Way) -> Memory {
-    lent.after(&exact_by(lent, way))
+fn keeping(lent: &Memory, steps: fn(&Lodged) -> Vec<usize>) -> Answer {
+    let lodged = Lodged::check_unmarked(&lent.words, &lent.plan, lent.first.len());
+    let kept: Result<Kept, Refusal> = lodged.map(|lodged| lodged.kept(steps));
+    Answer::of(Service::Exact, kept.map(Answer::keeping))
 }
 
 fn all_steps(lodged: &Lodged) -> Vec<usize> {
@@ -78,43 +84,6 @@ fn least_by<K: Ord>(lodged: &Lodged, key: impl Fn(&Vec<bool>) -> K) -> Vec<usize
     if lodged.actions.len() > FEW_STEPS {
         return lodged.least_by_states();
     }
-    let valid = lodged.reductions().filter(|kept| lodged.is_valid(kept));
-    let least = valid.min_by_key(key);
+    let least = lodged.valid_reductions().min_by_key(key);
     least.map_or(Vec::new(), |kept| steps_of(&kept))
-}
-
-fn refuse_twenty(words: &[u32], plan: &[u32], output: usize) -> Result<Kept, Refusal> {
-    match Lodged::check(words, plan, &[output])?.unmarked() {
-        MAX_UNMARKED => Err(Cause::Unmarked.at(MAX_UNMARKED)),
-        _ => rules::exact(words, plan, output),
-    }
-}
-
-fn count_no_marks(words: &[u32], plan: &[u32], output: usize) -> Result<Kept, Refusal> {
-    let kept = rules::exact(words, plan, output)?;
-    match plan.len() > MAX_UNMARKED {
-        true => Err(Cause::Unmarked.at(plan.len())),
-        false => Ok(kept),
-    }
-}
-
-/// All the other checks go first.
-fn output_last(words: &[u32], plan: &[u32], output: usize) -> Result<Kept, Refusal> {
-    rules::exact(words, plan, plan.len())?;
-    rules::exact(words, plan, output)
-}
-
-fn lodged_cost(words: &[u32], plan: &[u32], output: usize) -> Result<Kept, Refusal> {
-    let kept = rules::exact(words, plan, output)?;
-    let cost = Lodged::check(words, plan, &[])?.cost();
-    Ok(Kept { cost, ..kept })
-}
-
-fn write_past_kept(lent: &Memory) -> Memory {
-    let mut memory = going(lent, rules::exact);
-    let steps = memory.out.get(STEPS_AT).copied().unwrap_or(0);
-    if let Some(word) = memory.first.get_mut(steps as usize) {
-        *word = 0;
-    }
-    memory
 }

@@ -1,69 +1,59 @@
 //! Marks with one fault each.
 
-use super::Faulty;
+use super::{fault, Fault};
 use crate::cases::{Answer, Memory, Service};
 use crate::rules::marks::{Link, Positions, Set};
 use crate::rules::Lodged;
 
-/// Each with its name.
-pub const FAULTS: [(&str, Faulty); 9] = [
-    ("marks nothing", |lent| {
-        marking(lent, |_, positions| Set::of(positions.start_and_end()))
-    }),
-    ("marks mutual support", |lent| {
-        marking(lent, |_, positions| greatest(positions))
-    }),
-    ("takes unmarked earlier steps", |lent| {
-        marking(lent, |_, positions| {
-            changed(positions, |link, [start, _]| {
-                link.earlier = any_of(link.earlier, start)
-            })
+pub fn faults() -> Vec<Fault> {
+    let mut faults = Vec::new();
+    faults.extend(SETS.map(|(name, marked)| fault(name, move |lent| marking(lent, marked))));
+    faults.extend(LINKS.map(|(name, change)| {
+        fault(name, move |lent| {
+            marking(lent, |_, positions| changed(positions, change))
         })
+    }));
+    faults
+}
+
+/// Other positions are marked.
+const SETS: [(&str, fn(&Lodged, &Positions) -> Set); 5] = [
+    ("marks nothing", |_, it| Set::of(it.start_and_end())),
+    ("marks mutual support", |_, it| greatest(it)),
+    ("overlooks writers between", |_, it| {
+        it.least(&it.links_by(|_, _| false))
     }),
-    ("takes unmarked later steps", |lent| {
-        marking(lent, |_, positions| {
-            changed(positions, |link, [_, end]| {
-                link.later = any_of(link.later, end)
-            })
-        })
+    ("takes an action for a step", by_actions),
+    ("looks at every step once", |_, it| once(it)),
+];
+
+/// Changes a link; the positions are those of the start and the end.
+type Change = fn(&mut Link, [usize; 2]);
+
+/// Positions are marked by other links.
+const LINKS: [(&str, Change); 4] = [
+    ("takes unmarked earlier steps", |link, [start, _]| {
+        link.earlier = any_of(link.earlier, start)
     }),
-    ("forgets the start step", |lent| {
-        marking(lent, |_, positions| {
-            changed(positions, |link, [start, _]| {
-                link.earlier = link.earlier.without(start)
-            })
-        })
+    ("takes unmarked later steps", |link, [_, end]| {
+        link.later = any_of(link.later, end)
     }),
-    ("goes by the older rule", |lent| {
-        marking(lent, |_, positions| {
-            changed(positions, |link, [start, _]| {
-                link.earlier = only(link.earlier, start)
-            })
-        })
+    ("forgets the start step", |link, [start, _]| {
+        link.earlier = link.earlier.without(start)
     }),
-    ("overlooks writers between", |lent| {
-        marking(lent, |_, positions| {
-            positions.least(&positions.links_by(|_, _| false))
-        })
-    }),
-    ("takes an action for a step", |lent| {
-        marking(lent, by_actions)
-    }),
-    ("looks at every step once", |lent| {
-        marking(lent, |_, positions| once(positions))
+    ("goes by the older rule", |link, [start, _]| {
+        link.earlier = only(link.earlier, start)
     }),
 ];
 
 /// The right checks, but these positions are marked.
-fn marking(lent: &Memory, marked: fn(&Lodged, &Positions) -> Set) -> Memory {
+fn marking(lent: &Memory, marked: impl Fn(&Lodged, &Positions) -> Set) -> Answer {
     let lodged = Lodged::check(&lent.words, &lent.plan, &[]);
-    lent.after(&match lodged {
-        Ok(lodged) => {
-            let positions = Positions::of(&lodged);
-            Answer::marking(positions.mask(marked(&lodged, &positions)))
-        }
-        Err(refusal) => Answer::refused(Service::Marks, refusal),
-    })
+    let answer = lodged.map(|lodged| {
+        let positions = Positions::of(&lodged);
+        Answer::marking(positions.mask(marked(&lodged, &positions)))
+    });
+    Answer::of(Service::Marks, answer)
 }
 
 /// The greatest set in which each step is marked by others: it is begun with all of them.
@@ -82,8 +72,8 @@ fn greatest(positions: &Positions) -> Set {
     }
 }
 
-/// By links of which each is changed, with the positions of the start and the end.
-fn changed(positions: &Positions, change: fn(&mut Link, [usize; 2])) -> Set {
+/// By links of which each is changed.
+fn changed(positions: &Positions, change: Change) -> Set {
     let mut links = positions.links();
     for link in &mut links {
         change(link, positions.start_and_end());

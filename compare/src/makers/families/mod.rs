@@ -8,7 +8,7 @@ mod part;
 
 use super::parts::{chain, drain_in_lane, gate_actions, gate_goal, gate_lane};
 use super::parts::{laid_into_each_other, GATE_ACTIONS};
-use super::{action, fact, Action, Fact, Random, Task};
+use super::{action, fact, Action, Fact, List, Random};
 use part::Part;
 use std::cmp::Reverse;
 use std::ops::RangeInclusive;
@@ -61,6 +61,17 @@ pub enum Placement {
 
 pub const PLACEMENTS: [Placement; 3] = [Placement::Front, Placement::Spread, Placement::End];
 
+impl Placement {
+    /// Whether each of all the steps is one of so many of the family's.
+    pub fn turns(self, random: &mut Random, own: usize, all: usize) -> Vec<bool> {
+        match self {
+            Placement::Front => (0..all).map(|step| step < own).collect(),
+            Placement::End => (0..all).map(|step| step >= all - own).collect(),
+            Placement::Spread => random.choose(own, all),
+        }
+    }
+}
+
 /// So many lamps have variables of their own; further ones share them.
 const MOST_LAMPS: usize = 32;
 /// The goal facts that writers or covers give.
@@ -84,17 +95,10 @@ pub struct Shape {
     pub costs: RangeInclusive<u32>,
 }
 
-/// A plan with the number of its unmarked steps and, where the way that the plan is made says so, the
-/// indices of the steps that the exact reduction keeps.
-pub struct Made {
-    pub task: Task,
-    pub plan: Vec<u32>,
-    pub unmarked: usize,
-    pub kept: Option<Vec<usize>>,
-}
-
 impl Shape {
-    pub fn make(&self, random: &mut Random) -> Made {
+    /// The number of unmarked steps is known and, where the way that the plan is made says so, what
+    /// the exact reduction keeps.
+    pub fn make(&self, random: &mut Random) -> List {
         let mut part = self.part(random);
         let turns = self.turns(random, &part);
         let (counter, length) = (part.sizes.len(), self.steps - part.steps.len());
@@ -126,11 +130,7 @@ impl Shape {
     fn turns(&self, random: &mut Random, part: &Part) -> Vec<bool> {
         let own = part.steps.len() - part.late;
         let all = self.steps - part.late;
-        let mut turns = match self.placement {
-            Placement::Front => (0..all).map(|step| step < own).collect(),
-            Placement::End => (0..all).map(|step| step >= all - own).collect(),
-            Placement::Spread => random.choose(own, all),
-        };
+        let mut turns = self.placement.turns(random, own, all);
         turns.resize(self.steps, true);
         turns
     }

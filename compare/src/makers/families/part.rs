@@ -1,7 +1,6 @@
 //! The part that a family has in a plan, and how it is laid into the chain.
 
-use super::Made;
-use crate::makers::{fact, Action, Fact, Task};
+use crate::makers::{fact, Action, Fact, Known, List, Task};
 
 /// What a family brings to a plan; its variables start at 0.
 #[derive(Default)]
@@ -51,7 +50,7 @@ impl Part {
 
     /// The steps of the family at their turns and, between them, those of the chain, whose actions
     /// are the last ones.
-    pub fn laid_into(self, first_of_chain: u32, turns: &[bool]) -> Made {
+    pub fn laid_into(self, first_of_chain: u32, turns: &[bool]) -> List {
         let unmarked = self.steps.len() - self.marked;
         let is_known = self.kept.is_some();
         let flags = self.kept.unwrap_or(vec![false; self.steps.len()]);
@@ -66,11 +65,12 @@ impl Part {
                 kept.push(step);
             }
         }
-        Made {
-            task: Task::from_zero(self.sizes, self.goal, self.actions),
-            plan,
-            unmarked,
-            kept: is_known.then_some(kept),
-        }
+        let known = Known {
+            unmarked: Some(unmarked),
+            exact: is_known.then_some(kept),
+            ..Known::default()
+        };
+        let task = Task::from_zero(self.sizes, self.goal, self.actions);
+        List { task, plan, known }
     }
 }

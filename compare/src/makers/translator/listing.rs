@@ -15,7 +15,8 @@ pub struct Variable {
     pub start: Number,
 }
 
-pub struct Effect {
+/// An effect, or an axiom.
+pub struct Change {
     pub conditions: Vec<Pair>,
     pub variable: Number,
     /// Nothing is an old value of -1.
@@ -23,17 +24,23 @@ pub struct Effect {
     pub new: Number,
 }
 
-pub struct Operator {
-    pub prevail: Vec<Pair>,
-    pub effects: Vec<Effect>,
-    pub cost: Number,
+impl Change {
+    /// Of a variable to a value, without conditions.
+    pub fn to([variable, new]: Pair, old: Option<Number>) -> Self {
+        Change {
+            conditions: Vec::new(),
+            variable,
+            old,
+            new,
+        }
+    }
 }
 
-pub struct Axiom {
-    pub conditions: Vec<Pair>,
-    pub variable: Number,
-    pub old: Option<Number>,
-    pub new: Number,
+#[derive(Default)]
+pub struct Operator {
+    pub prevail: Vec<Pair>,
+    pub effects: Vec<Change>,
+    pub cost: Number,
 }
 
 pub struct Listing {
@@ -43,7 +50,7 @@ pub struct Listing {
     pub mutex_groups: Vec<Vec<Pair>>,
     pub goal: Vec<Pair>,
     pub operators: Vec<Operator>,
-    pub axioms: Vec<Axiom>,
+    pub axioms: Vec<Change>,
 }
 
 fn pair(fact: &Fact) -> Pair {
@@ -67,13 +74,7 @@ impl Operator {
         let is_set = |fact: &&Fact| with_variable(effects, fact.variable).is_some();
         let effect = |effect: &Fact| {
             let old = with_variable(preconditions, effect.variable);
-            let [variable, new] = pair(effect);
-            Effect {
-                conditions: Vec::new(),
-                variable,
-                old: old.map(|fact| Number::from(fact.value)),
-                new,
-            }
+            Change::to(pair(effect), old.map(|fact| Number::from(fact.value)))
         };
         Operator {
             prevail: pairs(preconditions.iter().filter(|fact| !is_set(fact))),

@@ -7,5 +7,5 @@ mod listing;
 pub mod names;
 mod text;
 
-pub use listing::{Axiom, Effect, Listing, Number, Operator, Pair, Variable};
+pub use listing::{Change, Listing, Number, Operator, Pair, Variable};
 pub use text::{Holds, Text};

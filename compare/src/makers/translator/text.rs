@@ -1,6 +1,6 @@
 //! A text line by line, with what each line holds.
 
-use super::{names, Axiom, Effect, Listing, Number, Operator, Pair, Variable};
+use super::{names, Change, Listing, Number, Operator, Pair, Variable};
 use std::ops::Range;
 
 // What keywords call the part that they begin or end.
@@ -198,21 +198,24 @@ impl Writer<'_> {
         });
     }
 
-    fn effect(&mut self, effect: &Effect) {
+    fn effect(&mut self, effect: &Change) {
         let conditions = effect.conditions.iter().flatten().copied().map(Some);
         let count = Some(effect.conditions.len() as Number);
-        let change = [Some(effect.variable), effect.old, Some(effect.new)];
-        let numbers = [count].into_iter().chain(conditions).chain(change);
-        self.line(Holds::Effect, numbers);
+        let numbers = [count].into_iter().chain(conditions);
+        self.line(Holds::Effect, numbers.chain(values(effect)));
     }
 
-    fn axiom(&mut self, axiom: &Axiom) {
+    fn axiom(&mut self, axiom: &Change) {
         self.part(RULE, |it| {
             it.pairs(&axiom.conditions);
-            let change = [Some(axiom.variable), axiom.old, Some(axiom.new)];
-            it.line(Holds::Numbers, change);
+            it.line(Holds::Numbers, values(axiom));
         });
     }
+}
+
+/// The variable, its old value and the new one.
+fn values(change: &Change) -> [Option<Number>; 3] {
+    [Some(change.variable), change.old, Some(change.new)]
 }
 
 /// Most numbers have one digit, and those that don't fit in 64 bits are seldom: both matter to how

@@ -2,7 +2,7 @@
 //! be in order, so that is only noted, and told at the end.
 
 use crate::rules::{
-    pair_word, EDITION, FACT_BASE, FIRST_ACTION_PAIR, MAX_ACTIONS, MAX_ACTION_COST, MAX_DOMAIN,
+    sheet_of, FACT_BASE, FIRST_ACTION_PAIR, MAX_ACTIONS, MAX_ACTION_COST, MAX_DOMAIN,
     MAX_VARIABLES, MAX_WORDS,
 };
 
@@ -77,21 +77,12 @@ impl Draft {
 
     /// The words of the sheet, if it fits.
     pub fn into_words(self) -> Option<Vec<u32>> {
-        let (variables, pairs) = (self.variables(), self.lengths.len());
-        let actions = pairs - FIRST_ACTION_PAIR;
-        let mut offset = pair_word(pairs);
-        let count = offset + self.parts.len();
-        let has_variables = (1..=MAX_VARIABLES).contains(&variables);
-        if !(self.fits && has_variables && actions <= MAX_ACTIONS && count <= MAX_WORDS) {
+        let actions = self.lengths.len() - FIRST_ACTION_PAIR;
+        let has_variables = (1..=MAX_VARIABLES).contains(&self.variables());
+        if !(self.fits && has_variables && actions <= MAX_ACTIONS) {
             return None;
         }
-        let mut words = Vec::with_capacity(count);
-        words.extend([EDITION, variables, actions, count].map(|word| word as u32));
-        for length in self.lengths {
-            words.extend([offset as u32, length as u32]);
-            offset += length;
-        }
-        words.extend(self.parts);
-        Some(words)
+        let words = sheet_of(self.variables(), &self.lengths, &self.parts);
+        (words.len() <= MAX_WORDS).then_some(words)
     }
 }
