@@ -5,33 +5,33 @@
 // `hollchiku_open`, and `text` of `hollchiku_text_of`. Return channels, which every call writes, on a refusal with
 // document 01's zeros: `out`, `mask`, `part`, and `state` of `hollchiku_check_plan`. So are `bytes`, which no call
 // refuses, and `text` of `hollchiku_license_lines` and `hollchiku_shorten_lines`, where a refusal has its line. A slice
-// that is lent to be read is only read. lent: how answers and states go into lent words, and how a state is read from
-// them. forms: the forms that programs read and print.
+// that is lent to be read is only read. forms: the forms that programs read and print.
 mod forms;
-mod lent;
 
-use crate::lent::read_state;
-use crate::lent::write_answer;
-use crate::lent::write_both;
-use crate::lent::write_claim;
-use crate::lent::write_pair;
-use crate::lent::write_reduced;
-use crate::lent::write_translated;
-use crate::lent::write_verdict;
-use crate::lent::write_wide;
 use access::put_all;
+use claim::answer::Claim;
 use claim::license::license;
 use elimination::both::cheaper;
 use elimination::both::kept_part;
 use elimination::single::Elimination;
 use elimination::single::eliminate_plan;
 use landmark::marks::marks_mask;
+use lent::read_state;
+use lent::write_answer;
+use lent::write_both;
+use lent::write_counted;
+use lent::write_pair;
+use lent::write_reduced;
+use lent::write_verdict;
+use lent::write_wide;
 use minimal::reduce::minimal_reduction;
 use plan::check::check_plan;
+use refusal::Verdict;
 use sheet::check::check_sheet;
 use step::one::step;
 use tally::Order;
 use tally::Tally;
+use translation::translate::Translated;
 use translation::translate::translate;
 ghost use mathlib.Core.Path.{_≡_};
 ghost use lib.ListN.{length};
@@ -41,10 +41,13 @@ ghost use Rattle.tally.specs.Tally.{one-more, comparison};
 ghost use Rattle.sheet.specs.Causes.{sheet-checks};
 ghost use Rattle.elimination.specs.declared.single.Elimination.the-variants.{Plain, Greedy};
 ghost use Rattle.elimination.specs.Eliminations.{cheaper-part};
-ghost use Rattle.exports.specs.Words.{answer-words, lent-tally, tally-words, order-number};
-ghost use Rattle.exports.specs.Words.{Steps-lent, Checks-lent, Marks-lent, Eliminates-lent, Minimises-lent};
-ghost use Rattle.exports.specs.Words.{Licenses-lent, Reduces-both-lent, Translates-lent};
+ghost use Rattle.lent.specs.Words.{answer-words, lent-tally, tally-words, order-number};
+ghost use Rattle.exports.specs.Services.{Steps-lent, Checks-lent, Marks-lent, Eliminates-lent, Minimises-lent};
+ghost use Rattle.exports.specs.Services.{claim-words, Licenses-lent, Reduces-both-lent, Translates-lent};
 ghost use Rattle.exports.specs.Statement.{Demand-three-lent, May-be-lodged-lent};
+
+// Where a claim stands, after the refusal's number and place and the tally.
+const CLAIM_AT: usize = 4;
 
 // Checks a task: the number and the place of its refusal go to `out`, or 0 and 0.
 #[no_mangle]
@@ -198,6 +201,18 @@ pub extern "C" fn hollchiku_exact(
     write_reduced(mask, out, reduced.mask, given);
 }
 
+// Writes a claim behind an answer: 0 and how many steps are unmarked where it is open, 1 and 0 where it is irreducible,
+// 2 and 0 where it is least.
+fn write_claim(out: &mut [u64], claim: Claim)
+    ensures { λ _. ⌜ now (out .exit) ≡ sets (now (out .entry)) 4 (claim-words claim) ⌝ }
+{
+    match claim {
+        Claim::Open(steps) => write_pair(out, CLAIM_AT, 0, steps as u64),
+        Claim::Irreducible => write_pair(out, CLAIM_AT, 1, 0),
+        Claim::Least => write_pair(out, CLAIM_AT, 2, 0),
+    }
+}
+
 // The licence of a plan, in the same form. Behind the tally goes the claim: 0 and how many steps are unmarked where it
 // is open, 1 and 0 where it is irreducible, 2 and 0 where it is least.
 #[no_mangle]
@@ -280,5 +295,8 @@ pub extern "C" fn hollchiku_translate(text: &[u8], output: &mut [u32], out: &mut
         (now (out .entry)) (now (out .exit)) ⌝ }
 {
     let given = translate(text, output);
-    write_translated(out, given);
+    match given {
+        Translated::Refused(refusal) => write_counted(out, Verdict::Refused(refusal), 0),
+        Translated::Written(words) => write_counted(out, Verdict::Passed, words),
+    }
 }

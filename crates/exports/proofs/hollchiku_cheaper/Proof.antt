@@ -1,5 +1,5 @@
 -- `hollchiku_cheaper` meets its contract: what is written is what the service answers. Assumes nothing.
-use mathlib.Core.Path.{_∙_}
+use Rattle.exports.proofs.LentLaws.{lent-both}
 use borrow.Author.Needs.{needs}
 use Rattle.exports.proofs.hollchiku_cheaper.Statement.{statement}
 use Rattle.exports.proofs.hollchiku_cheaper.Tie as tie
@@ -20,9 +20,7 @@ same-length-3 : tie.Need-same-length-3
 same-length-3 c = search needs
 
 returns : tie.Need-returns
-returns c =
-    let both = c .before .before .before .before .before .before .before .before .before .before .cheaper .ensures in record
-    { first-left = both .first-output ∙ rw (both .refusal); second-left = both .second-output ∙ rw (both .refusal); answered = c .before .before .write-both .ensures ∙ rw (both .first-tally, both .second-tally, both .refusal) }
+returns c = lent-both _ _ _ _ _ _ _ _ _ _ _ (c .before .before .before .before .before .before .before .before .before .before .cheaper .ensures) (c .before .before .write-both .ensures)
 
 pub hollchiku-cheaper-spec : {M : Type 1} → statement M
 hollchiku-cheaper-spec =
