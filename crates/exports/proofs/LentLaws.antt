@@ -20,6 +20,7 @@ use Rattle.service.specs.Reduced.{Answers}
 use Rattle.sheet.specs.Limits.{limits}
 use Rattle.step.specs.Step.{Steps}
 use Rattle.step.proofs.StepTheorem.{step-theorem}
+use Rattle.course.specs.Course.{Courses}
 use Rattle.landmark.specs.Marks.{Masks}
 use Rattle.elimination.specs.Eliminations.{Reduces-both}
 use Rattle.minimal.specs.Minimised.{most-unmarked}
@@ -34,7 +35,7 @@ use Rattle.translation.specs.declared.translate.Translated.the-variants.{Refuse
 use Rattle.translation.specs.Translation.{text-sheet, Translates}
 use Rattle.lent.specs.Words.{answer-words, tally-words, lent-state, Writes-reduced}
 use Rattle.lent.proofs.StoredLaws.{same-stored}
-use Rattle.exports.specs.Services.{Steps-lent, Checks-lent, Marks-lent, Answers-lent, Reduces-both-lent, claim-words, Licenses-lent, Translate-lent, Translates-lent}
+use Rattle.exports.specs.Services.{Steps-lent, Checks-lent, Courses-lent, Marks-lent, Answers-lent, Reduces-both-lent, claim-words, Licenses-lent, Translate-lent, Translates-lent}
 use Rattle.exports.specs.Statement.{Demand-three-lent, May-be-lodged-lent}
 
 -- one step, written to lent words
@@ -57,6 +58,12 @@ pub lent-checks : (w l state state′ out out′ values : List ℕ) (given : Ans
     → out′ ≡ sets out 0 (answer-words (told-answer given) ++ tally-words (told-tally given)) → Checks-lent w l state state′ out out′
 lent-checks w l state state′ out out′ values given checks stored answered =
     record { end = stored ∙ rw (checks .end); answered = answered ∙ rw (checks .refusal, checks .tally) }
+
+-- the states along a list, written to lent words
+pub lent-course : (w l states states′ out out′ : List ℕ) (verdict : Verdict) (count : ℕ) → Courses w l verdict count states states′
+    → out′ ≡ sets out 0 (answer-words (told verdict) ++ (count ∷ [])) → Courses-lent w l states states′ out out′
+lent-course w l states states′ out out′ verdict count courses answered =
+    record { states-left = courses .states; answered = answered ∙ rw (courses .refusal, courses .counted) }
 
 -- the marks of a list, written to lent words
 pub lent-marks : (w l mask mask′ out out′ words : List ℕ) (verdict : Verdict) → Masks w l verdict words → mask′ ≡ sets mask 0 words

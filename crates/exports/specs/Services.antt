@@ -2,7 +2,7 @@
 use Prim.Native.Nat.{ℕ, min}
 use mathlib.Core.Path.{_≡_}
 use mathlib.Core.Option.{Option, some}
-use mathlib.Core.List.{List, [], _∷_, _++_}
+use mathlib.Core.List.{List, [], _∷_, _++_, flatten}
 use lib.ListN.{length, replicate}
 use lib.Seq.{sets}
 use Rattle.refusal.specs.Refusal.{Told}
@@ -14,6 +14,7 @@ use Rattle.service.specs.Reduced.{reduction-checks, tally-left, output-left}
 use Rattle.elimination.specs.declared.single.Elimination.{Elimination}
 use Rattle.elimination.specs.Eliminations.{elimination-of, greedy-elimination-of, left-by}
 use Rattle.plan.specs.Checked.{plan-checks, lodged-tally, end-state, no-state}
+use Rattle.course.specs.Course.{course, course-checks}
 use Rattle.landmark.specs.Marks.{marks}
 use Rattle.minimal.specs.Minimised.{most-unmarked, minimal-checks, minimal-of}
 use Rattle.claim.specs.declared.answer.Claim.{Claim}
@@ -39,6 +40,15 @@ pub record Check-lent (t : Option Told) (w l state state′ out out′ : List �
 
 abbrev pub Checks-lent : List ℕ → List ℕ → List ℕ → List ℕ → List ℕ → List ℕ → Type 0
 Checks-lent w l = Check-lent (answer (plan-checks w l)) w l
+
+-- the states along a list over lent words, of checks that answer t: they over `states`, one behind the other, the answer
+-- and how many they are over `out`
+pub record Course-lent (t : Option Told) (w l states states′ out out′ : List ℕ) : Type 0 where
+  pub states-left : states′ ≡ unless-refused t (sets states 0 (flatten (course w l))) states
+  pub answered : out′ ≡ sets out 0 (answer-words t ++ (unless-refused t (length (course w l)) 0 ∷ []))
+
+abbrev pub Courses-lent : List ℕ → List ℕ → List ℕ → List ℕ → List ℕ → List ℕ → Type 0
+Courses-lent w l = Course-lent (answer (course-checks w l)) w l
 
 -- the marks of a list over lent words: their mask over `mask`, the answer over `out`
 pub record Mark-lent (t : Option Told) (w l mask mask′ out out′ : List ℕ) : Type 0 where

@@ -1,7 +1,7 @@
 // The services as a static library, for programs in other languages: C's names, slices and numbers alone. A slice is
 // passed as its pointer and then its length. Slices that are lent to be written overlap no other slice of the same
 // call: nothing checks that. What does not fit into a lent slice is dropped. Lent outputs, which a refusal leaves
-// untouched: `state` of `hollchiku_step`, `output`, `first` and `second`, `words` of `hollchiku_read_words` and
+// untouched: `state` of `hollchiku_step`, `states`, `output`, `first` and `second`, `words` of `hollchiku_read_words` and
 // `hollchiku_open`, and `text` of `hollchiku_text_of`. Return channels, which every call writes, on a refusal with
 // document 01's zeros: `out`, `mask`, `part`, and `state` of `hollchiku_check_plan`. So are `bytes`, which no call
 // refuses, and `text` of `hollchiku_license_lines` and `hollchiku_shorten_lines`, where a refusal has its line. A slice
@@ -11,6 +11,7 @@ mod forms;
 use access::put_all;
 use claim::answer::Claim;
 use claim::license::license;
+use course::plan_course;
 use elimination::both::cheaper;
 use elimination::both::kept_part;
 use elimination::single::Elimination;
@@ -42,8 +43,8 @@ ghost use Rattle.sheet.specs.Causes.{sheet-checks};
 ghost use Rattle.elimination.specs.declared.single.Elimination.the-variants.{Plain, Greedy};
 ghost use Rattle.elimination.specs.Eliminations.{cheaper-part};
 ghost use Rattle.lent.specs.Words.{answer-words, lent-tally, tally-words, order-number};
-ghost use Rattle.exports.specs.Services.{Steps-lent, Checks-lent, Marks-lent, Eliminates-lent, Minimises-lent};
-ghost use Rattle.exports.specs.Services.{claim-words, Licenses-lent, Reduces-both-lent, Translates-lent};
+ghost use Rattle.exports.specs.Services.{Steps-lent, Checks-lent, Courses-lent, Marks-lent, Eliminates-lent};
+ghost use Rattle.exports.specs.Services.{Minimises-lent, claim-words, Licenses-lent, Reduces-both-lent, Translates-lent};
 ghost use Rattle.exports.specs.Statement.{Demand-three-lent, May-be-lodged-lent};
 
 // Where a claim stands, after the refusal's number and place and the tally.
@@ -126,6 +127,20 @@ pub extern "C" fn hollchiku_check_plan(
     let given = checked.answer;
     put_all(state, &values);
     write_answer(out, given);
+}
+
+// The states along a plan go to the front of `states`, one behind the other, each a value for each variable: the starting
+// values, and the state after each step, up to the first that can't be done. The number and the place of a refusal of
+// what is read, or 0 and 0, then how many states these are go to `out`.
+#[no_mangle]
+pub extern "C" fn hollchiku_course(words: &[u32], plan: &[u32], states: &mut [u32], out: &mut [u64])
+    ensures { λ _. ⌜ Courses-lent (now (words .entry)) (now (plan .entry))
+        (now (states .entry)) (now (states .exit)) (now (out .entry)) (now (out .exit)) ⌝ }
+{
+    let reached = plan_course(words, plan, states);
+    let verdict = reached.verdict;
+    let count = reached.count;
+    write_counted(out, verdict, count);
 }
 
 // Marks the landmarks of a plan: the four words of their mask go to the lent mask, the number and the place of a
