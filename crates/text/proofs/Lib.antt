@@ -1,5 +1,3 @@
--- TextExamples: what some short texts mean.
-pub mod TextExamples
 -- TextLaws: the fields of a text, by its next byte.
 pub mod TextLaws
 -- ReaderLaws: how a byte takes a reader on.
