@@ -1,2 +1,2 @@
--- LentLaws: what a service has stored into lent words.
+-- LentLaws: what a service that strikes nothing has stored into lent words.
 pub mod LentLaws

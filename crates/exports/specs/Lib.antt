@@ -1,4 +1,2 @@
--- Services: what each service writes over words that programs in other languages lend. Statement: demand 3 of the
--- exported minimal reduction, and what the exported licence says.
+-- Services: what each service that strikes nothing writes over words that programs in other languages lend.
 pub mod Services
-pub mod Statement

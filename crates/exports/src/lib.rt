@@ -9,27 +9,24 @@
 mod forms;
 
 use access::put_all;
-use claim::answer::Claim;
-use claim::license::license;
 use course::plan_course;
-use elimination::both::cheaper;
 use elimination::both::kept_part;
 use elimination::single::Elimination;
-use elimination::single::eliminate_plan;
 use landmark::marks::marks_mask;
 use lent::read_state;
 use lent::write_answer;
-use lent::write_both;
 use lent::write_counted;
 use lent::write_pair;
-use lent::write_reduced;
 use lent::write_verdict;
 use lent::write_wide;
-use minimal::reduce::minimal_reduction;
 use plan::check::check_plan;
 use refusal::Verdict;
 use sheet::check::check_sheet;
 use step::one::step;
+use striking::eliminate;
+use striking::eliminate_both;
+use striking::license_plan;
+use striking::minimise;
 use tally::Order;
 use tally::Tally;
 use translation::translate::Translated;
@@ -43,12 +40,9 @@ ghost use Rattle.sheet.specs.Causes.{sheet-checks};
 ghost use Rattle.elimination.specs.declared.single.Elimination.the-variants.{Plain, Greedy};
 ghost use Rattle.elimination.specs.Eliminations.{cheaper-part};
 ghost use Rattle.lent.specs.Words.{answer-words, lent-tally, tally-words, order-number};
-ghost use Rattle.exports.specs.Services.{Steps-lent, Checks-lent, Courses-lent, Marks-lent, Eliminates-lent};
-ghost use Rattle.exports.specs.Services.{Minimises-lent, claim-words, Licenses-lent, Reduces-both-lent, Translates-lent};
-ghost use Rattle.exports.specs.Statement.{Demand-three-lent, May-be-lodged-lent};
-
-// Where a claim stands, after the refusal's number and place and the tally.
-const CLAIM_AT: usize = 4;
+ghost use Rattle.exports.specs.Services.{Steps-lent, Checks-lent, Courses-lent, Marks-lent, Translates-lent};
+ghost use Rattle.striking.specs.Strikes.{Eliminates-lent, Minimises-lent, Licenses-lent, Reduces-both-lent};
+ghost use Rattle.striking.specs.Statement.{Demand-three-lent, May-be-lodged-lent};
 
 // Checks a task: the number and the place of its refusal go to `out`, or 0 and 0.
 #[no_mangle]
@@ -172,9 +166,7 @@ pub extern "C" fn hollchiku_eliminate(
         (now (output .entry)) (now (output .exit)) (now (mask .entry)) (now (mask .exit))
         (now (out .entry)) (now (out .exit)) ⌝ }
 {
-    let reduced = eliminate_plan(words, plan, output, Elimination::Plain);
-    let given = reduced.answer;
-    write_reduced(mask, out, reduced.mask, given);
+    eliminate(words, plan, output, mask, out, Elimination::Plain);
 }
 
 // Greedy elimination, in the same form.
@@ -190,9 +182,7 @@ pub extern "C" fn hollchiku_greedy(
         (now (output .entry)) (now (output .exit)) (now (mask .entry)) (now (mask .exit))
         (now (out .entry)) (now (out .exit)) ⌝ }
 {
-    let reduced = eliminate_plan(words, plan, output, Elimination::Greedy);
-    let given = reduced.answer;
-    write_reduced(mask, out, reduced.mask, given);
+    eliminate(words, plan, output, mask, out, Elimination::Greedy);
 }
 
 // The minimal reduction, in the same form.
@@ -211,21 +201,7 @@ pub extern "C" fn hollchiku_exact(
         (now (output .entry)) (now (output .exit)) (now (mask .entry)) (now (mask .exit))
         (now (out .entry)) (now (out .exit)) ⌝ }
 {
-    let reduced = minimal_reduction(words, plan, output);
-    let given = reduced.answer;
-    write_reduced(mask, out, reduced.mask, given);
-}
-
-// Writes a claim behind an answer: 0 and how many steps are unmarked where it is open, 1 and 0 where it is irreducible,
-// 2 and 0 where it is least.
-fn write_claim(out: &mut [u64], claim: Claim)
-    ensures { λ _. ⌜ now (out .exit) ≡ sets (now (out .entry)) 4 (claim-words claim) ⌝ }
-{
-    match claim {
-        Claim::Open(steps) => write_pair(out, CLAIM_AT, 0, steps as u64),
-        Claim::Irreducible => write_pair(out, CLAIM_AT, 1, 0),
-        Claim::Least => write_pair(out, CLAIM_AT, 2, 0),
-    }
+    minimise(words, plan, output, mask, out);
 }
 
 // The licence of a plan, in the same form. Behind the tally goes the claim: 0 and how many steps are unmarked where it
@@ -245,12 +221,7 @@ pub extern "C" fn hollchiku_license(
         (now (output .entry)) (now (output .exit)) (now (mask .entry)) (now (mask .exit))
         (now (out .entry)) (now (out .exit)) ⌝ }
 {
-    let licensed = license(words, plan, output);
-    let claim = licensed.claim;
-    let told = licensed.told;
-    let given = told.answer;
-    write_reduced(mask, out, told.mask, given);
-    write_claim(out, claim);
+    license_plan(words, plan, output, mask, out);
 }
 
 // Both eliminations: the list that each leaves goes to the front of its output, elimination's to `first`; the number
@@ -266,11 +237,7 @@ pub extern "C" fn hollchiku_cheaper(
     ensures { λ _. ⌜ Reduces-both-lent (now (words .entry)) (now (plan .entry)) (now (first .entry)) (now (first .exit))
         (now (second .entry)) (now (second .exit)) (now (out .entry)) (now (out .exit)) ⌝ }
 {
-    let both = cheaper(words, plan, first, second);
-    let verdict = both.verdict;
-    let of_first = both.first;
-    let of_second = both.second;
-    write_both(out, verdict, of_first, of_second);
+    eliminate_both(words, plan, first, second, out);
 }
 
 // The kept part of the cheaper of two lists goes to the front of `part`; its length is returned.

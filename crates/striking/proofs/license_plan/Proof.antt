@@ -1,8 +1,8 @@
--- `hollchiku_license` meets its contract: what is written is what the service answers. Assumes nothing.
-use Rattle.exports.proofs.LentLaws.{lent-licenses, lent-licence}
+-- `license_plan` meets its contract: what is written is what the service answers. Assumes nothing.
+use Rattle.striking.proofs.StrikeLaws.{lent-licenses, lent-licence}
 use borrow.Author.Needs.{needs}
-use Rattle.exports.proofs.hollchiku_license.Statement.{statement}
-use Rattle.exports.proofs.hollchiku_license.Tie as tie
+use Rattle.striking.proofs.license_plan.Statement.{statement}
+use Rattle.striking.proofs.license_plan.Tie as tie
 
 license-requires : tie.Need-license-requires
 license-requires c κs = search needs
@@ -31,8 +31,8 @@ returns c =
       lent-licence _ _ _ _ _ _ _ _ _ _ writes claimed (licensed .1),
     )
 
-pub hollchiku-license-spec : {M : Type 1} → statement M
-hollchiku-license-spec =
+pub license-plan-spec : {M : Type 1} → statement M
+license-plan-spec =
     tie.close
     (tie.spec
     license-requires

@@ -1,8 +1,8 @@
--- `hollchiku_eliminate` meets its contract: what is written is what the service answers. Assumes nothing.
-use Rattle.exports.proofs.LentLaws.{lent-answers}
+-- `eliminate` meets its contract: what is written is what the service answers. Assumes nothing.
+use Rattle.striking.proofs.StrikeLaws.{lent-answers}
 use borrow.Author.Needs.{needs}
-use Rattle.exports.proofs.hollchiku_eliminate.Statement.{statement}
-use Rattle.exports.proofs.hollchiku_eliminate.Tie as tie
+use Rattle.striking.proofs.eliminate.Statement.{statement}
+use Rattle.striking.proofs.eliminate.Tie as tie
 
 eliminate-plan-requires : tie.Need-eliminate-plan-requires
 eliminate-plan-requires c κs = search needs
@@ -24,8 +24,8 @@ returns c =
     lent-answers _ _ _ _ _ _ _ _ _ _ _ _ (c .before .before .before .before .before .before .before .before .before .eliminate-plan .ensures)
     (c .before .before .before .before .write-reduced .ensures)
 
-pub hollchiku-eliminate-spec : {M : Type 1} → statement M
-hollchiku-eliminate-spec =
+pub eliminate-spec : {M : Type 1} → statement M
+eliminate-spec =
     tie.close
     (tie.spec
     eliminate-plan-requires

@@ -1,7 +1,7 @@
 -- `write_claim` meets its contract: a pair of words for each kind of claim. Assumes nothing.
 use borrow.Author.Needs.{needs}
-use Rattle.exports.proofs.write_claim.Statement.{statement}
-use Rattle.exports.proofs.write_claim.Tie as tie
+use Rattle.striking.proofs.write_claim.Statement.{statement}
+use Rattle.striking.proofs.write_claim.Tie as tie
 
 enum-known-claim : tie.Need-enum-known-claim
 enum-known-claim c = search needs

@@ -21,7 +21,7 @@ use Rattle.minimal.specs.Statement.{Is-marked, Valid-striking}
 use Rattle.claim.specs.declared.answer.Claim.{Claim}
 use Rattle.claim.specs.Statement.{Licence}
 use Rattle.lent.specs.Words.{answer-words, tally-words}
-use Rattle.exports.specs.Services.{claim-words}
+use Rattle.striking.specs.Strikes.{claim-words}
 
 module _ (w l output output′ mask mask′ out out′ : List ℕ) where
   -- the minimal reduction is written: its list over `output`, its mask over `mask`, zeros for the refusal and its tally

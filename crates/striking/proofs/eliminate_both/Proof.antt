@@ -1,8 +1,8 @@
--- `hollchiku_cheaper` meets its contract: what is written is what the service answers. Assumes nothing.
-use Rattle.exports.proofs.LentLaws.{lent-both}
+-- `eliminate_both` meets its contract: what is written is what the service answers. Assumes nothing.
+use Rattle.striking.proofs.StrikeLaws.{lent-both}
 use borrow.Author.Needs.{needs}
-use Rattle.exports.proofs.hollchiku_cheaper.Statement.{statement}
-use Rattle.exports.proofs.hollchiku_cheaper.Tie as tie
+use Rattle.striking.proofs.eliminate_both.Statement.{statement}
+use Rattle.striking.proofs.eliminate_both.Tie as tie
 
 cheaper-requires : tie.Need-cheaper-requires
 cheaper-requires c κs = search needs
@@ -22,7 +22,7 @@ same-length-3 c = search needs
 returns : tie.Need-returns
 returns c = lent-both _ _ _ _ _ _ _ _ _ _ _ (c .before .before .before .before .before .before .before .before .before .before .cheaper .ensures) (c .before .before .write-both .ensures)
 
-pub hollchiku-cheaper-spec : {M : Type 1} → statement M
-hollchiku-cheaper-spec =
+pub eliminate-both-spec : {M : Type 1} → statement M
+eliminate-both-spec =
     tie.close
     (tie.spec cheaper-requires write-both-requires same-length same-length-2 same-length-3 returns)

@@ -1,8 +1,8 @@
--- `hollchiku_exact` meets its contract: what is written is what the service answers. Assumes nothing.
-use Rattle.exports.proofs.LentLaws.{lent-answers, lent-demand}
+-- `minimise` meets its contract: what is written is what the service answers. Assumes nothing.
+use Rattle.striking.proofs.StrikeLaws.{lent-answers, lent-demand}
 use borrow.Author.Needs.{needs}
-use Rattle.exports.proofs.hollchiku_exact.Statement.{statement}
-use Rattle.exports.proofs.hollchiku_exact.Tie as tie
+use Rattle.striking.proofs.minimise.Statement.{statement}
+use Rattle.striking.proofs.minimise.Tie as tie
 
 minimal-reduction-requires : tie.Need-minimal-reduction-requires
 minimal-reduction-requires c κs = search needs
@@ -25,8 +25,8 @@ returns c =
     let writes = c .before .before .before .before .write-reduced .ensures in
     (lent-answers _ _ _ _ _ _ _ _ _ _ _ _ (reduced .0 .answers) writes, lent-demand _ _ _ _ _ _ _ _ _ _ (reduced .1) writes)
 
-pub hollchiku-exact-spec : {M : Type 1} → statement M
-hollchiku-exact-spec =
+pub minimise-spec : {M : Type 1} → statement M
+minimise-spec =
     tie.close
     (tie.spec
     minimal-reduction-requires
