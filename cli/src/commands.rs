@@ -97,12 +97,13 @@ fn lodged_page(lodged: &Lodged) -> Result<Vec<u8>, Failure> {
     let Lodged { sheet, job, origin } = lodged;
     let file = Path::new(&origin.file).file_stem().unwrap_or_default();
     let words = library::text_of(&lodged.bytes());
+    let course = course(sheet, &job.list, &answered.kept).map_err(|it| lodged.refused(it))?;
     let text = page(&Contents {
         title: job.title.as_deref().unwrap_or(&file.to_string_lossy()),
         task: &job.task,
         list: &job.list,
         shortened: &answered,
-        course: &course(sheet, &job.task, &job.list, &answered.kept),
+        course: &course,
         claim: &claim(answered.way),
         words: &String::from_utf8_lossy(&words),
         version: &version(),

@@ -3,6 +3,7 @@
 
 use crate::answer::{Claim, Tally};
 use crate::limits::{MOST_MOVES, MOST_VARIABLES, MOST_WORDS, WORD_BYTES};
+use crate::sheet;
 use std::cmp::Ordering;
 
 /// Declares the exports: the slices that one reads, those that it writes to, its numbers, its last
@@ -45,7 +46,7 @@ macro_rules! exports {
 
 exports! {
     hollchiku_check_plan(sheet: u32, list: u32; state: u32; ; out: u64);
-    hollchiku_step(sheet: u32; state: u32; action; out: u64);
+    hollchiku_course(sheet: u32, list: u32; states: u32; ; out: u64);
     hollchiku_marks(sheet: u32, list: u32; mask: u64; ; out: u64);
     hollchiku_eliminate(sheet: u32, list: u32; output: u32, mask: u64; ; out: u64);
     hollchiku_greedy(sheet: u32, list: u32; output: u32, mask: u64; ; out: u64);
@@ -94,26 +95,6 @@ pub enum NoWords {
     TooLong,
 }
 
-/// A state of the site.
-#[derive(Clone)]
-pub struct State([u32; MOST_VARIABLES]);
-
-impl State {
-    /// The state with these first values.
-    pub fn of(values: impl Iterator<Item = u32>) -> State {
-        let mut state = [0; MOST_VARIABLES];
-        state
-            .iter_mut()
-            .zip(values)
-            .for_each(|(slot, value)| *slot = value);
-        State(state)
-    }
-
-    pub fn values(&self, count: usize) -> &[u32] {
-        &self.0[..count]
-    }
-}
-
 pub fn check_list(sheet: &[u32], list: &[u32]) -> Result<Tally, Refusal> {
     let (mut state, mut out) = ([0; MOST_VARIABLES], [0; 4]);
     hollchiku_check_plan(sheet, list, &mut state, &mut out);
@@ -121,11 +102,14 @@ pub fn check_list(sheet: &[u32], list: &[u32]) -> Result<Tally, Refusal> {
     Ok(tally(&out))
 }
 
-/// Does one action in a state.
-pub fn step(sheet: &[u32], state: &mut State, action: u32) -> Result<(), Refusal> {
-    let mut out = [0; 2];
-    hollchiku_step(sheet, &mut state.0, action, &mut out);
-    answered(&out)
+/// The states along a list, each a value for each variable: at the start, and behind each move up to
+/// the first that can't be done.
+pub fn course(sheet: &[u32], list: &[u32]) -> Result<Vec<Vec<u32>>, Refusal> {
+    let (mut states, mut out) = (vec![0; MOST_VARIABLES * (list.len() + 1)], [0; 3]);
+    hollchiku_course(sheet, list, &mut states, &mut out);
+    answered(&out)?;
+    let states = states.chunks_exact(sheet::variables(sheet));
+    Ok(states.take(out[2] as usize).map(<[u32]>::to_vec).collect())
 }
 
 /// Of each move, whether it is marked.

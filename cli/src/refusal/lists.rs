@@ -1,7 +1,6 @@
 //! Causes 8 to 12: what is wrong with a list.
 
 use super::quoted;
-use crate::course::start;
 use crate::failure::Failure;
 use crate::input::{Lodged, Part};
 use crate::library::{self, Refusal};
@@ -85,12 +84,9 @@ impl Lodged {
     /// Which facts do not hold after the first moves, and what holds instead.
     fn lacks(&self, facts: &[Fact], moves: usize) -> String {
         let task = &self.job.task;
-        let mut state = start(task);
-        for &action in &self.job.list[..moves] {
-            // Each of these moves can be done: the library has refused a later place.
-            let _ = library::step(&self.sheet, &mut state, action);
-        }
-        let values = state.values(task.variables.len());
+        // The library has read this list, and each of these moves can be done: it has refused a later place.
+        let states = library::course(&self.sheet, &self.job.list).unwrap_or_default();
+        let values = &states[moves];
         let lacking = facts
             .iter()
             .filter(|it| values[it.variable] as usize != it.value);

@@ -22,6 +22,7 @@ use Rattle.tally.specs.Tally.{comparison}
 use Rattle.reduction.specs.Reduction.{Reduction, count}
 use Rattle.reduction.proofs.ReductionLaws.{kept-length, left-length}
 use Rattle.mask.proofs.MaskTheorem.{front-and-rest}
+use Rattle.course.specs.Course.{course-checks}
 use Rattle.service.specs.Reduced.{room-checks, reduction-checks, output-left}
 use Rattle.elimination.specs.declared.single.Elimination.the-variants.{Plain, Greedy}
 use Rattle.elimination.specs.Eliminations.{elimination-of, greedy-elimination-of, left-by, cheaper-part}
@@ -32,7 +33,7 @@ use Rattle.translation.specs.declared.translate.Translated.{Translated}
 use Rattle.translation.specs.declared.translate.Translated.the-variants.{Refused, Written}
 use Rattle.translation.specs.Translation.{text-task, task-checks, translation-checks, told-translated, Leaves}
 use Rattle.demands.specs.One.{Output-lent, Demand-one}
-use Rattle.demands.specs.One.{sheet-numbers, step-numbers, list-numbers, greedy-numbers, exact-numbers, text-numbers}
+use Rattle.demands.specs.One.{sheet-numbers, step-numbers, read-numbers, list-numbers, greedy-numbers, exact-numbers, text-numbers}
 use Rattle.demands.proofs.FireLaws.{refuses-just}
 use Rattle.demands.proofs.FitLaws.{Flags-each, elimination-flags, minimal-flags, licensed-flags}
 
@@ -50,6 +51,10 @@ step-numbered w s a = refl
 list-numbered : (w l : List ℕ) → map number-of (plan-checks w l) ≡ list-numbers
 unfolding lodged-checks read-checks sheet-checks list-checks valid-checks
 list-numbered w l = refl
+
+read-numbered : (w l : List ℕ) → map number-of (course-checks w l) ≡ read-numbers
+unfolding read-checks sheet-checks list-checks
+read-numbered w l = refl
 
 greedy-numbered : (w l : List ℕ) (room : ℕ) → map number-of (reduction-checks w l room) ≡ greedy-numbers
 unfolding lodged-checks read-checks sheet-checks list-checks valid-checks room-checks
@@ -104,6 +109,10 @@ demand-one =
         step-theorem w before a verdict after steps,
       );
       list-check = λ w l given state checks. refuses-just _ _ _ (list-numbered w l) (checks .refusal);
+      course = λ w l verdict count before after courses. (
+        refuses-just _ _ _ (read-numbered w l) (courses .refusal),
+        λ t h. rw (← courses .refusal, h) at (courses .states),
+      );
       marks = λ w l verdict mask masks. refuses-just _ _ _ (list-numbered w l) (masks .refusal);
       elimination = λ by w l before given mask after reduces. (
         refuses-just _ _ _ (greedy-numbered w l (length before)) (reduces .refusal),

@@ -1,8 +1,8 @@
 -- Demand 2 holds of all services: each contract gives what is told by a definition, and the theorems of `plan`, `landmark`, `reduction`, `elimination`, `mask`
 -- and `tally` say that the definition is the rule. Nothing here is about the code: its contracts cite the same definitions. Assumes nothing.
-use Prim.Native.Nat.{ℕ, _≤_}
+use Prim.Native.Nat.{ℕ, _+_, _≤_}
 use native.Mathlib.Omega.{arith}
-use mathlib.Core.Path.{_≡_, refl, sym, _∙_}
+use mathlib.Core.Path.{_≡_, refl, sym, _∙_, ap}
 use mathlib.Core.Bool.{Bool, true, false}
 use mathlib.Core.Option.{Option, none, some, Option·some-ne-none}
 use mathlib.Core.List.{List}
@@ -22,13 +22,15 @@ use Rattle.mask.proofs.MaskTheorem.{up-is-flag, ones-are-kept}
 use Rattle.tally.specs.declared.Tally.{Tally}
 use Rattle.tally.specs.Tally.{nothing}
 use Rattle.tally.proofs.TallyLaws.{full-of-steps, full-of-cost, counted}
-use Rattle.sheet.specs.Decode.{initial, goal, action}
+use Rattle.sheet.specs.Decode.{initial, goal, action, task}
 use Rattle.plan.specs.declared.check.Answer.{Answer}
 use Rattle.plan.specs.Valid.{steps}
 use Rattle.plan.specs.between.Fault.{final}
 use Rattle.plan.specs.Checked.{plan-checks, told-answer, told-tally, lodged-tally, Checks}
 use Rattle.plan.proofs.PlanLaws.{passed-readable}
 use Rattle.plan.proofs.PlanTheorem.{plan-theorem, passes-exactly}
+use Rattle.course.specs.Course.{course, Courses}
+use Rattle.course.proofs.CourseTheorem.{whole-course, stuck-course, course-reached}
 use Rattle.service.specs.Reduced.{reduction-checks, tally-left, Answers}
 use Rattle.service.proofs.LodgedLaws.{lodged-valid}
 use Rattle.landmark.specs.Marks.{marks, marked, Masks}
@@ -40,7 +42,7 @@ use Rattle.elimination.proofs.CheaperTheorem.{greedy-shown, elimination-shown, 
 use Rattle.minimal.specs.declared.within.Shortened.{Shortened}
 use Rattle.minimal.specs.Minimised.{minimal-of}
 use Rattle.claim.specs.Licensed.{licensed-of}
-use Rattle.demands.specs.Two.{Checked-truly, Marks-truly, Marked-number, Rule-leaves, Tally-truly, Cheaper, Shown-truly}
+use Rattle.demands.specs.Two.{Checked-truly, Course-truly, Marks-truly, Marked-number, Rule-leaves, Tally-truly, Cheaper, Shown-truly}
 use Rattle.demands.specs.Two.{Mask-truly, Shortened-truly, Demand-two}
 use Rattle.demands.proofs.OrderLaws.{compared-truly}
 use Rattle.demands.proofs.FitLaws.{Flags-each, elimination-flags, minimal-flags, licensed-flags}
@@ -161,10 +163,28 @@ module _ (w l : List ℕ) where
         no-marks = λ t h. rw (sym (answers .refusal) ∙ h) at marks;
       }
 
+-- the states along a list
+course-truly : (w l : List ℕ) (verdict : Verdict) (count : ℕ) (before after : List ℕ) → Courses w l verdict count before after → Course-truly w l (told verdict) count before after
+unfolding task
+course-truly w l verdict count before after courses =
+    let s = initial w in
+    let p = steps w l in
+    let all : told verdict ≡ none → count ≡ length (course w l) = λ h. rw (← courses .refusal, h) at (courses .counted) in
+    record {
+      states = course w l;
+      number = all;
+      reached = λ h i low. course-reached s p i (omega (arith, all h));
+      written = λ h. rw (← courses .refusal, h) at (courses .states);
+      of-plan = λ h plan. all h ∙ whole-course s p (plan .reached) ∙ ap (λ n. n + 1) (length-map l (action w));
+      of-stuck = λ h k stuck. all h ∙ stuck-course s p k stuck;
+      zero = λ t h. rw (← courses .refusal, h) at (courses .counted);
+    }
+
 pub demand-two : Demand-two
 demand-two =
     record {
       list-check = checked-truly;
+      course = course-truly;
       marks = marks-truly;
       elimination = λ by w l before given mask after reduces. (
         λ h. left-truly w l (length before) (sym (reduces .refusal) ∙ h) by,

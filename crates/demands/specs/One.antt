@@ -18,6 +18,7 @@ use Rattle.sheet.specs.Causes.{sheet-checks}
 use Rattle.step.specs.Step.{step-checks, Steps, After}
 use Rattle.plan.specs.declared.check.Answer.{Answer}
 use Rattle.plan.specs.Checked.{plan-checks, told-answer, Checks}
+use Rattle.course.specs.Course.{course-checks, Courses}
 use Rattle.service.specs.Reduced.{reduction-checks, Reduces}
 use Rattle.landmark.specs.Marks.{Masks}
 use Rattle.elimination.specs.declared.single.Elimination.{Elimination}
@@ -59,6 +60,10 @@ sheet-numbers = 1 ∷ 2 ∷ 3 ∷ 4 ∷ 5 ∷ 6 ∷ 7 ∷ []
 abbrev pub step-numbers : List ℕ
 step-numbers = sheet-numbers ++ (9 ∷ 11 ∷ [])
 
+-- the states along a list have the checks of what is read alone
+abbrev pub read-numbers : List ℕ
+read-numbers = sheet-numbers ++ (8 ∷ 9 ∷ [])
+
 abbrev pub list-numbers : List ℕ
 list-numbers = sheet-numbers ++ (8 ∷ 9 ∷ 11 ∷ [])
 
@@ -81,7 +86,7 @@ pub record Output-lent (refusal : Option Told) (l : List ℕ) (m : Reduction) (b
   pub room : refusal ≡ none → count m ≤ length before
 
 -- What is lent to be read no service can change, since the language lends it so; lent to be written are the state of
--- one step, the outputs of the services that strike, and that of the sheet of a text.
+-- one step, the states along a list, the outputs of the services that strike, and that of the sheet of a text.
 pub record Demand-one : Type 0 where
   -- the check of a sheet
   pub sheet-check : (w : List ℕ) (verdict : Verdict) → told verdict ≡ answer (sheet-checks w)
@@ -93,6 +98,11 @@ pub record Demand-one : Type 0 where
   -- the check of a list
   pub list-check : (w l : List ℕ) (given : Answer) (state : List ℕ) → Checks (plan-checks w l) w l given state
       → Refuses-just list-numbers (plan-checks w l) (told-answer given)
+  -- the states along it: a refusal leaves the lent states; what an answer writes is `Courses`
+  pub course : (w l : List ℕ) (verdict : Verdict) (count : ℕ) (before after : List ℕ)
+      → Courses w l verdict count before after
+      → Refuses-just read-numbers (course-checks w l) (told verdict)
+      × ((t : Told) → told verdict ≡ some t → after ≡ before)
   -- its marks
   pub marks : (w l : List ℕ) (verdict : Verdict) (mask : List ℕ) → Masks w l verdict mask
       → Refuses-just list-numbers (plan-checks w l) (told verdict)

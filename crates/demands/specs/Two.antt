@@ -7,12 +7,13 @@ use mathlib.Core.Path.{_≡_}
 use mathlib.Core.Logic.{_⊎_, _↔_}
 use mathlib.Core.Bool.{true}
 use mathlib.Core.Option.{Option, none, some}
-use mathlib.Core.List.{List, [], _++_}
-use lib.ListN.{length, replicate}
+use mathlib.Core.List.{List, [], _++_, flatten}
+use lib.ListN.{length, getD, take, replicate}
+use lib.Seq.{sets}
 use Rattle.refusal.specs.declared.Verdict.{Verdict}
 use Rattle.refusal.specs.Refusal.{Told, told}
 use Rattle.sas.specs.Task.{State}
-use Rattle.sas.specs.Plan.{run, cost, Plan}
+use Rattle.sas.specs.Plan.{run, cost, Plan, Stuck}
 use Rattle.reduction.specs.Reduction.{Reduction, keeps, kept, count, whole}
 use Rattle.reduction.specs.Trials.{Elimination-leaves, Greedy-leaves}
 use Rattle.mask.specs.Mask.{mask-length, ones-of, bit-up}
@@ -28,6 +29,7 @@ use Rattle.plan.specs.Readable.{Readable}
 use Rattle.plan.specs.Valid.{steps}
 use Rattle.plan.specs.Checked.{plan-checks, told-answer, told-tally, no-state, Checks}
 use Rattle.plan.specs.Valid.{Fails-at}
+use Rattle.course.specs.Course.{Courses}
 use Rattle.service.specs.Reduced.{Reduces}
 use Rattle.landmark.specs.Marks.{Masks}
 use Rattle.elimination.specs.declared.single.Elimination.{Elimination}
@@ -68,6 +70,18 @@ module _ (w l : List ℕ) where
     pub end : told-answer given ≡ none → (reached : State) × (run (initial w) (steps w l) ≡ some reached)
         × (state ≡ reached ++ replicate (limits .variables - variables w) 0)
     pub zeros : (t : Told) → told-answer given ≡ some t → state ≡ no-state
+
+  -- the states along the list: those written are γ(I, ⟨a₁, …, aᵢ⟩) for i from 0 on, one behind the other; of a plan
+  -- they are one more than its steps, and otherwise they end before the first step that can't be done; in a refusal
+  -- there is none
+  pub record Course-truly (refusal : Option Told) (count : ℕ) (before after : List ℕ) : Type 0 where
+    pub states : List State
+    pub number : refusal ≡ none → count ≡ length states
+    pub reached : refusal ≡ none → (i : ℕ) → i < count → run (initial w) (take i (steps w l)) ≡ some (getD states i [])
+    pub written : refusal ≡ none → after ≡ sets before 0 (flatten states)
+    pub of-plan : refusal ≡ none → Plan (task w) (steps w l) → count ≡ length l + 1
+    pub of-stuck : refusal ≡ none → (k : ℕ) → Stuck (initial w) (steps w l) k → count ≡ k
+    pub zero : (t : Told) → refusal ≡ some t → count ≡ 0
 
   -- the marks of the list: bit i of the mask is one exactly where step i + 1 is marked; in a refusal it is zero
   pub record Marks-truly (refusal : Option Told) (mask : List ℕ) : Type 0 where
@@ -136,6 +150,9 @@ pub record Demand-two : Type 0 where
   -- the check of a list
   pub list-check : (w l : List ℕ) (given : Answer) (state : List ℕ) → Checks (plan-checks w l) w l given state
       → Checked-truly w l given state
+  -- the states along it
+  pub course : (w l : List ℕ) (verdict : Verdict) (count : ℕ) (before after : List ℕ)
+      → Courses w l verdict count before after → Course-truly w l (told verdict) count before after
   -- its marks
   pub marks : (w l : List ℕ) (verdict : Verdict) (mask : List ℕ) → Masks w l verdict mask
       → Marks-truly w l (told verdict) mask

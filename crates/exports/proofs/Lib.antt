@@ -1,4 +1,2 @@
--- LentLaws: runs of stores, by the cases of a loop over what they store.
+-- LentLaws: what a service that strikes nothing has stored into lent words.
 pub mod LentLaws
--- LentFormLaws: what is found in the forms that programs read, written to lent words.
-pub mod LentFormLaws

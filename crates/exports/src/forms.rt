@@ -1,27 +1,16 @@
 // The forms that programs read and print, over lent words and bytes.
-use crate::lent::write_pair;
-use access::front;
-use access::put_all;
-use program::framing::WORDS;
-use program::opened::Opened;
-use program::opened::open_input;
+use layout::shown::show;
 use program::pack::pack;
-use program::parts::plan_part;
 use report::licensed::put_licensed;
 use report::shortened::put_shortened;
-use text::limits::MOST;
-use text::reader::Ending;
-use text::reader::read_whole;
-use text::shown::show;
+use words::open_record;
+use words::read_text;
 ghost use Rattle.lines.specs.Prints.{Prints};
 ghost use Rattle.program.specs.Bytes.{all-bytes};
-ghost use Rattle.text.specs.Shown.{shown};
+ghost use Rattle.layout.specs.Shown.{shown};
 ghost use Rattle.report.specs.Licensed.{licensed};
 ghost use Rattle.report.specs.Shortened.{shortened};
-ghost use Rattle.exports.specs.Forms.{Reads-lent, Opens-lent};
-
-// Where the lengths of a sheet and of its list stand, after the refusal's number and place.
-const LENGTHS_AT: usize = 2;
+ghost use Rattle.words.specs.Found.{Reads-lent, Opens-lent};
 
 // Packs words: their bytes, the lowest of each first, go to the front of `bytes`; how many were written is returned.
 #[no_mangle]
@@ -39,18 +28,7 @@ pub extern "C" fn hollchiku_read_words(text: &[u8], words: &mut [u32], out: &mut
     ensures { λ _. ⌜ Reads-lent (now (text .entry)) (now (words .entry)) (now (words .exit))
         (now (out .entry)) (now (out .exit)) ⌝ }
 {
-    let mut found = [0u32; MOST];
-    let ending = read_whole(text, &mut found);
-    match ending {
-        Ending::Words(n) => {
-            let read = front(&found, n);
-            put_all(words, read);
-            write_pair(out, 0, 0, read.len() as u64);
-        }
-        Ending::NoWord(line) => write_pair(out, 0, 1, line),
-        Ending::NoRoom(line) => write_pair(out, 0, 2, line),
-        Ending::Long => write_pair(out, 0, 3, 0),
-    }
+    read_text(text, words, out);
 }
 
 // Opens an input, a sheet with its list in the form that the programs read: the sheet, the length of its list and the
@@ -61,21 +39,7 @@ pub extern "C" fn hollchiku_open(bytes: &[u8], words: &mut [u32], out: &mut [u64
     ensures { λ _. ⌜ Opens-lent (now (bytes .entry)) (now (words .entry)) (now (words .exit))
         (now (out .entry)) (now (out .exit)) ⌝ }
 {
-    let mut found = [0u32; WORDS];
-    let opened = open_input(bytes, 0, &mut found);
-    match opened {
-        Opened::Refused(refusal) => {
-            write_pair(out, 0, refusal.number() as u64, refusal.place() as u64);
-            write_pair(out, LENGTHS_AT, 0, 0);
-        }
-        Opened::Lodged { task, plan } => {
-            let sheet = front(&found, task).len();
-            let list = plan_part(&found, task, plan).len();
-            put_all(words, front(&found, sheet + 1 + list));
-            write_pair(out, 0, 0, 0);
-            write_pair(out, LENGTHS_AT, sheet as u64, list as u64);
-        }
-    }
+    open_record(bytes, words, out);
 }
 
 // Shows bytes: the text of the words that they are, in sections where these are a sheet with its list, goes to the

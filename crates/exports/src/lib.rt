@@ -1,37 +1,35 @@
 // The services as a static library, for programs in other languages: C's names, slices and numbers alone. A slice is
 // passed as its pointer and then its length. Slices that are lent to be written overlap no other slice of the same
 // call: nothing checks that. What does not fit into a lent slice is dropped. Lent outputs, which a refusal leaves
-// untouched: `state` of `hollchiku_step`, `output`, `first` and `second`, `words` of `hollchiku_read_words` and
+// untouched: `state` of `hollchiku_step`, `states`, `output`, `first` and `second`, `words` of `hollchiku_read_words` and
 // `hollchiku_open`, and `text` of `hollchiku_text_of`. Return channels, which every call writes, on a refusal with
 // document 01's zeros: `out`, `mask`, `part`, and `state` of `hollchiku_check_plan`. So are `bytes`, which no call
 // refuses, and `text` of `hollchiku_license_lines` and `hollchiku_shorten_lines`, where a refusal has its line. A slice
-// that is lent to be read is only read. lent: how answers and states go into lent words, and how a state is read from
-// them. forms: the forms that programs read and print.
+// that is lent to be read is only read. forms: the forms that programs read and print.
 mod forms;
-mod lent;
 
-use crate::lent::read_state;
-use crate::lent::write_answer;
-use crate::lent::write_both;
-use crate::lent::write_claim;
-use crate::lent::write_pair;
-use crate::lent::write_reduced;
-use crate::lent::write_translated;
-use crate::lent::write_verdict;
-use crate::lent::write_wide;
 use access::put_all;
-use claim::license::license;
-use elimination::both::cheaper;
+use course::plan_course;
 use elimination::both::kept_part;
 use elimination::single::Elimination;
-use elimination::single::eliminate_plan;
 use landmark::marks::marks_mask;
-use minimal::reduce::minimal_reduction;
+use lent::read_state;
+use lent::write_answer;
+use lent::write_counted;
+use lent::write_pair;
+use lent::write_verdict;
+use lent::write_wide;
 use plan::check::check_plan;
+use refusal::Verdict;
 use sheet::check::check_sheet;
 use step::one::step;
+use striking::eliminate;
+use striking::eliminate_both;
+use striking::license_plan;
+use striking::minimise;
 use tally::Order;
 use tally::Tally;
+use translation::translate::Translated;
 use translation::translate::translate;
 ghost use mathlib.Core.Path.{_≡_};
 ghost use lib.ListN.{length};
@@ -41,10 +39,10 @@ ghost use Rattle.tally.specs.Tally.{one-more, comparison};
 ghost use Rattle.sheet.specs.Causes.{sheet-checks};
 ghost use Rattle.elimination.specs.declared.single.Elimination.the-variants.{Plain, Greedy};
 ghost use Rattle.elimination.specs.Eliminations.{cheaper-part};
-ghost use Rattle.exports.specs.Words.{answer-words, lent-tally, tally-words, order-number};
-ghost use Rattle.exports.specs.Words.{Steps-lent, Checks-lent, Marks-lent, Eliminates-lent, Minimises-lent};
-ghost use Rattle.exports.specs.Words.{Licenses-lent, Reduces-both-lent, Translates-lent};
-ghost use Rattle.exports.specs.Statement.{Demand-three-lent, May-be-lodged-lent};
+ghost use Rattle.lent.specs.Words.{answer-words, lent-tally, tally-words, order-number};
+ghost use Rattle.exports.specs.Services.{Steps-lent, Checks-lent, Courses-lent, Marks-lent, Translates-lent};
+ghost use Rattle.striking.specs.Strikes.{Eliminates-lent, Minimises-lent, Licenses-lent, Reduces-both-lent};
+ghost use Rattle.striking.specs.Statement.{Demand-three-lent, May-be-lodged-lent};
 
 // Checks a task: the number and the place of its refusal go to `out`, or 0 and 0.
 #[no_mangle]
@@ -125,6 +123,20 @@ pub extern "C" fn hollchiku_check_plan(
     write_answer(out, given);
 }
 
+// The states along a plan go to the front of `states`, one behind the other, each a value for each variable: the starting
+// values, and the state after each step, up to the first that can't be done. The number and the place of a refusal of
+// what is read, or 0 and 0, then how many states these are go to `out`.
+#[no_mangle]
+pub extern "C" fn hollchiku_course(words: &[u32], plan: &[u32], states: &mut [u32], out: &mut [u64])
+    ensures { λ _. ⌜ Courses-lent (now (words .entry)) (now (plan .entry))
+        (now (states .entry)) (now (states .exit)) (now (out .entry)) (now (out .exit)) ⌝ }
+{
+    let reached = plan_course(words, plan, states);
+    let verdict = reached.verdict;
+    let count = reached.count;
+    write_counted(out, verdict, count);
+}
+
 // Marks the landmarks of a plan: the four words of their mask go to the lent mask, the number and the place of a
 // refusal, or 0 and 0, to `out`.
 #[no_mangle]
@@ -154,9 +166,7 @@ pub extern "C" fn hollchiku_eliminate(
         (now (output .entry)) (now (output .exit)) (now (mask .entry)) (now (mask .exit))
         (now (out .entry)) (now (out .exit)) ⌝ }
 {
-    let reduced = eliminate_plan(words, plan, output, Elimination::Plain);
-    let given = reduced.answer;
-    write_reduced(mask, out, reduced.mask, given);
+    eliminate(words, plan, output, mask, out, Elimination::Plain);
 }
 
 // Greedy elimination, in the same form.
@@ -172,9 +182,7 @@ pub extern "C" fn hollchiku_greedy(
         (now (output .entry)) (now (output .exit)) (now (mask .entry)) (now (mask .exit))
         (now (out .entry)) (now (out .exit)) ⌝ }
 {
-    let reduced = eliminate_plan(words, plan, output, Elimination::Greedy);
-    let given = reduced.answer;
-    write_reduced(mask, out, reduced.mask, given);
+    eliminate(words, plan, output, mask, out, Elimination::Greedy);
 }
 
 // The minimal reduction, in the same form.
@@ -193,9 +201,7 @@ pub extern "C" fn hollchiku_exact(
         (now (output .entry)) (now (output .exit)) (now (mask .entry)) (now (mask .exit))
         (now (out .entry)) (now (out .exit)) ⌝ }
 {
-    let reduced = minimal_reduction(words, plan, output);
-    let given = reduced.answer;
-    write_reduced(mask, out, reduced.mask, given);
+    minimise(words, plan, output, mask, out);
 }
 
 // The licence of a plan, in the same form. Behind the tally goes the claim: 0 and how many steps are unmarked where it
@@ -215,12 +221,7 @@ pub extern "C" fn hollchiku_license(
         (now (output .entry)) (now (output .exit)) (now (mask .entry)) (now (mask .exit))
         (now (out .entry)) (now (out .exit)) ⌝ }
 {
-    let licensed = license(words, plan, output);
-    let claim = licensed.claim;
-    let told = licensed.told;
-    let given = told.answer;
-    write_reduced(mask, out, told.mask, given);
-    write_claim(out, claim);
+    license_plan(words, plan, output, mask, out);
 }
 
 // Both eliminations: the list that each leaves goes to the front of its output, elimination's to `first`; the number
@@ -236,11 +237,7 @@ pub extern "C" fn hollchiku_cheaper(
     ensures { λ _. ⌜ Reduces-both-lent (now (words .entry)) (now (plan .entry)) (now (first .entry)) (now (first .exit))
         (now (second .entry)) (now (second .exit)) (now (out .entry)) (now (out .exit)) ⌝ }
 {
-    let both = cheaper(words, plan, first, second);
-    let verdict = both.verdict;
-    let of_first = both.first;
-    let of_second = both.second;
-    write_both(out, verdict, of_first, of_second);
+    eliminate_both(words, plan, first, second, out);
 }
 
 // The kept part of the cheaper of two lists goes to the front of `part`; its length is returned.
@@ -280,5 +277,8 @@ pub extern "C" fn hollchiku_translate(text: &[u8], output: &mut [u32], out: &mut
         (now (out .entry)) (now (out .exit)) ⌝ }
 {
     let given = translate(text, output);
-    write_translated(out, given);
+    match given {
+        Translated::Refused(refusal) => write_counted(out, Verdict::Refused(refusal), 0),
+        Translated::Written(words) => write_counted(out, Verdict::Passed, words),
+    }
 }

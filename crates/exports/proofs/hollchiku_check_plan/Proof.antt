@@ -1,5 +1,5 @@
 -- `hollchiku_check_plan` meets its contract: what is written is what the check of the plan answers. Assumes nothing.
-use mathlib.Core.Path.{_∙_}
+use Rattle.exports.proofs.LentLaws.{lent-checks}
 use borrow.Author.Needs.{needs}
 use Rattle.exports.proofs.hollchiku_check_plan.Statement.{statement}
 use Rattle.exports.proofs.hollchiku_check_plan.Tie as tie
@@ -23,10 +23,7 @@ same-length-2 : tie.Need-same-length-2
 same-length-2 c = search needs
 
 returns : tie.Need-returns
-returns c =
-    let checks = c .before .before .before .before .before .before .before .before .before .before .before .check-plan .ensures in let written = c .before
-    .before .before .before .before .before .put-all .ensures in
-    record { end = written ∙ rw (checks .end); answered = c .before .before .write-answer .ensures ∙ rw (checks .refusal, checks .tally) }
+returns c = lent-checks _ _ _ _ _ _ _ _ (c .before .before .before .before .before .before .before .before .before .before .before .check-plan .ensures) (c .before .before .before .before .before .before .put-all .ensures) (c .before .before .write-answer .ensures)
 
 pub hollchiku-check-plan-spec : {M : Type 1} → statement M
 hollchiku-check-plan-spec =

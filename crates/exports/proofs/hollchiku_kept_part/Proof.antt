@@ -1,4 +1,5 @@
 -- `hollchiku_kept_part` meets its contract: the part that is shown is copied. Assumes nothing.
+use mathlib.Core.Path.{_∙_}
 use borrow.Author.Needs.{needs}
 use Rattle.exports.proofs.hollchiku_kept_part.Statement.{statement}
 use Rattle.exports.proofs.hollchiku_kept_part.Tie as tie
@@ -13,7 +14,7 @@ same-length : tie.Need-same-length
 same-length c = search needs
 
 returns : tie.Need-returns
-returns c = (cc, cc)
+returns c = (c .before .before .put-all .ensures ∙ rw (c .before .before .before .before .kept-part .ensures), rw (c .before .before .before .before .kept-part .ensures))
 
 pub hollchiku-kept-part-spec : {M : Type 1} → statement M
 hollchiku-kept-part-spec =

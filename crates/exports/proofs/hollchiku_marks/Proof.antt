@@ -1,4 +1,5 @@
 -- `hollchiku_marks` meets its contract: what is written is what the service answers. Assumes nothing.
+use Rattle.exports.proofs.LentLaws.{lent-marks}
 use borrow.Author.Needs.{needs}
 use Rattle.exports.proofs.hollchiku_marks.Statement.{statement}
 use Rattle.exports.proofs.hollchiku_marks.Tie as tie
@@ -22,7 +23,7 @@ same-length-2 : tie.Need-same-length-2
 same-length-2 c = search needs
 
 returns : tie.Need-returns
-returns c = record { told-by = cc; answered = cc }
+returns c = lent-marks _ _ _ _ _ _ _ _ (c .before .before .before .before .before .before .before .before .before .before .before .marks-mask .ensures) (c .before .before .before .before .before .before .write-wide .ensures) (c .before .before .write-verdict .ensures)
 
 pub hollchiku-marks-spec : {M : Type 1} → statement M
 hollchiku-marks-spec =

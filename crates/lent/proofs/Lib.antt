@@ -1,0 +1,2 @@
+-- StoredLaws: runs of stores into lent words, one behind the other.
+pub mod StoredLaws

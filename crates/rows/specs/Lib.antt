@@ -1,0 +1,2 @@
+-- Rows: words in lines.
+pub mod Rows

@@ -1,0 +1,2 @@
+-- StrikeLaws: what a service that strikes has stored into lent words.
+pub mod StrikeLaws

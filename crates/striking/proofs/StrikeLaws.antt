@@ -1,0 +1,106 @@
+-- What a service that strikes has stored into lent words. Assumes nothing.
+use Prim.Native.Nat.{ℕ}
+use mathlib.Core.Path.{_≡_, refl, _∙_}
+use mathlib.Core.Option.{Option, none, some}
+use mathlib.Core.List.{List, _++_}
+use lib.Seq.{sets}
+use Rattle.refusal.specs.declared.Verdict.{Verdict}
+use Rattle.refusal.specs.Refusal.{Told, told}
+use Rattle.refusal.specs.Check.{Check, answer}
+use Rattle.reduction.specs.Reduction.{Reduction}
+use Rattle.tally.specs.declared.Tally.{Tally}
+use Rattle.plan.specs.declared.check.Answer.{Answer}
+use Rattle.plan.specs.Checked.{told-answer, told-tally}
+use Rattle.service.specs.Reduced.{Answers}
+use Rattle.elimination.specs.Eliminations.{Reduces-both}
+use Rattle.minimal.specs.Minimised.{most-unmarked}
+use Rattle.minimal.specs.Statement.{Answered, Refused-unmarked, Demand-three-of, Demand-three}
+use Rattle.claim.specs.declared.answer.Claim.{Claim}
+use Rattle.claim.specs.declared.answer.Claim.the-variants.{Least, Irreducible, Open}
+use Rattle.claim.specs.declared.answer.Licensed.{Licensed}
+use Rattle.claim.specs.Licensed.{Licenses}
+use Rattle.claim.specs.Statement.{Licensed-with, May-be-lodged}
+use Rattle.lent.specs.Words.{answer-words, tally-words, Writes-reduced}
+use Rattle.striking.specs.Strikes.{Answers-lent, Reduces-both-lent, claim-words, Licenses-lent}
+use Rattle.striking.specs.Statement.{Demand-three-lent, May-be-lodged-lent}
+
+-- both eliminations, written to lent words
+pub lent-both : (w l first first′ second second′ out out′ : List ℕ) (verdict : Verdict) (a b : Tally) → Reduces-both w l first second verdict a b first′ second′
+    → out′ ≡ sets out 0 (answer-words (told verdict) ++ (tally-words a ++ tally-words b)) → Reduces-both-lent w l first first′ second second′ out out′
+lent-both w l first first′ second second′ out out′ verdict a b both answered =
+    record {
+      first-left = both .first-output ∙ rw (both .refusal);
+      second-left = both .second-output ∙ rw (both .refusal);
+      answered = answered ∙ rw (both .first-tally, both .second-tally, both .refusal);
+    }
+
+-- an answer with its tally, and a claim behind it
+claim-written : (l : List ℕ) (t : Option Told) (a : Tally) (c : Claim) → sets (sets l 0 (answer-words t ++ tally-words a)) 4 (claim-words c) ≡ sets l 0 (answer-words t ++ (tally-words a ++ claim-words c))
+claim-written l none a (Open n) = refl
+claim-written l none a Irreducible = refl
+claim-written l none a Least = refl
+claim-written l (some t) a (Open n) = refl
+claim-written l (some t) a Irreducible = refl
+claim-written l (some t) a Least = refl
+
+-- what a service that strikes answers, written to lent words
+pub lent-answers : (checks : List Check) (w l : List ℕ) (m : Reduction) (output output′ mask mask′ out out′ words : List ℕ) (given : Answer)
+    → Answers checks w l m output given words output′ → Writes-reduced words given mask mask′ out out′ → Answers-lent (answer checks) w l m output output′ mask mask′ out out′
+lent-answers checks w l m output output′ mask mask′ out out′ words given answers writes =
+    record {
+      list-left = answers .output;
+      told-by = writes .told-by ∙ rw (answers .told-by);
+      answered = writes .answered ∙ rw (answers .refusal, answers .tally);
+    }
+
+-- and demand 3 of it
+pub lent-demand : (w l output output′ mask mask′ out out′ words : List ℕ) (given : Answer) → Demand-three most-unmarked w l output given words output′
+    → Writes-reduced words given mask mask′ out out′ → Demand-three-lent w l output output′ mask mask′ out out′
+lent-demand w l output output′ mask mask′ out out′ words given demand writes readable plan roomy =
+    let of-list : Demand-three-of w l most-unmarked output given words output′ = demand readable plan roomy in
+    record {
+      marked-kept = of-list .marked-kept;
+      answered = λ few.
+          let answered : Answered w l output given words output′ = of-list .answered few in
+          record {
+            left = answered .left;
+            minimal = answered .minimal;
+            plan-left = answered .plan-left;
+            list-left = answered .output;
+            told-by = writes .told-by ∙ rw (answered .told-by);
+            answered = writes .answered ∙ rw (answered .answers, answered .tally);
+          };
+      refused = λ many.
+          let refused : Refused-unmarked w l output given words output′ = of-list .refused many in
+          record {
+            list-left = refused .output;
+            told-by = writes .told-by ∙ rw (refused .told-by);
+            answered = writes .answered ∙ rw (refused .refuses, refused .tally);
+          };
+    }
+
+-- the licence of a list, written to lent words
+module _ (w l output output′ mask mask′ out between out′ : List ℕ) (r : Licensed) (writes : Writes-reduced (r .told .mask .words) (r .told .answer) mask mask′ out between)
+    (claimed : out′ ≡ sets between 4 (claim-words (r .claim))) where
+  all-written : out′ ≡ sets out 0 (answer-words (told-answer (r .told .answer)) ++ (tally-words (told-tally (r .told .answer)) ++ claim-words (r .claim)))
+  all-written = claimed ∙ rw (writes .answered) (claim-written out (told-answer (r .told .answer)) (told-tally (r .told .answer)) (r .claim))
+
+  pub lent-licenses : Licenses w l output r output′ → Licenses-lent w l output output′ mask mask′ out out′
+  lent-licenses licenses =
+      record {
+        list-left = licenses .answers .output;
+        told-by = writes .told-by ∙ rw (licenses .answers .told-by);
+        answered = all-written ∙ rw (licenses .answers .refusal, licenses .answers .tally, licenses .claims);
+      }
+
+  pub lent-licence : May-be-lodged w l output r output′ → May-be-lodged-lent w l output output′ mask mask′ out out′
+  lent-licence may readable plan roomy =
+      let licensed : Licensed-with w l output r output′ = may readable plan roomy in
+      record {
+        left = licensed .left;
+        claim = r .claim;
+        licence = licensed .licence;
+        list-left = licensed .output;
+        told-by = writes .told-by ∙ rw (licensed .told-by);
+        answered = all-written ∙ rw (licensed .answers, licensed .tally);
+      }

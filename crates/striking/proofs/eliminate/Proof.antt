@@ -1,0 +1,36 @@
+-- `eliminate` meets its contract: what is written is what the service answers. Assumes nothing.
+use Rattle.striking.proofs.StrikeLaws.{lent-answers}
+use borrow.Author.Needs.{needs}
+use Rattle.striking.proofs.eliminate.Statement.{statement}
+use Rattle.striking.proofs.eliminate.Tie as tie
+
+eliminate-plan-requires : tie.Need-eliminate-plan-requires
+eliminate-plan-requires c κs = search needs
+
+write-reduced-requires : tie.Need-write-reduced-requires
+write-reduced-requires c κs = search needs
+
+same-length : tie.Need-same-length
+same-length c = search needs
+
+same-length-2 : tie.Need-same-length-2
+same-length-2 c = search needs
+
+same-length-3 : tie.Need-same-length-3
+same-length-3 c = search needs
+
+returns : tie.Need-returns
+returns c =
+    lent-answers _ _ _ _ _ _ _ _ _ _ _ _ (c .before .before .before .before .before .before .before .before .before .eliminate-plan .ensures)
+    (c .before .before .before .before .write-reduced .ensures)
+
+pub eliminate-spec : {M : Type 1} → statement M
+eliminate-spec =
+    tie.close
+    (tie.spec
+    eliminate-plan-requires
+    write-reduced-requires
+    same-length
+    same-length-2
+    same-length-3
+    returns)

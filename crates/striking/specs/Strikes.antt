@@ -1,0 +1,69 @@
+-- What each service that strikes writes over lent words. Assumes nothing.
+use Prim.Native.Nat.{ℕ, min}
+use mathlib.Core.Path.{_≡_}
+use mathlib.Core.Option.{Option}
+use mathlib.Core.List.{List, [], _∷_, _++_}
+use lib.ListN.{length, replicate}
+use lib.Seq.{sets}
+use Rattle.refusal.specs.Refusal.{Told}
+use Rattle.refusal.specs.Check.{answer, unless-refused}
+use Rattle.tally.specs.Tally.{nothing}
+use Rattle.reduction.specs.Reduction.{Reduction}
+use Rattle.mask.specs.Mask.{mask-length, mask-words}
+use Rattle.service.specs.Reduced.{reduction-checks, tally-left, output-left}
+use Rattle.elimination.specs.declared.single.Elimination.{Elimination}
+use Rattle.elimination.specs.Eliminations.{elimination-of, greedy-elimination-of, left-by}
+use Rattle.minimal.specs.Minimised.{most-unmarked, minimal-checks, minimal-of}
+use Rattle.claim.specs.declared.answer.Claim.{Claim}
+use Rattle.claim.specs.declared.answer.Claim.the-variants.{Least, Irreducible, Open}
+use Rattle.claim.specs.Licensed.{claim-of, licensed-of}
+use Rattle.lent.specs.Words.{answer-words, tally-words}
+
+-- the reduction m of the list l over lent words, from a service whose checks answer t: the list left over `output`, the
+-- mask over `mask`, the answer and the tally over `out`
+pub record Answers-lent (t : Option Told) (w l : List ℕ) (m : Reduction)
+    (output output′ mask mask′ out out′ : List ℕ) : Type 0 where
+  pub list-left : output′ ≡ unless-refused t (output-left l m output) output
+  pub told-by : mask′ ≡ sets mask 0 (unless-refused t (mask-words m) (replicate mask-length 0))
+  pub answered : out′ ≡ sets out 0 (answer-words t ++ tally-words (unless-refused t (tally-left w l m) nothing))
+
+-- an elimination over lent words
+abbrev pub Eliminates-lent : Elimination → List ℕ → List ℕ
+    → List ℕ → List ℕ → List ℕ → List ℕ → List ℕ → List ℕ → Type 0
+Eliminates-lent by w l output =
+    Answers-lent (answer (reduction-checks w l (length output))) w l (left-by by w l) output
+
+-- the minimal reduction over lent words
+abbrev pub Minimises-lent : List ℕ → List ℕ → List ℕ → List ℕ → List ℕ → List ℕ → List ℕ → List ℕ → Type 0
+Minimises-lent w l output =
+    Answers-lent (answer (minimal-checks most-unmarked w l (length output))) w l (minimal-of w l) output
+
+-- a claim: its strength, 0 where it is open, 1 where it is irreducible, 2 where it is least, and then how many steps
+-- are unmarked where it is open
+abbrev pub claim-words : Claim → List ℕ
+claim-words (Open n) = 0 ∷ n ∷ []
+claim-words Irreducible = 1 ∷ 0 ∷ []
+claim-words Least = 2 ∷ 0 ∷ []
+
+-- the licence of a list over lent words, of checks that answer t: as a reduction is answered, and the claim behind it
+pub record Licence-lent (t : Option Told) (w l output output′ mask mask′ out out′ : List ℕ) : Type 0 where
+  pub list-left : output′ ≡ unless-refused t (output-left l (licensed-of w l) output) output
+  pub told-by : mask′ ≡ sets mask 0 (unless-refused t (mask-words (licensed-of w l)) (replicate mask-length 0))
+  pub answered : out′ ≡ sets out 0 (answer-words t
+      ++ (tally-words (unless-refused t (tally-left w l (licensed-of w l)) nothing)
+      ++ claim-words (unless-refused t (claim-of w l) (Open 0))))
+
+abbrev pub Licenses-lent : List ℕ → List ℕ → List ℕ → List ℕ → List ℕ → List ℕ → List ℕ → List ℕ → Type 0
+Licenses-lent w l output = Licence-lent (answer (reduction-checks w l (length output))) w l output
+
+-- both eliminations over lent words, of checks that answer t
+pub record Both-lent (t : Option Told) (w l first first′ second second′ out out′ : List ℕ) : Type 0 where
+  pub first-left : first′ ≡ unless-refused t (output-left l (elimination-of w l) first) first
+  pub second-left : second′ ≡ unless-refused t (output-left l (greedy-elimination-of w l) second) second
+  pub answered : out′ ≡ sets out 0 (answer-words t
+      ++ (tally-words (unless-refused t (tally-left w l (elimination-of w l)) nothing)
+      ++ tally-words (unless-refused t (tally-left w l (greedy-elimination-of w l)) nothing)))
+
+abbrev pub Reduces-both-lent : List ℕ → List ℕ → List ℕ → List ℕ → List ℕ → List ℕ → List ℕ → List ℕ → Type 0
+Reduces-both-lent w l first first′ second =
+    Both-lent (answer (reduction-checks w l (min (length first) (length second)))) w l first first′ second
