@@ -25,7 +25,7 @@ use Rattle.layout.specs.between.Lays as lays
 use Rattle.text.proofs.ReaderLaws.{found-whole}
 use Rattle.layout.proofs.LaysTheorem.{round-trip, numeral-unbroken}
 use Rattle.layout.proofs.RoomTheorem.{text-fits}
-use Rattle.rows.specs.Rows.{rows-within, rows}
+use Rattle.word_rows.specs.Rows.{rows-within, rows}
 use Rattle.layout.specs.Layout.{comment, Section, laid-out, action-title, action-section, sections, list-sections, record-text}
 use Rattle.layout.specs.Shown.{words-in, text-whole, text-framed, text-of, shown}
 

@@ -13,7 +13,7 @@ use Rattle.sheet.proofs.TableLaws.{table-take}
 use Rattle.program.specs.declared.frame.Frame.{Frame}
 use Rattle.program.specs.Form.{word-bytes, word-at, unpacked, input-form}
 use Rattle.text.specs.Limits.{most}
-use Rattle.rows.specs.Rows.{rows}
+use Rattle.word_rows.specs.Rows.{rows}
 use Rattle.layout.specs.Layout.{record-text}
 use Rattle.layout.specs.Shown.{words-in, text-whole, text-framed, text-of, shown}
 

@@ -10,7 +10,7 @@ use Rattle.program.specs.declared.frame.Frame.{Frame}
 use Rattle.program.specs.declared.frame.Frame.the-variants.{Broken, Long, Whole}
 use Rattle.program.specs.Form.{word-bytes, unpacked, input-form}
 use Rattle.text.specs.Limits.{most}
-use Rattle.rows.specs.Rows.{rows}
+use Rattle.word_rows.specs.Rows.{rows}
 use Rattle.layout.specs.Layout.{record-text}
 
 -- the words of bytes

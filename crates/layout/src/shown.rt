@@ -5,7 +5,7 @@ use program::frame::Frame;
 use program::framing::frame_input;
 use program::unpack::unpack;
 use program::word::WORD;
-use rows::put_rows;
+use word_rows::put_rows;
 use sheet::layout::actions;
 use sheet::limits::Sheet;
 use text::limits::MOST;

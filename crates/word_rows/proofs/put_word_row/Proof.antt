@@ -1,8 +1,8 @@
 -- `put_word_row` meets its contract: two texts, one behind the other. Assumes nothing.
 use Rattle.lines.proofs.PrintLaws.{prints-both}
 use borrow.Author.Needs.{needs}
-use Rattle.rows.proofs.put_word_row.Statement.{statement}
-use Rattle.rows.proofs.put_word_row.Tie as tie
+use Rattle.word_rows.proofs.put_word_row.Statement.{statement}
+use Rattle.word_rows.proofs.put_word_row.Tie as tie
 
 put-words-requires : tie.Need-put-words-requires
 put-words-requires c κs = search needs

@@ -8,7 +8,7 @@ ghost use Prim.Native.Nat.{_-_, min};
 ghost use lib.ListN.{take, drop};
 ghost use Rattle.lines.specs.Lines.{spaced, line};
 ghost use Rattle.lines.specs.Prints.{Prints};
-ghost use Rattle.rows.specs.Rows.{rows};
+ghost use Rattle.word_rows.specs.Rows.{rows};
 
 // How many words a line has.
 const ROW: usize = 10;

@@ -8,8 +8,8 @@ use lib.Seq.{take-length}
 use Rattle.lines.specs.Lines.{spaced}
 use Rattle.lines.specs.Prints.{Prints}
 use Rattle.lines.proofs.PrintLaws.{spaced-nothing, prints-spaced, prints-length}
-use Rattle.rows.proofs.put_words.Statement.{statement}
-use Rattle.rows.proofs.put_words.Tie as tie
+use Rattle.word_rows.proofs.put_words.Statement.{statement}
+use Rattle.word_rows.proofs.put_words.Tie as tie
 
 abbrev Inv-loop : tie.InvT-loop
 Inv-loop out₀ at words end₀ i₀ t7 out end i = Prints (spaced (take i words)) at out₀ out end × (i ≤ length words)

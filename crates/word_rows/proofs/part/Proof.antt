@@ -1,8 +1,8 @@
 -- `part` meets its contract, by where the part begins and ends. Assumes nothing.
-use Rattle.rows.proofs.RowLaws.{part-past, part-passed, part-there}
+use Rattle.word_rows.proofs.RowLaws.{part-past, part-passed, part-there}
 use borrow.Author.Needs.{needs}
-use Rattle.rows.proofs.part.Statement.{statement}
-use Rattle.rows.proofs.part.Tie as tie
+use Rattle.word_rows.proofs.part.Statement.{statement}
+use Rattle.word_rows.proofs.part.Tie as tie
 
 front-requires : tie.Need-front-requires
 front-requires c κs = search needs

@@ -11,7 +11,7 @@ use borrow.Author.Tests.{leb-true, leb-false}
 use Rattle.lines.specs.Lines.{line}
 use Rattle.lines.specs.Prints.{Prints}
 use Rattle.lines.proofs.PrintLaws.{prints-both}
-use Rattle.rows.specs.Rows.{rows-within, rows}
+use Rattle.word_rows.specs.Rows.{rows-within, rows}
 
 enough-lines : (n m : ℕ) (ws : List ℕ) → length ws ≤ n → length ws ≤ m → rows-within n ws ≡ rows-within m ws
 unfolding rows-within

@@ -8,10 +8,10 @@ use borrow.Author.Needs.{needs}
 use lib.ListN.{length, drop}
 use Rattle.lines.specs.Prints.{Prints}
 use Rattle.lines.proofs.PrintLaws.{prints-nothing, prints-length}
-use Rattle.rows.specs.Rows.{rows}
-use Rattle.rows.proofs.RowLaws.{row-inside, row-some, row-put, rows-put}
-use Rattle.rows.proofs.put_rows.Statement.{statement}
-use Rattle.rows.proofs.put_rows.Tie as tie
+use Rattle.word_rows.specs.Rows.{rows}
+use Rattle.word_rows.proofs.RowLaws.{row-inside, row-some, row-put, rows-put}
+use Rattle.word_rows.proofs.put_rows.Statement.{statement}
+use Rattle.word_rows.proofs.put_rows.Tie as tie
 
 abbrev Inv-loop : tie.InvT-loop
 Inv-loop out₀ at words end₀ i₀ out end i = ((text : List ℕ) × Prints text at out₀ out end × (text ++ rows (drop i words) ≡ rows words)) × (i ≤ length words)
