@@ -1,73 +1,107 @@
--- The form of a record, and how many bytes must be read to tell it, by the tests that decide them, where n is how many words the task has and m how many the plan;
--- and what a form says of the bytes. Assumes nothing.
+-- Where a record ends, by the tests that decide it, where n is how many words the task has and m how many the plan; its form, and how many bytes must be read
+-- to tell it, by where it ends; and what an ending and a form say of the bytes. Assumes nothing.
 use Prim.Native.Nat.{ℕ, _+_, _*_, _≤_, _<_}
 use native.Mathlib.Omega.{arith}
 use mathlib.Core.Path.{_≡_, refl, sym, _∙_, ap}
-use mathlib.Core.Bool.{Bool, true, false, cond, _||_}
+use mathlib.Core.Bool.{Bool, true, false, cond}
 use mathlib.Core.List.{List}
 use lib.ListN.{length}
-use lib.Dec.{ltb}
-use borrow.Author.Tests.{ltb-false, lt-ltb, le-ltb}
+use lib.Dec.{ltb, lit≤}
+use borrow.Author.Tests.{ltb-true, ltb-false, lt-ltb, le-ltb}
 use Rattle.sheet.specs.Limits.{limits}
 use Rattle.sheet.proofs.CauseLaws.{neither}
 use Rattle.plan.specs.Limits.{most-steps}
+use Rattle.program.specs.declared.frame.Ending.{Ending}
+use Rattle.program.specs.declared.frame.Ending.the-variants as ending
 use Rattle.program.specs.declared.frame.Frame.{Frame}
 use Rattle.program.specs.declared.frame.Frame.the-variants.{Broken, Long, Whole}
 use Rattle.sheet.specs.Layout.{header}
-use Rattle.program.specs.Form.{word-bytes, word-at, task-length, outside, plan-length, plan-start, record-end, record-form, as-input, input-form}
-use Rattle.program.specs.between.Needed.{header-bytes, bytes-to-read}
+use Rattle.program.specs.Form.{word-bytes, word-at, task-length, outside, plan-length, plan-start, header-bytes, record-ending, as-record, record-form, as-input, input-form}
+use Rattle.program.specs.between.Needed.{needed-for, bytes-to-read, most-bytes}
 
 -- a number that is not outside the limits
 pub inside-limits : (n : ℕ) → outside n ≡ false → (header ≤ n) × (n ≤ limits .words)
 inside-limits n e = let (low, high) = neither (ltb n header) (ltb (limits .words) n) e in (ltb-false _ _ low, ltb-false _ _ high)
 
-module _ (further : ℕ) (bytes : List ℕ) (n : ℕ) (says : n ≡ task-length bytes) where
-  pub form-outside : outside n ≡ true → record-form further bytes ≡ Broken
+-- where a record ends, by those tests
+module _ (further : ℕ) (bytes : List ℕ) where
+  pub ending-header : length bytes < header-bytes → record-ending further bytes ≡ ending.Untold header-bytes
+  unfolding record-ending
+  ending-header short = rw (lt-ltb _ _ short)
+
+  module _ (header : header-bytes ≤ length bytes) (n : ℕ) (says : n ≡ task-length bytes) where
+    pub ending-outside : outside n ≡ true → record-ending further bytes ≡ ending.Unfit
+    unfolding record-ending
+    ending-outside e = rw (le-ltb _ _ header, ← says, e)
+
+    module _ (inside : outside n ≡ false) where
+      pub ending-cut : length bytes < word-bytes * (n + 1) → record-ending further bytes ≡ ending.Untold (word-bytes * (n + 1))
+      unfolding record-ending
+      ending-cut short = rw (le-ltb _ _ header, ← says, inside, lt-ltb _ _ short)
+
+      module _ (there : word-bytes * (n + 1) ≤ length bytes) (m : ℕ) (then : m ≡ word-at bytes n) where
+        pub ending-long : most-steps < m → record-ending further bytes ≡ ending.Long n
+        unfolding record-ending
+        ending-long long = rw (le-ltb _ _ header, ← says, inside, le-ltb _ _ there, ← then, lt-ltb _ _ long)
+
+        pub ending-found : m ≤ most-steps → record-ending further bytes ≡ ending.Ends n m (word-bytes * (n + 1) + word-bytes * (m + further))
+        unfolding record-ending
+        ending-found few = rw (le-ltb _ _ header, ← says, inside, le-ltb _ _ there, ← then, le-ltb _ _ few)
+
+-- the form of a record, and how many bytes must be read, by where it ends
+module _ (further : ℕ) (bytes : List ℕ) (found : Ending) (ends : found ≡ record-ending further bytes) where
+  pub form-from : (e : Ending) → found ≡ e → record-form further bytes ≡ as-record bytes e
   unfolding record-form
-  form-outside e = rw (← says, e)
+  form-from e is = ap (as-record bytes) (sym ends ∙ is)
 
-  module _ (inside : outside n ≡ false) where
-    pub form-cut : length bytes < word-bytes * (n + 1) → record-form further bytes ≡ Broken
-    unfolding record-form
-    form-cut short = rw (← says, inside, lt-ltb _ _ short)
+  pub form-breaks-off : (n m end : ℕ) → found ≡ ending.Ends n m end → length bytes < end → record-form further bytes ≡ Broken
+  form-breaks-off n m end is short = form-from (ending.Ends n m end) is ∙ rw (lt-ltb _ _ short)
 
-    module _ (there : word-bytes * (n + 1) ≤ length bytes) (m : ℕ) (then : m ≡ word-at bytes n) where
-      pub form-long : most-steps < m → record-form further bytes ≡ Long n
-      unfolding record-form
-      form-long long = rw (← says, inside, le-ltb _ _ there, ← then, lt-ltb _ _ long)
+  pub form-reaches : (n m end : ℕ) → found ≡ ending.Ends n m end → end ≤ length bytes → record-form further bytes ≡ Whole n m end
+  form-reaches n m end is whole = form-from (ending.Ends n m end) is ∙ rw (le-ltb _ _ whole)
 
-      module _ (few : m ≤ most-steps) (end : ℕ) (ends : end ≡ word-bytes * (n + 1) + word-bytes * (m + further)) where
-        pub form-ends-early : length bytes < end → record-form further bytes ≡ Broken
-        unfolding record-form
-        form-ends-early short = rw (← says, inside, le-ltb _ _ there, ← then, le-ltb _ _ few, ← ends, lt-ltb _ _ short)
+  pub reads-from : (beyond : ℕ) (e : Ending) → found ≡ e → bytes-to-read further beyond bytes ≡ needed-for beyond e
+  unfolding bytes-to-read
+  reads-from beyond e is = ap (needed-for beyond) (sym ends ∙ is)
 
-        pub form-whole : end ≤ length bytes → record-form further bytes ≡ Whole n m end
-        unfolding record-form
-        form-whole whole = rw (← says, inside, le-ltb _ _ there, ← then, le-ltb _ _ few, ← ends, le-ltb _ _ whole)
+-- a length behind the task is past word 3
+header-there : (bytes : List ℕ) (n : ℕ) → outside n ≡ false → word-bytes * (n + 1) ≤ length bytes → header-bytes ≤ length bytes
+header-there bytes n inside there = let (low, high) = inside-limits n inside in omega arith
+
+module _ (further : ℕ) (bytes : List ℕ) (n : ℕ) (says : n ≡ task-length bytes) where
+  pub form-outside : header-bytes ≤ length bytes → outside n ≡ true → record-form further bytes ≡ Broken
+  form-outside header e = form-from further bytes _ refl ending.Unfit (ending-outside further bytes header n says e)
+
+  module _ (inside : outside n ≡ false) (there : word-bytes * (n + 1) ≤ length bytes) (m : ℕ) (then : m ≡ word-at bytes n) where
+    pub form-long : most-steps < m → record-form further bytes ≡ Long n
+    form-long long =
+        form-from further bytes _ refl (ending.Long n) (ending-long further bytes (header-there bytes n inside there) n says inside there m then long)
+
+    pub form-whole : m ≤ most-steps → (end : ℕ) → end ≡ word-bytes * (n + 1) + word-bytes * (m + further) → end ≤ length bytes
+        → record-form further bytes ≡ Whole n m end
+    form-whole few end ends whole =
+        let found = ending-found further bytes (header-there bytes n inside there) n says inside there m then few in
+        form-reaches further bytes _ refl n m end (found ∙ rw (← ends)) whole
 
 module _ (further beyond : ℕ) (bytes : List ℕ) where
   pub reads-header : length bytes < header-bytes → bytes-to-read further beyond bytes ≡ header-bytes
-  unfolding bytes-to-read
-  reads-header short = rw (lt-ltb _ _ short)
+  reads-header short = reads-from further bytes _ refl beyond (ending.Untold header-bytes) (ending-header further bytes short)
 
   module _ (header : header-bytes ≤ length bytes) (n : ℕ) (says : n ≡ task-length bytes) where
-    pub reads-outside : outside n ≡ true → bytes-to-read further beyond bytes ≡ header-bytes
-    unfolding bytes-to-read
-    reads-outside e = rw (le-ltb _ _ header, ← says, e)
+    pub reads-outside : outside n ≡ true → bytes-to-read further beyond bytes ≡ 0
+    reads-outside e = reads-from further bytes _ refl beyond ending.Unfit (ending-outside further bytes header n says e)
 
     module _ (inside : outside n ≡ false) where
       pub reads-start : length bytes < word-bytes * (n + 1) → bytes-to-read further beyond bytes ≡ word-bytes * (n + 1)
-      unfolding bytes-to-read
-      reads-start short = rw (le-ltb _ _ header, ← says, inside, lt-ltb _ _ short)
+      reads-start short =
+          reads-from further bytes _ refl beyond (ending.Untold (word-bytes * (n + 1))) (ending-cut further bytes header n says inside short)
 
       module _ (there : word-bytes * (n + 1) ≤ length bytes) (m : ℕ) (then : m ≡ word-at bytes n) where
-        pub reads-long : most-steps < m → bytes-to-read further beyond bytes ≡ word-bytes * (n + 1)
-        unfolding bytes-to-read
-        reads-long long = rw (le-ltb _ _ header, ← says, inside, le-ltb _ _ there, ← then, lt-ltb _ _ long)
+        pub reads-long : most-steps < m → bytes-to-read further beyond bytes ≡ 0
+        reads-long long = reads-from further bytes _ refl beyond (ending.Long n) (ending-long further bytes header n says inside there m then long)
 
         pub reads-end : m ≤ most-steps → bytes-to-read further beyond bytes ≡ word-bytes * (n + 1) + word-bytes * (m + further) + beyond
-        unfolding bytes-to-read
-        reads-end few = rw (le-ltb _ _ header, ← says, inside, le-ltb _ _ there, ← then, le-ltb _ _ few)
+        reads-end few = reads-from further bytes _ refl beyond (ending.Ends n m _) (ending-found further bytes header n says inside there m then few)
 
 -- the form of an input by that of its record: a whole one runs on, or ends
 module _ (further : ℕ) (bytes : List ℕ) (framed : Frame) (frames : framed ≡ record-form further bytes) where
@@ -81,12 +115,76 @@ module _ (further : ℕ) (bytes : List ℕ) (framed : Frame) (frames : framed �
   pub input-ends : (n m end : ℕ) → framed ≡ Whole n m end → length bytes ≤ end → input-form further bytes ≡ Whole n m end
   input-ends n m end is over = input-from (Whole n m end) is ∙ rw (le-ltb _ _ over)
 
--- what a form says of the bytes: a task of n words is there, with a length behind it; and a record is, with a plan of m words
+-- what an ending says of the bytes: they are fewer than are needed to tell more, and those are no more than go to the plan's length; a task of n words is there,
+-- with a length behind it; and that is the length m of a plan
+pub record Short-of (bytes : List ℕ) (k : ℕ) : Type 0 where
+  pub short : length bytes < k
+  pub low : k ≤ word-bytes * (limits .words + 1)
+
 pub record Task-there (bytes : List ℕ) (n : ℕ) : Type 0 where
   pub says : n ≡ task-length bytes
   pub inside : outside n ≡ false
   pub there : word-bytes * (n + 1) ≤ length bytes
 
+pub record End-there (further : ℕ) (bytes : List ℕ) (n m end : ℕ) : Type 0 where
+  pub task : Task-there bytes n
+  pub plan : m ≡ word-at bytes n
+  pub few : m ≤ most-steps
+  pub ends : end ≡ word-bytes * (n + 1) + word-bytes * (m + further)
+
+abbrev pub Tells : ℕ → List ℕ → Ending → Type 0
+Tells further bytes (ending.Untold k) = Short-of bytes k
+Tells further bytes ending.Unfit = Unit
+Tells further bytes (ending.Long n) = Task-there bytes n
+Tells further bytes (ending.Ends n m end) = End-there further bytes n m end
+
+pub ending-tells : (further : ℕ) (bytes : List ℕ) → Tells further bytes (record-ending further bytes)
+ending-tells further bytes = by-header (ltb (length bytes) header-bytes) refl
+  where
+    n : ℕ
+    n = task-length bytes
+
+    m : ℕ
+    m = plan-length bytes
+
+    by-plan : header-bytes ≤ length bytes → outside n ≡ false → plan-start bytes ≤ length bytes → (b : Bool) → ltb most-steps m ≡ b
+        → Tells further bytes (record-ending further bytes)
+    by-plan header inside there true e =
+        rw (ending-long further bytes header n refl inside there m refl (ltb-true _ _ e)) (record { says = refl; inside = inside; there = there })
+    by-plan header inside there false e =
+        rw (ending-found further bytes header n refl inside there m refl (ltb-false _ _ e))
+        (record { task = record { says = refl; inside = inside; there = there }; plan = refl; few = ltb-false _ _ e; ends = refl })
+
+    by-start : header-bytes ≤ length bytes → outside n ≡ false → (b : Bool) → ltb (length bytes) (plan-start bytes) ≡ b
+        → Tells further bytes (record-ending further bytes)
+    by-start header inside true e =
+        let (low, high) = inside-limits n inside in
+        rw (ending-cut further bytes header n refl inside (ltb-true _ _ e)) (record { short = ltb-true _ _ e; low = omega arith })
+    by-start header inside false e = by-plan header inside (ltb-false _ _ e) (ltb most-steps m) refl
+
+    by-limits : header-bytes ≤ length bytes → (b : Bool) → outside n ≡ b → Tells further bytes (record-ending further bytes)
+    by-limits header true e = rw (ending-outside further bytes header n refl e) tt
+    by-limits header false e = by-start header e (ltb (length bytes) (plan-start bytes)) refl
+
+    by-header : (b : Bool) → ltb (length bytes) header-bytes ≡ b → Tells further bytes (record-ending further bytes)
+    by-header true e = rw (ending-header further bytes (ltb-true _ _ e)) (record { short = ltb-true _ _ e; low = lit≤ tt })
+    by-header false e = by-limits (ltb-false _ _ e) (outside n) refl
+
+-- no more bytes are ever read than the longest record has, with those beyond it
+module _ (further beyond : ℕ) (bytes : List ℕ) (found : Ending) (ends : found ≡ record-ending further bytes) where
+  told-by : (e : Ending) → found ≡ e → Tells further bytes e
+  told-by e is = rw (sym ends ∙ is) at (ending-tells further bytes)
+
+  pub untold-low : (k : ℕ) → found ≡ ending.Untold k → k ≤ most-bytes further beyond
+  untold-low k is = omega (arith, told-by (ending.Untold k) is .low)
+
+  pub end-low : (n m end : ℕ) → found ≡ ending.Ends n m end → end + beyond ≤ most-bytes further beyond
+  end-low n m end is =
+      let there : End-there further bytes n m end = told-by (ending.Ends n m end) is in
+      let (low, high) = inside-limits n (there .task .inside) in
+      omega (arith, there .few, there .ends)
+
+-- and what a form says: a record is there, with a plan of m words
 pub record Record-there (further : ℕ) (bytes : List ℕ) (n m end : ℕ) : Type 0 where
   pub task : Task-there bytes n
   pub plan : m ≡ word-at bytes n
@@ -99,20 +197,20 @@ Says further bytes Broken = Unit
 Says further bytes (Long n) = Task-there bytes n
 Says further bytes (Whole n m end) = Record-there further bytes n m end
 
--- by the three tests that pick a form
-picked : (further : ℕ) (bytes : List ℕ) (a b c : Bool) (n m end : ℕ) → (a ≡ false → Task-there bytes n) → m ≡ word-at bytes n → (b ≡ false → m ≤ most-steps)
-    → end ≡ word-bytes * (n + 1) + word-bytes * (m + further) → (c ≡ false → end ≤ length bytes) → Says further bytes (cond a Broken (cond b (Long n) (cond c Broken (Whole n m end))))
-picked further bytes true b c n m end task plan few ends whole = tt
-picked further bytes false true c n m end task plan few ends whole = task refl
-picked further bytes false false true n m end task plan few ends whole = tt
-picked further bytes false false false n m end task plan few ends whole = record { task = task refl; plan = plan; few = few refl; ends = ends; whole = whole refl }
+as-record-says : (further : ℕ) (bytes : List ℕ) (e : Ending) → Tells further bytes e → Says further bytes (as-record bytes e)
+as-record-says further bytes (ending.Untold k) tells = tt
+as-record-says further bytes ending.Unfit tells = tt
+as-record-says further bytes (ending.Long n) tells = tells
+as-record-says further bytes (ending.Ends n m end) tells = by-case (ltb (length bytes) end) refl
+  where
+    by-case : (b : Bool) → ltb (length bytes) end ≡ b → Says further bytes (cond b Broken (Whole n m end))
+    by-case true e = tt
+    by-case false e =
+        record { task = tells .task; plan = tells .plan; few = tells .few; ends = tells .ends; whole = ltb-false _ _ e }
 
 pub form-says : (further : ℕ) (bytes : List ℕ) → Says further bytes (record-form further bytes)
 unfolding record-form
-form-says further bytes = picked further bytes _ _ _ (task-length bytes) (plan-length bytes) (record-end further bytes) task refl (ltb-false _ _) refl (ltb-false _ _)
-  where
-    task : (outside (task-length bytes) || ltb (length bytes) (plan-start bytes)) ≡ false → Task-there bytes (task-length bytes)
-    task e = let (inside, begun) = neither (outside (task-length bytes)) (ltb (length bytes) (plan-start bytes)) e in record { says = refl; inside = inside; there = ltb-false _ _ begun }
+form-says further bytes = as-record-says further bytes (record-ending further bytes) (ending-tells further bytes)
 
 -- of a record that is whole, all of it must be read, and the bytes beyond it
 pub whole-reads : (further beyond : ℕ) (bytes : List ℕ) (n m end : ℕ) → record-form further bytes ≡ Whole n m end → bytes-to-read further beyond bytes ≡ end + beyond

@@ -10,8 +10,8 @@ use lib.Seq.{take-all, length-take-le}
 use lib.Dec.{ltb}
 use borrow.Author.Tests.{ltb-true, ltb-false}
 use Rattle.plan.specs.Limits.{most-steps}
-use Rattle.program.specs.Form.{word-at, length-at, task-length, plan-length, plan-start, record-end, outside, record-form}
-use Rattle.program.specs.between.Needed.{header-bytes, bytes-to-read}
+use Rattle.program.specs.Form.{word-at, length-at, task-length, plan-length, plan-start, record-end, header-bytes, outside, record-form}
+use Rattle.program.specs.between.Needed.{bytes-to-read}
 use Rattle.program.proofs.InputWordLaws.{word-stays}
 use Rattle.program.proofs.FormLaws.{form-outside, form-long, form-whole, reads-header, reads-outside, reads-start, reads-long, reads-end}
 
@@ -59,7 +59,8 @@ module _ (further beyond : ℕ) where
 
     with-more : Reach xs → record-form further (xs ++ ys) ≡ record-form further xs
     with-more (short s) = absurd (omega (arith, reads-header further beyond xs s))
-    with-more (unfit header e) = form-outside further (xs ++ ys) (task-length xs) (same-task header) e ∙ sym (form-outside further xs (task-length xs) refl e)
+    with-more (unfit header e) =
+        form-outside further (xs ++ ys) (task-length xs) (same-task header) (omega (arith, more)) e ∙ sym (form-outside further xs (task-length xs) refl header e)
     with-more (cut header inside s) = absurd (omega (arith, reads-start further beyond xs header (task-length xs) refl inside s))
     with-more (long header inside there l) =
         form-long further (xs ++ ys) (task-length xs) (same-task header) inside (omega (arith, more)) (plan-length xs) (same-plan there) l

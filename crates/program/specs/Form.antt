@@ -10,6 +10,8 @@ use Rattle.sheet.specs.Limits.{limits}
 use Rattle.sheet.specs.Layout.{header}
 use Rattle.sheet.specs.Decode.{table}
 use Rattle.plan.specs.Limits.{most-steps}
+use Rattle.program.specs.declared.frame.Ending.{Ending}
+use Rattle.program.specs.declared.frame.Ending.the-variants as ending
 use Rattle.program.specs.declared.frame.Frame.{Frame}
 use Rattle.program.specs.declared.frame.Frame.the-variants.{Broken, Long, Whole}
 
@@ -63,15 +65,34 @@ plan-start bytes = word-bytes * (task-length bytes + 1)
 abbrev pub record-end : ℕ → List ℕ → ℕ
 record-end further bytes = plan-start bytes + word-bytes * (plan-length bytes + further)
 
--- the form of the record at the front of bytes, whatever follows it. Document 01: "A word 3 outside 4 to 8,192, or
--- input that breaks off": broken, before the plan or in what follows it; "After a length above 255 nothing more is
--- read": long; else whole, with its words and its end
+-- the bytes to word 3, the last of the words that every task has
+abbrev pub header-bytes : ℕ
+header-bytes = word-bytes * header
+
+-- where the record at the front of bytes ends, whatever follows it. Document 02, C-20, on "a record whose end can't be
+-- found": it is not told while bytes to word 3, or to the plan's length, are lacking ("input cut short"), with how many
+-- there must be to tell more; it is nowhere for "word 3 outside 4 to 8,192" and for "a list over 255"; else it is
+-- found, with the words of the record, be the bytes to it there or not
+unfoldable pub record-ending : ℕ → List ℕ → Ending
+record-ending further bytes =
+    cond (ltb (length bytes) header-bytes) (ending.Untold header-bytes)
+    (cond (outside (task-length bytes)) ending.Unfit
+    (cond (ltb (length bytes) (plan-start bytes)) (ending.Untold (plan-start bytes))
+    (cond (ltb most-steps (plan-length bytes)) (ending.Long (task-length bytes))
+    (ending.Ends (task-length bytes) (plan-length bytes) (record-end further bytes)))))
+
+-- the form of a record by where it ends. Document 01: "A word 3 outside 4 to 8,192, or input that breaks off": broken,
+-- before the end is told or before it; "After a length above 255 nothing more is read": long; else whole, with its
+-- words and its end
+abbrev pub as-record : List ℕ → Ending → Frame
+as-record bytes (ending.Untold k) = Broken
+as-record bytes ending.Unfit = Broken
+as-record bytes (ending.Long n) = Long n
+as-record bytes (ending.Ends n m end) = cond (ltb (length bytes) end) Broken (Whole n m end)
+
+-- the form of the record at the front of bytes, whatever follows it
 unfoldable pub record-form : ℕ → List ℕ → Frame
-record-form further bytes =
-    cond (outside (task-length bytes) || ltb (length bytes) (plan-start bytes)) Broken
-    (cond (ltb most-steps (plan-length bytes)) (Long (task-length bytes))
-    (cond (ltb (length bytes) (record-end further bytes)) Broken
-    (Whole (task-length bytes) (plan-length bytes) (record-end further bytes))))
+record-form further bytes = as-record bytes (record-ending further bytes)
 
 -- a record's form where nothing may follow it (document 01: "or runs on"): broken where something does
 abbrev pub as-input : List ℕ → Frame → Frame
