@@ -7,13 +7,13 @@ use mathlib.Core.Path.{_≡_, refl, sym, _∙_, ap}
 use mathlib.Core.Logic.{⊎-elim}
 use mathlib.Core.Bool.{Bool, true, false, true≢false, not, _&&_, _||_, and-eq-true-iff, or-true}
 use mathlib.Core.Option.{some}
-use mathlib.Core.List.{List, [], _∷_, List·Memᴰ, List·Memᴰ·head, List·Memᴰ·tail, Memᴰ·cast, Memᴰ·append-right}
+use mathlib.Core.List.{List, [], _∷_, List·Memᴰ, List·Memᴰ·head, Memᴰ·cast, Memᴰ·append-right}
 use lib.ListN.{length, getD, take, drop, take-append-drop}
 use lib.Seq.{drop-cons, take-take}
 use lib.Dec.{eqb}
 use borrow.Author.Tests.{eqb-true, eq-eqb}
-use Rattle.sas.specs.Task.{Fact, Assignment, State, Action, idle}
-use Rattle.sas.specs.Plan.{holds, satisfies, apply, run, written, may-write}
+use Rattle.sas.specs.Task.{Fact, State, Action, idle}
+use Rattle.sas.specs.Plan.{holds, apply, run, written, may-write}
 use Rattle.sas.specs.between.WellFormed.{Action-formed}
 use Rattle.sas.proofs.FactLaws.{holds-value}
 use Rattle.sas.proofs.WellFormedLaws.{Actions-formed}

@@ -5,8 +5,8 @@ use native.Mathlib.Nat.{sub-zero, add-zero}
 use native.Mathlib.Omega.{arith}
 use mathlib.Core.Path.{_≡_, refl, sym, _∙_, ap}
 use mathlib.Core.Bool.{Bool, true, false, _&&_}
-use mathlib.Core.List.{List, [], _∷_, _++_, map, flatten}
-use lib.ListN.{length, length-append, length-map}
+use mathlib.Core.List.{List, [], _∷_, map, flatten}
+use lib.ListN.{length, length-map}
 use lib.Seq.{sets}
 use Rattle.refusal.proofs.PlaceLaws.{one-fewer, none-left}
 use Rattle.sas.specs.Task.{Action}
@@ -18,7 +18,7 @@ use Rattle.task_sheet.specs.declared.action.Written.{Written}
 use Rattle.meaning.specs.Sections.{number-at, variables, range-of, ranges, state, goal, operators-at, operator-end, action-at, actions-from, meaning}
 use Rattle.meaning.specs.Order.{in-order, ordered-action, ordered}
 use Rattle.meaning.specs.Writable.{action-fits, actions-fit}
-use Rattle.sheet_writer.specs.between.Laid.{first-word, part-most, laid}
+use Rattle.sheet_writer.specs.between.Laid.{first-word, part-most}
 use Rattle.task_sheet.specs.between.Parts.{Writes, Writes-group, action-parts, facts-fit, Lays}
 use Rattle.meaning.proofs.GatherLaws.{ranges-length}
 use Rattle.sheet_writer.proofs.LayLaws.{Laying, laying-all, laying-part, laying-none}

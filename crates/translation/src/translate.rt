@@ -2,9 +2,9 @@
 use access::front;
 use access::put_all;
 use form::limits::NUMBERS;
-use form::text::Form;
-use form::text::read_text;
 use refusal::Refusal;
+use sections::text::Form;
+use sections::text::read_text;
 use sheet::limits::Sheet;
 use task_sheet::build::build;
 ghost use mathlib.Core.Path.{_≡_};
