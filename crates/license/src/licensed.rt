@@ -1,13 +1,13 @@
 // What the program prints for the bytes of its input, put into lent bytes.
 use access::front;
-use program::framing::ALONE;
-use program::framing::WORDS;
 use program::input::Done;
 use program::input::read;
 use program::opened::Opened;
 use program::opened::open_input;
 use program::output::put_refusal;
 use program::parts::plan_part;
+use records::framing::ALONE;
+use records::framing::WORDS;
 use report::licensed::put_licensed;
 ghost use Prim.Native.Nat.{_≤_};
 ghost use lib.ListN.{length};

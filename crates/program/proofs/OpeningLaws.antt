@@ -10,15 +10,15 @@ use Rattle.refusal.specs.declared.Refusal.the-variants.{Length}
 use Rattle.refusal.specs.Refusal.{Told, told-refusal}
 use Rattle.sheet.specs.Decode.{table}
 use Rattle.sheet.proofs.TableLaws.{table-length, table-more, table-take, table-part}
-use Rattle.program.specs.declared.frame.Frame.{Frame}
-use Rattle.program.specs.declared.frame.Frame.the-variants.{Broken, Long, Whole}
+use Rattle.records.specs.declared.frame.Frame.{Frame}
+use Rattle.records.specs.declared.frame.Frame.the-variants.{Broken, Long, Whole}
 use Rattle.program.specs.declared.opened.Opened.the-variants as opened
-use Rattle.program.specs.Form.{word-at, unpacked, plan-words, further-words, input-form}
-use Rattle.program.specs.between.Needed.{most-words}
+use Rattle.records.specs.Form.{word-at, unpacked, plan-words, further-words, input-form}
+use Rattle.records.specs.between.Needed.{most-words}
 use Rattle.program.specs.Long.{long-refusal}
 use Rattle.program.specs.Opening.{Opening, Refused, Lodged, opening}
 use Rattle.program.specs.between.Found.{opening-of}
-use Rattle.program.proofs.FormLaws.{inside-limits, Record-there, Says, input-says}
+use Rattle.records.proofs.FormLaws.{inside-limits, Record-there, Says, input-says}
 
 module _ (further : ℕ) (bytes : List ℕ) where
   pub opening-broken : input-form further bytes ≡ Broken → opening further bytes ≡ Refused (told-refusal Length)

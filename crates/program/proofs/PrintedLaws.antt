@@ -14,9 +14,9 @@ use Rattle.lines.specs.Lines.{line}
 use Rattle.lines.specs.Prints.{Prints}
 use Rattle.refusal.specs.Refusal.{Told}
 use Rattle.program.specs.between.Room.{line-room}
-use Rattle.program.specs.between.Needed.{bytes-to-read}
-use Rattle.program.proofs.FormLaws.{reads-header}
-use Rattle.program.proofs.FormTheorem.{still-needed}
+use Rattle.records.specs.between.Needed.{bytes-to-read}
+use Rattle.records.proofs.FormLaws.{reads-header}
+use Rattle.records.proofs.FormTheorem.{still-needed}
 use Rattle.program.specs.Printed.{refusal-line, Has-read, Has-done}
 use Rattle.program.specs.declared.input.Input.{Input}
 

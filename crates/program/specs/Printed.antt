@@ -11,7 +11,7 @@ use Rattle.refusal.specs.Refusal.{Told}
 use Rattle.tally.specs.declared.Tally.{Tally}
 use Rattle.program.specs.declared.input.Input.{Input}
 use Rattle.program.specs.declared.input.Done.{Done}
-use Rattle.program.specs.between.Needed.{bytes-to-read}
+use Rattle.records.specs.between.Needed.{bytes-to-read}
 
 -- a line of a word, and the steps and the price of a tally
 abbrev pub tally-line : List ℕ → Tally → List ℕ

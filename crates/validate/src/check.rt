@@ -2,8 +2,6 @@
 use access::front;
 use plan::check::Answer;
 use plan::check::check_plan;
-use program::framing::ALONE;
-use program::framing::WORDS;
 use program::input::Done;
 use program::input::read;
 use program::opened::Opened;
@@ -11,6 +9,8 @@ use program::opened::open_input;
 use program::output::put_refusal;
 use program::output::put_tally;
 use program::parts::plan_part;
+use records::framing::ALONE;
+use records::framing::WORDS;
 ghost use Prim.Native.Nat.{_≤_};
 ghost use lib.ListN.{length};
 ghost use Rattle.program.specs.between.Room.{line-room, Text-put};

@@ -9,9 +9,9 @@ use lib.ListN.{length}
 use lib.Seq.{sets}
 use Rattle.sheet.specs.Decode.{table}
 use Rattle.sheet.proofs.TableLaws.{stores-over, stores-next, stores-whole}
-use Rattle.program.specs.Form.{word-at, unpacked}
-use Rattle.program.proofs.unpack.unpack.Statement.{statement}
-use Rattle.program.proofs.unpack.unpack.Tie as tie
+use Rattle.records.specs.Form.{word-at, unpacked}
+use Rattle.records.proofs.unpack.unpack.Statement.{statement}
+use Rattle.records.proofs.unpack.unpack.Tie as tie
 
 abbrev Inv-loop : tie.InvT-loop
 Inv-loop bytes words₀ i₀ words i = (sets words i (table (word-at bytes) i (length words₀ - i)) ≡ unpacked bytes (length words₀)) × (length words ≡ length words₀)

@@ -10,10 +10,10 @@ use lib.Seq.{take-all, length-take-le}
 use lib.Dec.{ltb}
 use borrow.Author.Tests.{ltb-true, ltb-false}
 use Rattle.plan.specs.Limits.{most-steps}
-use Rattle.program.specs.Form.{word-at, length-at, task-length, plan-length, plan-start, record-end, header-bytes, outside, record-form}
-use Rattle.program.specs.between.Needed.{bytes-to-read}
-use Rattle.program.proofs.InputWordLaws.{word-stays}
-use Rattle.program.proofs.FormLaws.{form-outside, form-long, form-whole, reads-header, reads-outside, reads-start, reads-long, reads-end}
+use Rattle.records.specs.Form.{word-at, length-at, task-length, plan-length, plan-start, record-end, header-bytes, outside, record-form}
+use Rattle.records.specs.between.Needed.{bytes-to-read}
+use Rattle.records.proofs.InputWordLaws.{word-stays}
+use Rattle.records.proofs.FormLaws.{form-outside, form-long, form-whole, reads-header, reads-outside, reads-start, reads-long, reads-end}
 
 -- how far bytes go: not to word 3; to a word 3 outside its limits; not to the length of the plan; to a length that is too large; to one that is not
 data Reach (bytes : List ℕ) : Type 0 where

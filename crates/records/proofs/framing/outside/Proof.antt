@@ -1,7 +1,7 @@
 -- `outside` meets its contract: each return is decided by the tests that led there. Assumes nothing.
 use borrow.Author.Tests.{le-ltb, lt-ltb}
-use Rattle.program.proofs.framing.outside.Statement.{statement}
-use Rattle.program.proofs.framing.outside.Tie as tie
+use Rattle.records.proofs.framing.outside.Statement.{statement}
+use Rattle.records.proofs.framing.outside.Tie as tie
 
 returns : tie.Need-returns
 returns c = simp (lt-ltb _ _ (c .if1 .taken))

@@ -10,10 +10,10 @@ use Rattle.sheet.specs.Limits.{limits}
 use Rattle.sheet.specs.Layout.{header}
 use Rattle.sheet.specs.Decode.{table}
 use Rattle.plan.specs.Limits.{most-steps}
-use Rattle.program.specs.declared.frame.Ending.{Ending}
-use Rattle.program.specs.declared.frame.Ending.the-variants as ending
-use Rattle.program.specs.declared.frame.Frame.{Frame}
-use Rattle.program.specs.declared.frame.Frame.the-variants.{Broken, Long, Whole}
+use Rattle.records.specs.declared.frame.Ending.{Ending}
+use Rattle.records.specs.declared.frame.Ending.the-variants as ending
+use Rattle.records.specs.declared.frame.Frame.{Frame}
+use Rattle.records.specs.declared.frame.Frame.the-variants.{Broken, Long, Whole}
 
 -- how many bytes a word has, and how many values a byte
 abbrev pub word-bytes : ℕ

@@ -11,13 +11,13 @@ use borrow.Author.Tests.{ltb-true, ltb-false, lt-ltb, le-ltb}
 use Rattle.sheet.specs.Limits.{limits}
 use Rattle.sheet.proofs.CauseLaws.{neither}
 use Rattle.plan.specs.Limits.{most-steps}
-use Rattle.program.specs.declared.frame.Ending.{Ending}
-use Rattle.program.specs.declared.frame.Ending.the-variants as ending
-use Rattle.program.specs.declared.frame.Frame.{Frame}
-use Rattle.program.specs.declared.frame.Frame.the-variants.{Broken, Long, Whole}
+use Rattle.records.specs.declared.frame.Ending.{Ending}
+use Rattle.records.specs.declared.frame.Ending.the-variants as ending
+use Rattle.records.specs.declared.frame.Frame.{Frame}
+use Rattle.records.specs.declared.frame.Frame.the-variants.{Broken, Long, Whole}
 use Rattle.sheet.specs.Layout.{header}
-use Rattle.program.specs.Form.{word-bytes, word-at, task-length, outside, plan-length, plan-start, header-bytes, record-ending, as-record, record-form, as-input, input-form}
-use Rattle.program.specs.between.Needed.{needed-for, bytes-to-read, most-bytes}
+use Rattle.records.specs.Form.{word-bytes, word-at, task-length, outside, plan-length, plan-start, header-bytes, record-ending, as-record, record-form, as-input, input-form}
+use Rattle.records.specs.between.Needed.{needed-for, bytes-to-read, most-bytes}
 
 -- a number that is not outside the limits
 pub inside-limits : (n : ℕ) → outside n ≡ false → (header ≤ n) × (n ≤ limits .words)
@@ -115,12 +115,8 @@ module _ (further : ℕ) (bytes : List ℕ) (framed : Frame) (frames : framed �
   pub input-ends : (n m end : ℕ) → framed ≡ Whole n m end → length bytes ≤ end → input-form further bytes ≡ Whole n m end
   input-ends n m end is over = input-from (Whole n m end) is ∙ rw (le-ltb _ _ over)
 
--- what an ending says of the bytes: they are fewer than are needed to tell more, and those are no more than go to the plan's length; a task of n words is there,
--- with a length behind it; and that is the length m of a plan
-pub record Short-of (bytes : List ℕ) (k : ℕ) : Type 0 where
-  pub short : length bytes < k
-  pub low : k ≤ word-bytes * (limits .words + 1)
-
+-- what an ending says of the bytes: no more are needed to tell more than go to the plan's length; a task of n words is there, with a length behind it; and that
+-- is the length m of a plan
 pub record Task-there (bytes : List ℕ) (n : ℕ) : Type 0 where
   pub says : n ≡ task-length bytes
   pub inside : outside n ≡ false
@@ -133,7 +129,7 @@ pub record End-there (further : ℕ) (bytes : List ℕ) (n m end : ℕ) : Type 0
   pub ends : end ≡ word-bytes * (n + 1) + word-bytes * (m + further)
 
 abbrev pub Tells : ℕ → List ℕ → Ending → Type 0
-Tells further bytes (ending.Untold k) = Short-of bytes k
+Tells further bytes (ending.Untold k) = k ≤ word-bytes * (limits .words + 1)
 Tells further bytes ending.Unfit = Unit
 Tells further bytes (ending.Long n) = Task-there bytes n
 Tells further bytes (ending.Ends n m end) = End-there further bytes n m end
@@ -159,7 +155,7 @@ ending-tells further bytes = by-header (ltb (length bytes) header-bytes) refl
         → Tells further bytes (record-ending further bytes)
     by-start header inside true e =
         let (low, high) = inside-limits n inside in
-        rw (ending-cut further bytes header n refl inside (ltb-true _ _ e)) (record { short = ltb-true _ _ e; low = omega arith })
+        rw (ending-cut further bytes header n refl inside (ltb-true _ _ e)) (omega arith)
     by-start header inside false e = by-plan header inside (ltb-false _ _ e) (ltb most-steps m) refl
 
     by-limits : header-bytes ≤ length bytes → (b : Bool) → outside n ≡ b → Tells further bytes (record-ending further bytes)
@@ -167,7 +163,7 @@ ending-tells further bytes = by-header (ltb (length bytes) header-bytes) refl
     by-limits header false e = by-start header e (ltb (length bytes) (plan-start bytes)) refl
 
     by-header : (b : Bool) → ltb (length bytes) header-bytes ≡ b → Tells further bytes (record-ending further bytes)
-    by-header true e = rw (ending-header further bytes (ltb-true _ _ e)) (record { short = ltb-true _ _ e; low = lit≤ tt })
+    by-header true e = rw (ending-header further bytes (ltb-true _ _ e)) (lit≤ tt)
     by-header false e = by-limits (ltb-false _ _ e) (outside n) refl
 
 -- no more bytes are ever read than the longest record has, with those beyond it
@@ -176,7 +172,7 @@ module _ (further beyond : ℕ) (bytes : List ℕ) (found : Ending) (ends : foun
   told-by e is = rw (sym ends ∙ is) at (ending-tells further bytes)
 
   pub untold-low : (k : ℕ) → found ≡ ending.Untold k → k ≤ most-bytes further beyond
-  untold-low k is = omega (arith, told-by (ending.Untold k) is .low)
+  untold-low k is = omega (arith, told-by (ending.Untold k) is)
 
   pub end-low : (n m end : ℕ) → found ≡ ending.Ends n m end → end + beyond ≤ most-bytes further beyond
   end-low n m end is =

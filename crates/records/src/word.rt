@@ -2,7 +2,7 @@
 use access::byte;
 ghost use mathlib.Core.Path.{_≡_};
 ghost use Prim.Native.Nat.{_<_, _^_};
-ghost use Rattle.program.specs.Form.{word-at};
+ghost use Rattle.records.specs.Form.{word-at};
 
 // How many bytes a word has, and how many values a byte.
 pub const WORD: usize = 4;
@@ -10,7 +10,7 @@ pub const WORD: usize = 4;
 pub const BYTE: u32 = 256;
 
 // Word i, its lowest byte first.
-pub(crate) fn word_at(bytes: &[u8], i: usize) -> u32
+pub fn word_at(bytes: &[u8], i: usize) -> u32
     requires { ⌜ i < 2 ^ 61 ⌝ }
     ensures { λ r. ⌜ (r ≡ word-at (now (bytes .entry)) i) × (r < 2 ^ 32) ⌝ }
 {

@@ -1,9 +1,9 @@
 -- `frame_record` meets its contract: each ending of the record is a case of its form, and one that is found is reached or not. Assumes nothing.
 use mathlib.Core.Path.{sym}
 use borrow.Author.Needs.{needs}
-use Rattle.program.proofs.FormLaws.{form-from, form-breaks-off, form-reaches}
-use Rattle.program.proofs.framing.frame_record.Statement.{statement}
-use Rattle.program.proofs.framing.frame_record.Tie as tie
+use Rattle.records.proofs.FormLaws.{form-from, form-breaks-off, form-reaches}
+use Rattle.records.proofs.framing.frame_record.Statement.{statement}
+use Rattle.records.proofs.framing.frame_record.Tie as tie
 
 find-end-requires : tie.Need-find-end-requires
 find-end-requires c κs = search needs

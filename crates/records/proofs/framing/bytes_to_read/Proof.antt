@@ -3,9 +3,9 @@
 use native.Mathlib.Omega.{arith}
 use mathlib.Core.Path.{sym}
 use borrow.Author.Needs.{needs}
-use Rattle.program.proofs.FormLaws.{reads-from, untold-low, end-low}
-use Rattle.program.proofs.framing.bytes_to_read.Statement.{statement}
-use Rattle.program.proofs.framing.bytes_to_read.Tie as tie
+use Rattle.records.proofs.FormLaws.{reads-from, untold-low, end-low}
+use Rattle.records.proofs.framing.bytes_to_read.Statement.{statement}
+use Rattle.records.proofs.framing.bytes_to_read.Tie as tie
 
 find-end-requires : tie.Need-find-end-requires
 find-end-requires c κs = search needs

@@ -10,9 +10,9 @@ use sheet::layout::PAIRS_AT;
 use sheet::limits::Sheet;
 ghost use mathlib.Core.Path.{_≡_};
 ghost use Prim.Native.Nat.{_<_, _≤_, _^_};
-ghost use Rattle.program.specs.Form.{outside as outside-limits, task-length, record-ending};
-ghost use Rattle.program.specs.Form.{record-form, input-form};
-ghost use Rattle.program.specs.between.Needed.{bytes-to-read, most-bytes};
+ghost use Rattle.records.specs.Form.{outside as outside-limits, task-length, record-ending};
+ghost use Rattle.records.specs.Form.{record-form, input-form};
+ghost use Rattle.records.specs.between.Needed.{bytes-to-read, most-bytes};
 
 // How many bytes beyond a record are read where nothing may follow it, to see that nothing does.
 pub const ALONE: u32 = 1;
@@ -106,7 +106,7 @@ pub fn frame_input(bytes: &[u8], further: u32) -> Frame
 
 // How many bytes in all must have been read before the form can be told, as far as those read so far show, with
 // `beyond` bytes behind the record. Where it ends nowhere, no more need be.
-pub(crate) fn bytes_to_read(bytes: &[u8], further: u32, beyond: u32) -> usize
+pub fn bytes_to_read(bytes: &[u8], further: u32, beyond: u32) -> usize
     ensures { λ r. ⌜ (r ≡ bytes-to-read further beyond (now (bytes .entry))) × (r ≤ most-bytes further beyond) ⌝ }
 {
     let ending = find_end(bytes, further);

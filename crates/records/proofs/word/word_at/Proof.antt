@@ -2,11 +2,11 @@
 use Prim.Native.Nat.{_*_}
 use native.Mathlib.Omega.{arith}
 use mathlib.Core.Path.{refl}
-use Rattle.program.specs.Form.{word-bytes}
-use Rattle.program.proofs.InputWordLaws.{word-of-bytes}
+use Rattle.records.specs.Form.{word-bytes}
+use Rattle.records.proofs.InputWordLaws.{word-of-bytes}
 use borrow.Author.Needs.{needs}
-use Rattle.program.proofs.word.word_at.Statement.{statement}
-use Rattle.program.proofs.word.word_at.Tie as tie
+use Rattle.records.proofs.word.word_at.Statement.{statement}
+use Rattle.records.proofs.word.word_at.Tie as tie
 
 mul-at : tie.Need-mul-at
 mul-at c = search needs

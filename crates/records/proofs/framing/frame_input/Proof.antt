@@ -1,9 +1,9 @@
 -- `frame_input` meets its contract: each form of the record is a case, and a whole one runs on or ends. Assumes nothing.
-use Rattle.program.proofs.FormLaws.{input-from, input-runs-on, input-ends}
+use Rattle.records.proofs.FormLaws.{input-from, input-runs-on, input-ends}
 use mathlib.Core.Path.{sym}
 use borrow.Author.Needs.{needs}
-use Rattle.program.proofs.framing.frame_input.Statement.{statement}
-use Rattle.program.proofs.framing.frame_input.Tie as tie
+use Rattle.records.proofs.framing.frame_input.Statement.{statement}
+use Rattle.records.proofs.framing.frame_input.Tie as tie
 
 frame-record-requires : tie.Need-frame-record-requires
 frame-record-requires c κs = search needs

@@ -4,10 +4,10 @@ use mathlib.Core.Path.{_≡_, sym, _∙_}
 use mathlib.Core.Bool.{false}
 use borrow.Author.Needs.{needs}
 use lib.ListN.{length}
-use Rattle.program.specs.Form.{task-length, outside, header-bytes}
-use Rattle.program.proofs.FormLaws.{ending-header, ending-outside, ending-cut, ending-long, ending-found}
-use Rattle.program.proofs.framing.find_end.Statement.{statement}
-use Rattle.program.proofs.framing.find_end.Tie as tie
+use Rattle.records.specs.Form.{task-length, outside, header-bytes}
+use Rattle.records.proofs.FormLaws.{ending-header, ending-outside, ending-cut, ending-long, ending-found}
+use Rattle.records.proofs.framing.find_end.Statement.{statement}
+use Rattle.records.proofs.framing.find_end.Tie as tie
 
 -- word 3 is there, is read, and is not outside its limits
 header : (c : tie.Else2) → header-bytes ≤ length (c .before .before .before .before .before .args .bytes .now)
