@@ -180,29 +180,21 @@ module _ (further beyond : ℕ) (bytes : List ℕ) (found : Ending) (ends : foun
       let (low, high) = inside-limits n (there .task .inside) in
       omega (arith, there .few, there .ends)
 
--- and what a form says: a record is there, with a plan of m words
-pub record Record-there (further : ℕ) (bytes : List ℕ) (n m end : ℕ) : Type 0 where
-  pub task : Task-there bytes n
-  pub plan : m ≡ word-at bytes n
-  pub few : m ≤ most-steps
-  pub ends : end ≡ word-bytes * (n + 1) + word-bytes * (m + further)
-  pub whole : end ≤ length bytes
-
+-- a form says the same
 abbrev pub Says : ℕ → List ℕ → Frame → Type 0
 Says further bytes Broken = Unit
 Says further bytes (Long n) = Task-there bytes n
-Says further bytes (Whole n m end) = Record-there further bytes n m end
+Says further bytes (Whole n m end) = End-there further bytes n m end
 
 as-record-says : (further : ℕ) (bytes : List ℕ) (e : Ending) → Tells further bytes e → Says further bytes (as-record bytes e)
 as-record-says further bytes (ending.Untold k) tells = tt
 as-record-says further bytes ending.Unfit tells = tt
 as-record-says further bytes (ending.Long n) tells = tells
-as-record-says further bytes (ending.Ends n m end) tells = by-case (ltb (length bytes) end) refl
+as-record-says further bytes (ending.Ends n m end) tells = by-case (ltb (length bytes) end)
   where
-    by-case : (b : Bool) → ltb (length bytes) end ≡ b → Says further bytes (cond b Broken (Whole n m end))
-    by-case true e = tt
-    by-case false e =
-        record { task = tells .task; plan = tells .plan; few = tells .few; ends = tells .ends; whole = ltb-false _ _ e }
+    by-case : (b : Bool) → Says further bytes (cond b Broken (Whole n m end))
+    by-case true = tt
+    by-case false = tells
 
 pub form-says : (further : ℕ) (bytes : List ℕ) → Says further bytes (record-form further bytes)
 unfolding record-form
@@ -211,7 +203,7 @@ form-says further bytes = as-record-says further bytes (record-ending further by
 -- of a record that is whole, all of it must be read, and the bytes beyond it
 pub whole-reads : (further beyond : ℕ) (bytes : List ℕ) (n m end : ℕ) → record-form further bytes ≡ Whole n m end → bytes-to-read further beyond bytes ≡ end + beyond
 whole-reads further beyond bytes n m end is =
-    let there : Record-there further bytes n m end = rw is at (form-says further bytes) in
+    let there : End-there further bytes n m end = rw is at (form-says further bytes) in
     let task = there .task in
     let (low, high) = inside-limits n (task .inside) in
     reads-end further beyond bytes (omega (arith, task .there)) n (task .says) (task .inside) (task .there) m (there .plan) (there .few) ∙ omega arith

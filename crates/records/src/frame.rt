@@ -1,7 +1,6 @@
-// Where a record ends, a task with its plan and what stands behind them, and the forms that it has, at the front of
-// bytes.
+// A record, a task with its plan and what stands behind them, at the front of bytes: where it ends, and its form.
 
-// Where a record ends, as far as bytes tell.
+// Where it ends, as far as bytes tell.
 pub enum Ending {
     // They break off before they tell: so many in all are needed to tell more.
     Untold {
@@ -22,6 +21,7 @@ pub enum Ending {
     },
 }
 
+// The forms that it has.
 pub enum Frame {
     // It breaks off, or says that the task has too few words or too many; as an input, it may also run on.
     Broken,

@@ -1,5 +1,5 @@
--- Accepted sheets and tasks that can be written in the edition that is read are one to one: a task is written as an accepted sheet that means it, and an accepted sheet means a task
--- that can be written, as that sheet. Assumes nothing.
+-- Accepted sheets and tasks that can be written in the edition that is read are one to one: a task is written as an accepted sheet that means it, and an
+-- accepted sheet means a task that can be written, as that sheet. Assumes nothing.
 use Prim.Native.Nat.{ℕ, _+_, _≤_}
 use native.Mathlib.Omega.{arith}
 use mathlib.Core.Path.{_≡_, refl, sym, subst}

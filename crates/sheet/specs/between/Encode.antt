@@ -50,7 +50,8 @@ sheet-of edition variables actions ps = edition ∷ variables ∷ actions ∷ (h
 unfoldable pub encode : ℕ → Task → List ℕ
 encode edition T = sheet-of edition (length (T .domains)) (length (T .actions)) (parts edition T)
 
--- a task that can be written in an edition: well-formed, so that each domain has at least its starting value, and within the limits
+-- a task that can be written in an edition: well-formed, so that each domain has at least its starting value, and
+-- within the limits
 pub record Encodable (edition : ℕ) (T : Task) : Type 0 where
   pub well-formed : Well-formed T
   pub some-variable : 1 ≤ length (T .domains)
