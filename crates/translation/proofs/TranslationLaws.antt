@@ -23,7 +23,7 @@ use Rattle.sheet.proofs.TableLaws.{table-length}
 use Rattle.form.specs.Form.{most-bytes, walked, whole, broken-line, unsupported-line, numbers-of}
 use Rattle.form.specs.between.Reading.{Outcome, barred-at}
 use Rattle.form.specs.between.Reading.Outcome.{Broken, Whole}
-use Rattle.sections.specs.between.Outcome.{text-outcome, found-in}
+use Rattle.text_sections.specs.between.Outcome.{text-outcome, found-in}
 use Rattle.task_sheet.specs.declared.build.Built.{Built}
 use Rattle.meaning.specs.Sections.{variables, range-of, starting, ranges, state, meaning}
 use Rattle.meaning.specs.Order.{ordered}
