@@ -12,11 +12,11 @@ use Rattle.lines.specs.Lines.{spaced}
 use Rattle.sheet.specs.Limits.{limits}
 use Rattle.sheet.specs.Layout.{actions}
 use Rattle.sheet.specs.Decode.{table}
-use Rattle.program.specs.declared.frame.Frame.{Frame}
-use Rattle.program.specs.declared.frame.Frame.the-variants.{Broken, Long, Whole}
-use Rattle.program.specs.Form.{word-bytes, unpacked, input-form}
-use Rattle.program.specs.Bytes.{all-bytes, Word-sized}
-use Rattle.program.proofs.BytesTheorem.{bytes-read-back, all-bytes-length}
+use Rattle.records.specs.declared.frame.Frame.{Frame}
+use Rattle.records.specs.declared.frame.Frame.the-variants.{Broken, Long, Whole}
+use Rattle.records.specs.Form.{word-bytes, unpacked, input-form}
+use Rattle.records.specs.Bytes.{all-bytes, Word-sized}
+use Rattle.records.proofs.BytesTheorem.{bytes-read-back, all-bytes-length}
 use Rattle.ascii.specs.Bytes.{ends-line}
 use Rattle.text.specs.Text.{Words, reading, found-in}
 use Rattle.text.specs.Limits.{most}
