@@ -21,7 +21,7 @@ use lent::write_verdict;
 use lent::write_wide;
 use plan::check::check_plan;
 use refusal::Verdict;
-use sheet::check::check_sheet;
+use sheet_check::check::check_sheet;
 use step::one::step;
 use striking::eliminate;
 use striking::eliminate_both;

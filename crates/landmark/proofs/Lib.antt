@@ -1,5 +1,3 @@
--- TraceLaws: the tables of a walk, by the cases of the code.
-pub mod TraceLaws
 -- RowLaws: the rows of supports, by the cases of the code.
 pub mod RowLaws
 -- WalkLaws: the walk along the steps, by the cases of the code.
@@ -8,10 +6,6 @@ pub mod WalkLaws
 pub mod CloseLaws
 -- PositionLaws: flags of positions compared, and those of the steps among them.
 pub mod PositionLaws
--- TraceTheorem: the tables of a walk tell the trace of each fact.
-pub mod TraceTheorem
--- StartTheorem: the tables as a pass begins.
-pub mod StartTheorem
 -- WalkTheorem: the walks of a pass raise what the traces say.
 pub mod WalkTheorem
 -- PassLaws: what a pass along the positions of a plan raises.

@@ -40,10 +40,10 @@ use Rattle.plan.proofs.PlanLaws.{goal-rising, steps-formed}
 use Rattle.service.specs.between.Held.{held}
 use Rattle.fact_table.specs.between.Tables.{most-facts}
 use Rattle.landmark.specs.Marks.{marks}
-use Rattle.landmark.specs.between.Traces.{trace-start, started}
+use Rattle.trace.specs.between.Traces.{trace-start, started}
 use Rattle.landmark.specs.between.Rows.{most-positions, row-start, noted}
 use Rattle.landmark.specs.between.Passes.{framed-list, Walk, walk-tables, walked, closed, pass, ends-up, steps-held}
-use Rattle.landmark.proofs.StartTheorem.{start-sized, start-reads}
+use Rattle.trace.proofs.StartTheorem.{start-sized, start-reads}
 use Rattle.landmark.proofs.WalkTheorem.{Told, Rows-told, more-noted, told-along, closed-passes}
 use Rattle.landmark.proofs.PassLaws.{pass-within, pass-length, pass-has-round}
 

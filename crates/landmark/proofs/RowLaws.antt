@@ -13,7 +13,7 @@ use Rattle.sheet.specs.declared.group.Group.{Group}
 use Rattle.sheet.specs.between.Group.{facts-in, first-fact, rest-of}
 use Rattle.sheet.proofs.EncodeLaws.{word-of-fact}
 use Rattle.sheet.proofs.GroupLaws.{group-over, group-next}
-use Rattle.landmark.specs.between.Traces.{trace-start}
+use Rattle.trace.specs.between.Traces.{trace-start}
 use Rattle.landmark.specs.between.Rows.{noted, row-raised}
 
 -- past the last place nothing is noted

@@ -17,7 +17,7 @@ use Rattle.sheet.proofs.EffectLaws.{effects-written}
 use Rattle.plan.specs.Limits.{most-steps}
 use Rattle.plan.specs.Valid.{steps}
 use Rattle.plan.proofs.FaultLaws.{drop-next}
-use Rattle.landmark.specs.between.Traces.{tables, wrote-each}
+use Rattle.trace.specs.between.Traces.{tables, wrote-each}
 use Rattle.landmark.specs.between.Rows.{row-start, noted}
 use Rattle.landmark.specs.between.Passes.{walk-tables, walked-step, walked}
 

@@ -22,10 +22,10 @@ use Rattle.sheet.specs.Limits.{limits}
 use Rattle.sheet.specs.Decode.{domains}
 use Rattle.sheet.specs.between.Encode.{fact-word}
 use Rattle.sheet.specs.Causes.{Accepted}
-use Rattle.landmark.specs.between.Traces.{trace-start, Tables, tables}
+use Rattle.trace.specs.between.Traces.{trace-start, Tables, tables}
 use Rattle.landmark.specs.between.Rows.{most-positions, row-start, noted, row-raised}
 use Rattle.landmark.specs.between.Passes.{Walk, walked-step, walked, closed, pass-from}
-use Rattle.landmark.proofs.TraceTheorem.{read, Sized, step-sized, step-read}
+use Rattle.trace.proofs.TraceTheorem.{read, Sized, step-sized, step-read}
 
 -- the last writer of a fact before a position behind the start stands before it
 last-before : (q : List Action) (m : Reduction) (g : Fact) (j : ℕ) → 1 ≤ j → trace q m g j .last < j

@@ -2,12 +2,12 @@
 use crate::rows::POSITIONS;
 use crate::rows::ROWS;
 use crate::rows::note;
-use crate::traces::TRACES;
-use crate::traces::start;
 use crate::walks::close;
 use crate::walks::walk;
 use plan::limits::Plan;
 use sheet::group::goal;
+use trace::traces::TRACES;
+use trace::traces::start;
 ghost use mathlib.Core.Path.{_≡_};
 ghost use mathlib.Core.Bool.{true};
 ghost use Prim.Native.Nat.{_≤_};

@@ -1,6 +1,4 @@
 // The supports of what a position needs, in a row of bytes for each position, a byte for each fact.
-use crate::traces::SUPPORT;
-use crate::traces::TRACE;
 use access::byte;
 use access::flag;
 use access::put8;
@@ -8,6 +6,8 @@ use access::raise;
 use plan::limits::Plan;
 use sheet::group::Group;
 use sheet::limits::Sheet;
+use trace::traces::SUPPORT;
+use trace::traces::TRACE;
 ghost use mathlib.Core.Path.{_≡_};
 ghost use mathlib.Core.Bool.{cond, false};
 ghost use lib.ListN.{getD};

@@ -2,11 +2,11 @@
 // needs, and back to raise the supports of each marked one.
 use crate::rows::note;
 use crate::rows::raise_marked;
-use crate::traces::write_effects;
 use access::flag;
 use sheet::group::Group;
 use sheet::group::facts_of;
 use sheet::group::goal;
+use trace::traces::write_effects;
 ghost use mathlib.Core.Path.{_≡_};
 ghost use Prim.Native.Nat.{suc, _≤_};
 ghost use lib.ListN.{length};

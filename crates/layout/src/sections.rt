@@ -3,14 +3,14 @@
 use access::front;
 use lines::put_number;
 use lines::put_text;
-use word_rows::part;
-use word_rows::put_rows;
 use sheet::group::facts_of;
 use sheet::group::goal as goal_of;
 use sheet::layout::PAIRS_AT;
 use sheet::layout::actions;
 use sheet::layout::start_at;
 use sheet::layout::variables;
+use word_rows::part;
+use word_rows::put_rows;
 ghost use mathlib.Core.Path.{_≡_};
 ghost use mathlib.Core.List.{List, [], _∷_};
 ghost use Prim.Native.Nat.{_-_, max};

@@ -41,9 +41,9 @@ use Rattle.service.specs.between.Kept.{Finishes}
 use Rattle.service.specs.Reduced.{tally-left, room-checks, reduction-checks}
 use Rattle.service.proofs.LodgedLaws.{lodged-valid}
 use Rattle.service.proofs.AnswerLaws.{keeps, answers-refused, answers-kept}
-use Rattle.choice.specs.between.Chosen.{most-choices, open-before}
-use Rattle.choice.proofs.ChosenLaws.{open-counted}
-use Rattle.search.specs.between.Told.{Finds}
+use Rattle.packed_state.specs.between.Chosen.{most-choices, open-before}
+use Rattle.packed_state.proofs.ChosenLaws.{open-counted}
+use Rattle.turns.specs.between.Told.{Finds}
 use Rattle.minimal.specs.declared.within.Shortened.{Shortened}
 use Rattle.minimal.specs.Minimised.{unmarked-checks, minimal-checks, minimal-of, Minimises}
 use Rattle.minimal.specs.between.Refused.{Refuses}

@@ -9,7 +9,7 @@ use service::finish::finish;
 use service::room::check_room;
 use tally::Tally;
 ghost use Prim.Native.Nat.{_≤_};
-ghost use Rattle.choice.specs.between.Chosen.{most-choices};
+ghost use Rattle.packed_state.specs.between.Chosen.{most-choices};
 ghost use Rattle.minimal.specs.Minimised.{Minimises};
 ghost use Rattle.minimal.specs.between.Refused.{Refuses};
 

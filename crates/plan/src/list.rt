@@ -3,8 +3,8 @@
 use refusal::Refusal;
 use refusal::Verdict;
 use refusal::place::Place;
-use sheet::check::check_sheet;
 use sheet::layout::actions;
+use sheet_check::check::check_sheet;
 ghost use mathlib.Core.Path.{_≡_};
 ghost use Rattle.refusal.specs.Refusal.{told};
 ghost use Rattle.refusal.specs.Check.{answer};

@@ -2,7 +2,7 @@
 use plan::limits::Plan;
 use refusal::Refusal;
 use refusal::Verdict;
-use sheet::check::check_sheet;
+use sheet_check::check::check_sheet;
 ghost use mathlib.Core.Path.{_≡_};
 ghost use Rattle.refusal.specs.Refusal.{told-refusal};
 ghost use Rattle.program.specs.Long.{long-refusal};

@@ -27,20 +27,20 @@ use Rattle.sheet.specs.Decode.{domains, initial, goal, action}
 use Rattle.step.specs.State.{in-array}
 use Rattle.plan.specs.Limits.{most-steps}
 use Rattle.plan.specs.Valid.{steps}
-use Rattle.cuts.specs.between.Bits.{Told-behind}
+use Rattle.fact_bits.specs.between.Bits.{Told-behind}
 use Rattle.service.specs.Reduced.{tally-left}
 use Rattle.service.specs.between.Tallied.{tallied}
-use Rattle.choice.specs.between.Chosen.{most-choices, open-before, chosen}
-use Rattle.choice.specs.between.Packed.{row-bytes, most-rows, written-over, packed-start}
-use Rattle.choice.specs.between.Rows.{struck-row, Rowed}
-use Rattle.choice.proofs.ChosenLaws.{chosen-stays, chosen-all}
-use Rattle.choice.proofs.RowTheorem.{start-row-writes, costs-long}
-use Rattle.search.specs.declared.chosen.Chosen.{Chosen}
-use Rattle.search.specs.between.Told.{Chooses, Lent, Lent-rows, Begins, Finds}
-use Rattle.search.specs.between.Unpacked.{Unpacks}
-use Rattle.search.proofs.SoFarLaws.{tally-told}
+use Rattle.packed_state.specs.between.Chosen.{most-choices, open-before, chosen}
+use Rattle.packed_state.specs.between.Packed.{row-bytes, most-rows, written-over, packed-start}
+use Rattle.choice_rows.specs.between.Rows.{struck-row, Rowed}
+use Rattle.packed_state.proofs.ChosenLaws.{chosen-stays, chosen-all}
+use Rattle.choice_rows.proofs.RowTheorem.{start-row-writes, costs-long}
+use Rattle.turns.specs.declared.chosen.Chosen.{Chosen}
+use Rattle.turns.specs.between.Told.{Chooses, Lent, Lent-rows, Begins, Finds}
+use Rattle.turns.specs.between.Unpacked.{Unpacks}
+use Rattle.turns.proofs.SoFarLaws.{tally-told}
 use Rattle.search.proofs.UnpackLaws.{unpacked-same}
-use Rattle.search.proofs.TurnsLaws.{all-plain, starts-sized, flags-fit, Comes-to, comes-to, Both-told}
+use Rattle.turns.proofs.TurnsLaws.{all-plain, starts-sized, flags-fit, Comes-to, comes-to, Both-told}
 
 -- the choices that keep all unflagged steps
 module _ (count : ℕ) (few : count ≤ most-choices) where

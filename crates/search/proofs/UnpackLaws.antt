@@ -13,9 +13,9 @@ use Rattle.reduction.specs.Reduction.{Reduction}
 use Rattle.reduction.specs.between.Order.{Contains}
 use Rattle.mask.specs.Mask.{digit}
 use Rattle.plan.specs.Limits.{most-steps}
-use Rattle.choice.specs.between.Chosen.{most-choices, open-before, chosen}
-use Rattle.choice.proofs.ChosenLaws.{open-unflagged, open-rises, chosen-bit}
-use Rattle.search.specs.between.Unpacked.{choice-bits, chosen-up, kept-by, Unpacks}
+use Rattle.packed_state.specs.between.Chosen.{most-choices, open-before, chosen}
+use Rattle.packed_state.proofs.ChosenLaws.{open-unflagged, open-rises, chosen-bit}
+use Rattle.turns.specs.between.Unpacked.{choice-bits, chosen-up, kept-by, Unpacks}
 
 module _ (bits d : ℕ) where
   pub chosen-low : d < choice-bits → eqb (bits / 2 ^ (d + 1) % 2) 1 ≡ chosen-up bits d

@@ -1,23 +1,23 @@
 // The search from the starting values.
-use crate::chosen::Chosen;
-use crate::turns::keep;
-use crate::turns::strike;
 use crate::unpack::unpack;
-use choice::packed::ROW;
-use choice::packed::ROWS;
-use choice::packed::start;
-use choice::packed::write_row;
-use choice::rows::MOST;
-use choice::rows::STRUCK;
-use choice::rows::fill_rows;
-use cuts::bits::bits_behind;
+use choice_rows::rows::STRUCK;
+use choice_rows::rows::fill_rows;
+use fact_bits::bits::bits_behind;
+use packed_state::packed::MOST;
+use packed_state::packed::ROW;
+use packed_state::packed::ROWS;
+use packed_state::packed::start;
+use packed_state::packed::write_row;
 use plan::limits::Plan;
 use service::tallied::tally_of;
 use tally::Tally;
+use turns::chosen::Chosen;
+use turns::turns::keep;
+use turns::turns::strike;
 ghost use mathlib.Core.Path.{_≡_};
 ghost use Prim.Native.Nat.{_+_, _-_, _≤_, _^_};
-ghost use Rattle.choice.specs.between.Chosen.{most-choices};
-ghost use Rattle.search.specs.between.Told.{Begins, Finds};
+ghost use Rattle.packed_state.specs.between.Chosen.{most-choices};
+ghost use Rattle.turns.specs.between.Told.{Begins, Finds};
 
 // The choices that keep all of `count` unflagged steps.
 fn all_chosen(count: usize) -> u64

@@ -1,7 +1,4 @@
-// The search of the minimal reduction of a plan (document 01: exact reduction).
-// chosen: a reduction on its way, with one step more. turns: the striking turn and the keeping turn. unpack: the flags
-// of the steps that are kept. best: the search from the starting values.
+// The search of the minimal reduction of a plan (document 01: exact reduction), from the starting values.
+// unpack: the flags of the steps that choices keep. best: the search.
 pub mod best;
-mod chosen;
-mod turns;
 mod unpack;

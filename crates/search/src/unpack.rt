@@ -1,11 +1,11 @@
 // The flags of the steps that choices keep.
-use crate::chosen::BITS;
 use access::flag;
-use choice::rows::open;
+use choice_rows::rows::open;
 use plan::limits::Plan;
 use service::room::shorter;
+use turns::chosen::BITS;
 ghost use mathlib.Core.Path.{_≡_};
-ghost use Rattle.search.specs.between.Unpacked.{chosen-up, kept-by, Unpacks};
+ghost use Rattle.turns.specs.between.Unpacked.{chosen-up, kept-by, Unpacks};
 
 // Whether choices keep unflagged step d.
 fn is_chosen(bits: u64, d: usize) -> bool

@@ -1,7 +1,5 @@
 -- PairLaws: the offset due in a pair, and the place of cause 4, by cases.
 pub mod PairLaws
--- BadFactLaws: the place of cause 6, by where the first bad fact stands.
-pub mod BadFactLaws
 -- CauseLaws: what the checks of an accepted task say, one by one.
 pub mod CauseLaws
 -- Parts: in an accepted task every part lies inside the words.

@@ -35,7 +35,7 @@ impl Effects {
     }
 
     // The group that their facts are, which the check of a sheet goes through.
-    pub(crate) fn group(self) -> Group
+    pub fn group(self) -> Group
         ensures { λ r. ⌜ r ≡ as-group self ⌝ }
     {
         Group {

@@ -33,7 +33,7 @@ pub const ACTION_HEADER: usize = 2;
 pub const EDITION: usize = 1;
 
 // A word as a number.
-pub(crate) fn number(w: &[u32], i: usize) -> usize
+pub fn number(w: &[u32], i: usize) -> usize
     ensures { λ r. ⌜ (r ≡ word-at (now (w .entry)) i) × (r < 2 ^ 32) ⌝ }
 {
     word(w, i) as usize
@@ -54,7 +54,7 @@ pub fn actions(w: &[u32]) -> usize
 }
 
 // The offset in pair k.
-pub(crate) fn offset(w: &[u32], k: usize) -> usize
+pub fn offset(w: &[u32], k: usize) -> usize
     requires { ⌜ k ≤ 2 ^ 33 ⌝ }
     ensures { λ r. ⌜ (r ≡ offset-of (now (w .entry)) k) × (r < 2 ^ 32) ⌝ }
 {
@@ -62,7 +62,7 @@ pub(crate) fn offset(w: &[u32], k: usize) -> usize
 }
 
 // The length in pair k.
-pub(crate) fn size(w: &[u32], k: usize) -> usize
+pub fn size(w: &[u32], k: usize) -> usize
     requires { ⌜ k ≤ 2 ^ 33 ⌝ }
     ensures { λ r. ⌜ (r ≡ size-of (now (w .entry)) k) × (r < 2 ^ 32) ⌝ }
 {

@@ -3,8 +3,8 @@ use crate::advance::advance;
 use crate::state::State;
 use refusal::Refusal;
 use refusal::Verdict;
-use sheet::check::check_sheet;
 use sheet::layout::actions;
+use sheet_check::check::check_sheet;
 ghost use Rattle.step.specs.Step.{Steps};
 ghost use Rattle.step.specs.between.Tries.{Tries};
 

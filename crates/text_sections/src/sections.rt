@@ -1,7 +1,5 @@
 // The sections of a text.
 use access::word;
-use text_effects::effects::read_effects;
-use text_effects::effects::read_head;
 use form::lines::keyword;
 use form::lines::name;
 use form::lines::names;
@@ -12,6 +10,8 @@ use number_rows::numbers::read_layer;
 use number_rows::numbers::read_metric;
 use number_rows::numbers::read_plain;
 use number_rows::numbers::read_values;
+use text_effects::effects::read_effects;
+use text_effects::effects::read_head;
 ghost use mathlib.Core.List.{[], _∷_};
 ghost use Rattle.form.specs.Form.{Counted, Values, Effects, Axioms, counts, times, variable-lines, group-lines};
 ghost use Rattle.form.specs.Form.{operator-lines, axiom-lines, state-lines, goal-lines, front-lines};

@@ -2,10 +2,10 @@
 use access::front;
 use access::put_all;
 use lent::write_pair;
-use records::framing::WORDS;
 use program::opened::Opened;
 use program::opened::open_input;
 use program::parts::plan_part;
+use records::framing::WORDS;
 use text::limits::MOST;
 use text::reader::Ending;
 use text::reader::read_whole;

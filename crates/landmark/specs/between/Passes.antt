@@ -12,7 +12,7 @@ use Rattle.reduction.specs.between.Landmarks.{supported}
 use Rattle.sheet.specs.Decode.{initial, goal}
 use Rattle.plan.specs.Limits.{most-steps}
 use Rattle.plan.specs.Valid.{steps}
-use Rattle.landmark.specs.between.Traces.{Tables, tables, wrote-each}
+use Rattle.trace.specs.between.Traces.{Tables, tables, wrote-each}
 use Rattle.landmark.specs.between.Rows.{most-positions, row-start, noted, row-raised}
 
 -- the list l of the sheet w with its start step and its end step

@@ -9,7 +9,7 @@ use Rattle.reduction.specs.Reduction.{Reduction}
 use Rattle.sheet.specs.Limits.{limits}
 use Rattle.sheet.specs.between.Encode.{fact-word}
 use Rattle.plan.specs.Limits.{most-steps}
-use Rattle.landmark.specs.between.Traces.{trace-start}
+use Rattle.trace.specs.between.Traces.{trace-start}
 
 -- the positions of the longest plan, with start and end
 abbrev pub most-positions : ℕ

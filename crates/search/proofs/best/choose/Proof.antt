@@ -1,7 +1,7 @@
 -- `choose` meets its contract: both turns from the first unflagged step on are the search. Assumes nothing.
 use native.Mathlib.Omega.{arith}
 use mathlib.Core.Path.{refl, sym}
-use Rattle.search.proofs.TurnsLaws.{both-told}
+use Rattle.turns.proofs.TurnsLaws.{both-told}
 use Rattle.search.proofs.BestLaws.{begins, too-many, costs-counted}
 use borrow.Author.Needs.{needs}
 use Rattle.search.proofs.best.choose.Statement.{statement}

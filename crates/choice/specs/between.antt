@@ -1,6 +1,0 @@
--- What stands between the code and the definitions to be believed: laws and theorems tie the two together. Chosen: a
--- reduction as a word of choices. Packed: a state in bytes, and rows tested in it and written over it. Rows: those of
--- each unflagged step.
-pub mod Chosen
-pub mod Packed
-pub mod Rows

@@ -1,0 +1,8 @@
+// The check of a job sheet, refusals 1 to 7.
+// check: the check. header, pairs, variables, facts, costs: one cause of refusal each, or three for the header.
+pub mod check;
+mod costs;
+mod facts;
+mod header;
+mod pairs;
+mod variables;
