@@ -1,7 +1,7 @@
 -- A refusal, with its zeros. Assumes nothing.
 use mathlib.Core.Path.{_≡_}
 use Rattle.refusal.specs.declared.Refusal.{Refusal}
-use Rattle.minimal.specs.between.Written.{Refuses}
+use Rattle.minimal.specs.between.Refused.{Refuses}
 use Rattle.claim.specs.declared.answer.Claim.the-variants.{Open}
 use Rattle.claim.specs.declared.answer.Licensed.{Licensed}
 
