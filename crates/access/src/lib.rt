@@ -1,9 +1,11 @@
 // Reads and writes that are safe at any index: past the end a read finds 0, and a write does nothing.
 ghost use mathlib.Core.Path.{_≡_};
 ghost use mathlib.Core.Bool.{true, false};
-ghost use Prim.Native.Nat.{min, _<_, _^_};
-ghost use lib.ListN.{getD, set, take};
+ghost use Prim.Native.Nat.{min, _+_, _<_, _^_};
+ghost use lib.ListN.{length, getD, set, take};
 ghost use lib.Seq.{sets};
+ghost use Rattle.access.specs.Bits.{word-bits};
+ghost use Rattle.access.specs.between.Places.{ones-at, at-places};
 
 // The word at index i.
 pub fn word(words: &[u32], i: usize) -> u32
@@ -46,6 +48,24 @@ pub fn put_all(words: &mut [u32], values: &[u32])
         words[v] = values[v];
         v += 1;
     }
+}
+
+// Writes the words at the places of the ones in `bits`, whose lowest bit has place `from`, to `out` from index `at` on.
+// Returns the index after them.
+pub fn write_word(bits: u64, from: u32, words: &[u32], out: &mut [u32], at: u32) -> usize
+    ensures { λ r. ⌜ (now (out .exit)
+        ≡ sets (now (out .entry)) at (at-places (now (words .entry)) (ones-at from word-bits bits)))
+        × (r ≡ at + length (ones-at from word-bits bits)) ⌝ }
+{
+    let mut rest = bits;
+    let mut to = at as usize;
+    while rest != 0 {
+        let lowest = u64::trailing_zeros(rest);
+        put(out, to, word(words, from as usize + lowest as usize));
+        rest -= 1 << lowest;
+        to += 1;
+    }
+    to
 }
 
 // The wide word at index i.

@@ -6,7 +6,7 @@ use report::shortened::put_shortened;
 use words::open_record;
 use words::read_text;
 ghost use Rattle.lines.specs.Prints.{Prints};
-ghost use Rattle.program.specs.Bytes.{all-bytes};
+ghost use Rattle.records.specs.Bytes.{all-bytes};
 ghost use Rattle.layout.specs.Shown.{shown};
 ghost use Rattle.report.specs.Licensed.{licensed};
 ghost use Rattle.report.specs.Shortened.{shortened};

@@ -6,11 +6,3 @@ pub mod ReadsLaws
 pub mod StopLaws
 -- KeywordLaws: keywords and names.
 pub mod KeywordLaws
--- CountLaws: lines of one number, and what follows one that counts.
-pub mod CountLaws
--- RowLaws: a line of numbers as the code reads it.
-pub mod RowLaws
--- EffectLaws: facts and effects as the code reads them.
-pub mod EffectLaws
--- FormLaws: the beginning and the end of a text.
-pub mod FormLaws

@@ -2,13 +2,11 @@
 use Prim.Native.Nat.{ℕ, suc, _+_, _-_, _≤_, _<_}
 use native.Mathlib.Omega.{arith}
 use mathlib.Core.Path.{_≡_, sym, _∙_, ap}
-use mathlib.Core.Bool.{Bool, true, false}
 use mathlib.Core.List.{List, [], _∷_, _++_, append-assoc}
 use lib.ListN.{getD}
 use Rattle.form.specs.declared.reader.Reader.{Reader}
-use Rattle.form.specs.Form.{Row, Value, Count, Counted, GroupFacts, Due, numbers, counts, times, after-count}
-use Rattle.form.specs.between.Reading.{going-on, Within, Reads, after-first, Reads-row, Plain-row}
-use Rattle.form.proofs.CountLaws.{plain-value, counted-group-facts}
+use Rattle.form.specs.Form.{Row, Count, Counted, Due, numbers, counts, times, after-count}
+use Rattle.form.specs.between.Reading.{going-on, Within, Reads, after-first, Reads-row}
 use Rattle.form.proofs.GoingLaws.{going-stopped}
 
 -- one part, then another
@@ -49,12 +47,6 @@ module _ {text : List ℕ} {r s : Reader} {tape tape′ : List ℕ} where
         same = λ next. after .same next ∙ ap (λ k. going-on (k ++ next) text s tape′) (sym lines ∙ ap (after-count what) told) ∙ read .same next;
         within = after .within;
       }
-
--- what reads every line of one number, kept or not, stays in the text
-pub plain-within : (keeps : Bool) {text : List ℕ} {r s : Reader} {tape tape′ : List ℕ}
-    → ((row : Row) → Plain-row keeps row → Reads-row row text r tape s tape′) → Within text s
-plain-within true read = read Value plain-value .within
-plain-within false read = read (Count GroupFacts) (counted-group-facts .plain-count) .within
 
 -- i of n times the same lines are read
 pub record Left (i n : ℕ) (ds : List Due) (text : List ℕ) (r : Reader) (tape : List ℕ) (s : Reader) (tape′ : List ℕ) : Type 0 where

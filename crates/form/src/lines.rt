@@ -11,7 +11,7 @@ ghost use Rattle.form.specs.Form.{keyword as due-keyword, name as due-na
 ghost use Rattle.form.specs.between.Reading.{Within, Reads};
 
 // Reads a keyword.
-pub(crate) fn keyword(text: &[u8], r: Reader, word: &[u8]) -> Reader
+pub fn keyword(text: &[u8], r: Reader, word: &[u8]) -> Reader
     requires { ⌜ Within (now text) r × (has-line-end (now word) ≡ false) ⌝ }
     ensures { λ s. ⌜ ((tape : List ℕ)
         → Reads (due-keyword (now (word .entry)) ∷ []) (now (text .entry)) r tape s tape) ⌝ }
@@ -26,7 +26,7 @@ pub(crate) fn keyword(text: &[u8], r: Reader, word: &[u8]) -> Reader
 }
 
 // Reads a name, which is any line.
-pub(crate) fn name(text: &[u8], r: Reader) -> Reader
+pub fn name(text: &[u8], r: Reader) -> Reader
     requires { ⌜ Within (now text) r ⌝ }
     ensures { λ s. ⌜ ((tape : List ℕ) → Reads (due-name ∷ []) (now (text .entry)) r tape s tape) ⌝ }
 {
@@ -41,7 +41,7 @@ pub(crate) fn name(text: &[u8], r: Reader) -> Reader
 }
 
 // Reads n names.
-pub(crate) fn names(text: &[u8], r: Reader, n: usize) -> Reader
+pub fn names(text: &[u8], r: Reader, n: usize) -> Reader
     requires { ⌜ Within (now text) r ⌝ }
     ensures { λ s. ⌜ ((tape : List ℕ) → Reads (times n (due-name ∷ [])) (now (text .entry)) r tape s tape) ⌝ }
 {

@@ -7,17 +7,17 @@ ghost use Rattle.form.specs.between.Reading.{barred-at};
 
 // The index of the next line; how many lines and numbers were read; the first line that no sheet can say, or 0; and the
 // line that is not what it must be, or 0: behind that one no line is read.
-pub(crate) struct Reader {
-    pub(crate) at: usize,
-    pub(crate) line: usize,
-    pub(crate) count: usize,
-    pub(crate) barred: usize,
-    pub(crate) broken: usize,
+pub struct Reader {
+    pub at: usize,
+    pub line: usize,
+    pub count: usize,
+    pub barred: usize,
+    pub broken: usize,
 }
 
 impl Reader {
     // At the beginning of a text.
-    pub(crate) fn start() -> Reader
+    pub fn start() -> Reader
         ensures { λ r. ⌜ r ≡ record { at = 0; line = 0; count = 0; barred = 0; broken = 0 } ⌝ }
     {
         Reader {
@@ -30,7 +30,7 @@ impl Reader {
     }
 
     // Past a line, with the next one at index `at`, and with so many numbers.
-    pub(crate) fn past(self, at: usize, count: usize) -> Reader
+    pub fn past(self, at: usize, count: usize) -> Reader
         requires { ⌜ self .line < at ⌝ }
         ensures { λ r. ⌜ r ≡ record {
           at = at;
@@ -50,7 +50,7 @@ impl Reader {
     }
 
     // The same, with the first line that no sheet can say: one met before, or this one, if it `bars`.
-    pub(crate) fn past_barred(self, at: usize, count: usize, bars: bool) -> Reader
+    pub fn past_barred(self, at: usize, count: usize, bars: bool) -> Reader
         requires { ⌜ self .line < at ⌝ }
         ensures { λ r. ⌜ (r ≡ record { at = at; line = self .line + 1; count = count; barred = r .barred; broken = 0 })
             × (barred-at (r .barred) ≡ or-else (barred-at (self .barred)) (when bars (self .line + 1))) ⌝ }
@@ -65,7 +65,7 @@ impl Reader {
     }
 
     // Stopped before the next line.
-    pub(crate) fn stopped(self) -> Reader
+    pub fn stopped(self) -> Reader
         requires { ⌜ self .line < 2 ^ 63 ⌝ }
         ensures { λ r. ⌜ r ≡ record {
           at = self .at;
@@ -97,7 +97,7 @@ fn first_barred(before: usize, is: bool, line: usize) -> usize
 }
 
 // How many numbers are kept, where there are `more` of them.
-pub(crate) fn kept_count(keeps: bool, count: usize, more: usize) -> usize
+pub fn kept_count(keeps: bool, count: usize, more: usize) -> usize
     requires { ⌜ count + more < 2 ^ 64 ⌝ }
     ensures { λ r. ⌜ r ≡ count + cond keeps more 0 ⌝ }
 {

@@ -15,7 +15,7 @@ use Rattle.lines.specs.Lines.{digit-sign, numeral-within, numeral, spaced}
 use Rattle.ascii.specs.Bytes.{ascii-zero, ascii-nine, ascii-digit, all-digits, decimal-from, split}
 use Rattle.text.specs.Text.{comment-sign, word-from, word-of, fields, not-empty, fields-from, Words, in-front, read, reading}
 use Rattle.text.specs.between.Reading.{ends-field, after-blank, after-comment, field-left, after-field, read-field, all-in-front}
-use Rattle.program.specs.Bytes.{Word-sized, nothing, word}
+use Rattle.records.specs.Bytes.{Word-sized, nothing, word}
 use Rattle.layout.specs.between.Lays.{Unbroken, Lays}
 use Rattle.layout.specs.between.Lays as lays
 use Rattle.text.proofs.TextLaws.{none-left-of-field, blank-at-line-end, comment-at-line-end, comment-on, blank-at-comment, blank-at-blank, field-at-other, after-field-at-other, blank-at-other, field-ends, goes-on}

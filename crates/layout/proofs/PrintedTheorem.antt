@@ -12,11 +12,11 @@ use Rattle.lines.specs.Lines.{spaced}
 use Rattle.sheet.specs.Limits.{limits}
 use Rattle.sheet.specs.Layout.{actions}
 use Rattle.sheet.specs.Decode.{table}
-use Rattle.program.specs.declared.frame.Frame.{Frame}
-use Rattle.program.specs.declared.frame.Frame.the-variants.{Broken, Long, Whole}
-use Rattle.program.specs.Form.{word-bytes, unpacked, input-form}
-use Rattle.program.specs.Bytes.{all-bytes, Word-sized}
-use Rattle.program.proofs.BytesTheorem.{bytes-read-back, all-bytes-length}
+use Rattle.records.specs.declared.frame.Frame.{Frame}
+use Rattle.records.specs.declared.frame.Frame.the-variants.{Broken, Long, Whole}
+use Rattle.records.specs.Form.{word-bytes, unpacked, input-form}
+use Rattle.records.specs.Bytes.{all-bytes, Word-sized}
+use Rattle.records.proofs.BytesTheorem.{bytes-read-back, all-bytes-length}
 use Rattle.ascii.specs.Bytes.{ends-line}
 use Rattle.text.specs.Text.{Words, reading, found-in}
 use Rattle.text.specs.Limits.{most}
@@ -25,7 +25,7 @@ use Rattle.layout.specs.between.Lays as lays
 use Rattle.text.proofs.ReaderLaws.{found-whole}
 use Rattle.layout.proofs.LaysTheorem.{round-trip, numeral-unbroken}
 use Rattle.layout.proofs.RoomTheorem.{text-fits}
-use Rattle.rows.specs.Rows.{rows-within, rows}
+use Rattle.word_rows.specs.Rows.{rows-within, rows}
 use Rattle.layout.specs.Layout.{comment, Section, laid-out, action-title, action-section, sections, list-sections, record-text}
 use Rattle.layout.specs.Shown.{words-in, text-whole, text-framed, text-of, shown}
 

@@ -14,11 +14,11 @@ use Rattle.lines.proofs.NumeralLaws.{numeral-length}
 use Rattle.sheet.specs.Limits.{limits}
 use Rattle.sheet.specs.Layout.{actions}
 use Rattle.sheet.specs.Decode.{table}
-use Rattle.program.specs.declared.frame.Frame.{Frame}
-use Rattle.program.specs.declared.frame.Frame.the-variants as frame
-use Rattle.program.specs.Bytes.{Word-sized, nothing, word}
+use Rattle.records.specs.declared.frame.Frame.{Frame}
+use Rattle.records.specs.declared.frame.Frame.the-variants as frame
+use Rattle.records.specs.Bytes.{Word-sized, nothing, word}
 use Rattle.text.specs.Limits.{most}
-use Rattle.rows.specs.Rows.{rows-within, rows}
+use Rattle.word_rows.specs.Rows.{rows-within, rows}
 use Rattle.layout.specs.Layout.{comment, Section, laid-out, action-title, action-section, sections, list-sections, record-text}
 use Rattle.layout.specs.Shown.{text-whole, text-framed}
 use Rattle.layout.specs.between.Room.{text-bytes}

@@ -10,10 +10,10 @@ use Rattle.lines.proofs.PrintLaws.{prints-nothing}
 use Rattle.sheet.specs.Limits.{limits}
 use Rattle.sheet.specs.Layout.{actions}
 use Rattle.sheet.proofs.TableLaws.{table-take}
-use Rattle.program.specs.declared.frame.Frame.{Frame}
-use Rattle.program.specs.Form.{word-bytes, word-at, unpacked, input-form}
+use Rattle.records.specs.declared.frame.Frame.{Frame}
+use Rattle.records.specs.Form.{word-bytes, word-at, unpacked, input-form}
 use Rattle.text.specs.Limits.{most}
-use Rattle.rows.specs.Rows.{rows}
+use Rattle.word_rows.specs.Rows.{rows}
 use Rattle.layout.specs.Layout.{record-text}
 use Rattle.layout.specs.Shown.{words-in, text-whole, text-framed, text-of, shown}
 

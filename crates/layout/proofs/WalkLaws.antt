@@ -14,7 +14,7 @@ use Rattle.sheet.specs.Layout.{variables, offset, goal-start, goal-end}
 use Rattle.sheet.specs.Decode.{table}
 use Rattle.sheet.proofs.TableLaws.{table-nothing, table-more}
 use Rattle.layout.specs.declared.sections.Spot.{Spot}
-use Rattle.rows.specs.Rows.{rows}
+use Rattle.word_rows.specs.Rows.{rows}
 use Rattle.layout.specs.Layout.{comment, Section, laid-out, titled, action-section, sections, list-sections, record-text}
 use Rattle.layout.specs.between.Walk.{Goes, action-sections}
 

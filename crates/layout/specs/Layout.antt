@@ -5,7 +5,7 @@ use mathlib.Core.List.{List, [], _∷_, _++_}
 use lib.ListN.{length, take, drop}
 use Rattle.ascii.specs.Bytes.{ascii, line-end}
 use Rattle.lines.specs.Lines.{numeral}
-use Rattle.rows.specs.Rows.{rows}
+use Rattle.word_rows.specs.Rows.{rows}
 use Rattle.sheet.specs.Layout.{variables, actions, offset, goal-start, goal-end, effect-end}
 use Rattle.sheet.specs.Decode.{table}
 

@@ -6,11 +6,11 @@ use lib.ListN.{length, take}
 use lib.Dec.{ltb, eqb}
 use Rattle.sheet.specs.Limits.{limits}
 use Rattle.sheet.specs.Layout.{actions}
-use Rattle.program.specs.declared.frame.Frame.{Frame}
-use Rattle.program.specs.declared.frame.Frame.the-variants.{Broken, Long, Whole}
-use Rattle.program.specs.Form.{word-bytes, unpacked, input-form}
+use Rattle.records.specs.declared.frame.Frame.{Frame}
+use Rattle.records.specs.declared.frame.Frame.the-variants.{Broken, Long, Whole}
+use Rattle.records.specs.Form.{word-bytes, unpacked, input-form}
 use Rattle.text.specs.Limits.{most}
-use Rattle.rows.specs.Rows.{rows}
+use Rattle.word_rows.specs.Rows.{rows}
 use Rattle.layout.specs.Layout.{record-text}
 
 -- the words of bytes

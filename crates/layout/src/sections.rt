@@ -3,8 +3,8 @@
 use access::front;
 use lines::put_number;
 use lines::put_text;
-use rows::part;
-use rows::put_rows;
+use word_rows::part;
+use word_rows::put_rows;
 use sheet::group::facts_of;
 use sheet::group::goal as goal_of;
 use sheet::layout::PAIRS_AT;

@@ -1,18 +1,18 @@
 // The text of the words that bytes are: a task with its plan in sections, other words in plain lines.
 use crate::sections::put_record;
 use access::front;
-use program::frame::Frame;
-use program::framing::frame_input;
-use program::unpack::unpack;
-use program::word::WORD;
-use rows::put_rows;
+use records::frame::Frame;
+use records::framing::frame_input;
+use records::unpack::unpack;
+use records::word::WORD;
+use word_rows::put_rows;
 use sheet::layout::actions;
 use sheet::limits::Sheet;
 use text::limits::MOST;
 ghost use Prim.Native.Nat.{_*_, _≤_};
 ghost use lib.ListN.{length};
 ghost use Rattle.lines.specs.Prints.{Prints};
-ghost use Rattle.program.specs.Form.{word-bytes};
+ghost use Rattle.records.specs.Form.{word-bytes};
 ghost use Rattle.text.specs.Limits.{most};
 ghost use Rattle.layout.specs.Shown.{text-whole, text-framed, text-of, shown};
 

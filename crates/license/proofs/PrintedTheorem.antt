@@ -8,7 +8,7 @@ use Rattle.plan.specs.Limits.{most-steps}
 use Rattle.minimal.proofs.DemandThree.{checks-pass}
 use Rattle.claim.specs.Licensed.{claim-of, licensed-of}
 use Rattle.claim.proofs.LicenceTheorem.{licence-of}
-use Rattle.program.specs.Bytes.{input-of}
+use Rattle.records.specs.Bytes.{input-of}
 use Rattle.program.specs.Printed.{refusal-line, Has-read, Read-from}
 use Rattle.program.specs.declared.input.Input.{Input}
 use Rattle.program.specs.Reply.{reply-further}

@@ -10,7 +10,7 @@ use Rattle.plan.specs.Readable.{Readable}
 use Rattle.reduction.specs.Reduction.{Reduction}
 use Rattle.claim.specs.declared.answer.Claim.{Claim}
 use Rattle.claim.specs.Statement.{Licence}
-use Rattle.program.specs.Bytes.{input-of, Word-sized}
+use Rattle.records.specs.Bytes.{input-of, Word-sized}
 use Rattle.report.specs.Report.{report}
 use Rattle.report.specs.Licensed.{claim-line}
 use Rattle.license.specs.License.{printed}

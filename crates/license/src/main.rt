@@ -6,10 +6,10 @@ mod licensed;
 
 use crate::licensed::answer_input;
 use plan::limits::Plan;
-use program::framing::BYTES;
 use program::output::LINE;
 use program::output::first_bytes;
 use program::output::write_text;
+use records::framing::BYTES;
 
 // The most bytes that are printed: the line of the claim, three lines, and one for each step.
 const TEXT: usize = LINE * (4 + Plan::STEPS);

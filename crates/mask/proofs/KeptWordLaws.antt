@@ -10,8 +10,10 @@ use lib.ListN.{length, getD, take, drop, length-take, length-drop}
 use lib.Seq.{drop-cons, drop-drop}
 use Rattle.reduction.specs.Reduction.{Reduction, kept}
 use Rattle.mask.specs.Mask.{word-bits, binary, words-of}
-use Rattle.mask.specs.between.Places.{ones-at, places, at-places}
-use Rattle.mask.proofs.MaskWordLaws.{ones-at-none, ones-at-kept, ones-at-struck}
+use Rattle.access.specs.between.Places.{ones-at, at-places}
+use Rattle.access.proofs.OnesLaws.{ones-at-none}
+use Rattle.mask.specs.between.Places.{places}
+use Rattle.mask.proofs.MaskWordLaws.{ones-at-kept, ones-at-struck}
 
 kept-none : (plan : List ℕ) → kept [] plan ≡ []
 unfolding kept

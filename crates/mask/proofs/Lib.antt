@@ -1,4 +1,4 @@
--- MaskWordLaws: a word by its binary digits, and its lowest one.
+-- MaskWordLaws: a word by its binary digits.
 pub mod MaskWordLaws
 -- LengthLaws: a mask has four words.
 pub mod LengthLaws
@@ -6,7 +6,7 @@ pub mod LengthLaws
 pub mod MaskLaws
 -- KeptWordLaws: what the words of a reduction keep.
 pub mod KeptWordLaws
--- WriteLaws: the turns of the loops that write out what words keep.
+-- WriteLaws: the turns of the loop that writes out what words keep.
 pub mod WriteLaws
 -- MaskTheorem: a mask tells a reduction bit by bit, by its ones, and by the list that is written out.
 pub mod MaskTheorem

@@ -7,13 +7,12 @@ use lib.ListN.{getD, take, drop}
 use lib.Dec.{eqb}
 use lib.Count.{ones}
 use Rattle.reduction.specs.Reduction.{Reduction}
+-- the bits of a word
+pub use Rattle.access.specs.Bits.{word-bits}
 
--- the words of a mask, and the bits of a word, stated here and nowhere else in the definitions
+-- the words of a mask, stated here and nowhere else in the definitions
 abbrev pub mask-length : ℕ
 mask-length = 4
-
-abbrev pub word-bits : ℕ
-word-bits = 64
 
 -- the most steps that a mask can tell
 abbrev pub mask-bits : ℕ

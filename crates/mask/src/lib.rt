@@ -1,15 +1,14 @@
 // A reduction of a plan as a mask of four words: made from flags, counted, and written out.
 use access::flag;
-use access::put;
-use access::word;
+use access::write_word;
 ghost use mathlib.Core.Path.{_≡_};
-ghost use Prim.Native.Nat.{_+_, _≤_};
+ghost use Prim.Native.Nat.{_≤_};
 ghost use mathlib.Core.Bool.{false};
 ghost use lib.ListN.{length, getD, take, drop};
 ghost use lib.Seq.{sets};
 ghost use lib.Count.{ones as ones-in};
 ghost use Rattle.mask.specs.Mask.{word-bits, mask-bits, digit as digit-of, binary, mask-words, ones-of, bit-up};
-ghost use Rattle.mask.specs.between.Places.{with-bit, ones-at, at-places, kept-by-words};
+ghost use Rattle.mask.specs.between.Places.{with-bit, kept-by-words};
 
 // Document 01's mask. Its words may hold any values.
 pub struct Mask {
@@ -96,24 +95,6 @@ pub fn mask_of(flags: &[bool]) -> Mask
             word_of(flags, 3 * Mask::BITS),
         ],
     }
-}
-
-// Writes the plan's words at the ones of a mask's word, whose lowest bit has place `from`, to `out` from index `at` on.
-// Returns the index after them.
-pub fn write_word(bits: u64, from: u32, plan: &[u32], out: &mut [u32], at: u32) -> usize
-    ensures { λ r. ⌜ (now (out .exit)
-        ≡ sets (now (out .entry)) at (at-places (now (plan .entry)) (ones-at from word-bits bits)))
-        × (r ≡ at + length (ones-at from word-bits bits)) ⌝ }
-{
-    let mut rest = bits;
-    let mut to = at as usize;
-    while rest != 0 {
-        let lowest = u64::trailing_zeros(rest);
-        put(out, to, word(plan, from as usize + lowest as usize));
-        rest -= 1 << lowest;
-        to += 1;
-    }
-    to
 }
 
 // Writes the plan's words at the ones of a mask to the front of `out`, in order; all other words stay. Returns how many

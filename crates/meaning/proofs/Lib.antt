@@ -1,17 +1,9 @@
--- HeldLaws: a group that bits and slots hold.
-pub mod HeldLaws
+-- RaiseLaws: a fact put into a group that bits and slots hold.
+pub mod RaiseLaws
 -- GatherLaws: facts put into a group that is held.
 pub mod GatherLaws
 -- SectionLaws: the numbers of a text by the cases and turns of the code.
 pub mod SectionLaws
--- LayLaws: parts stored among words with their pairs are the sheet.
-pub mod LayLaws
--- PartLaws: the parts that hold facts, by each way to a return.
-pub mod PartLaws
--- PartsLaws: all parts of a sheet, laid out one behind the other.
-pub mod PartsLaws
--- BuildLaws: the sheet as a whole, by each way to a return.
-pub mod BuildLaws
 -- OrderLaws: what it does to a group to put a fact into it in order.
 pub mod OrderLaws
 -- OrderTheorem: a group in order has the same facts, rising where they fit, and a task that passes the test for a sheet can be written as one.

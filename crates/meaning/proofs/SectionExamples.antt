@@ -5,7 +5,7 @@ use mathlib.Core.Bool.{true, false}
 use mathlib.Core.List.{List, [], _∷_, flatten}
 use Rattle.sas.specs.Task.{Fact, Task}
 use Rattle.sheet.specs.Decode.{table}
-use Rattle.sheet.specs.between.Encode.{encode, sheet-of, parts, action-part, body, pairs-of}
+use Rattle.sheet.specs.between.Encode.{first-edition, encode, sheet-of, parts, action-part, body, pairs-of}
 use Rattle.fields.specs.Numbers.{any-value}
 use Rattle.meaning.specs.Sections.{meaning, ranges, state, goal, actions-from, action-at, facts-at, fact-at}
 use Rattle.meaning.specs.Order.{ordered, ordered-action, put-in, insert}
@@ -39,7 +39,7 @@ unfolding meaning ranges state goal actions-from action-at facts-at fact-at tabl
 meanings = (refl, refl)
 
 -- the first four words; the pairs; the ranges, the starting values, the goal and the operators, each group of facts in rising order
-pub sheet : encode (ordered (meaning (tiny 1 1 1 1 3)))
+pub sheet : encode first-edition (ordered (meaning (tiny 1 1 1 1 3)))
     ≡ 1 ∷ 2 ∷ 2 ∷ 28 ∷ 14 ∷ 2 ∷ 16 ∷ 2 ∷ 18 ∷ 2 ∷ 20 ∷ 5 ∷ 25 ∷ 3
     ∷ 2 ∷ 3 ∷ 0 ∷ 0 ∷ 1 ∷ 257 ∷ 3 ∷ 2 ∷ 0 ∷ 256 ∷ 1 ∷ 5 ∷ 0 ∷ 258 ∷ []
 unfolding meaning ranges state goal actions-from action-at facts-at fact-at table encode sheet-of parts action-part body pairs-of flatten

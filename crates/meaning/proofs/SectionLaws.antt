@@ -5,8 +5,7 @@ use native.Mathlib.Omega.{arith}
 use mathlib.Core.Path.{_≡_, _∙_}
 use mathlib.Core.Bool.{Bool, true, false, _&&_}
 use mathlib.Core.List.{List, [], _∷_}
-use lib.ListN.{length, getD, set}
-use lib.Seq.{sets}
+use lib.ListN.{length, getD}
 use lib.Dec.{ltb, leb}
 use borrow.Author.Tests.{lt-ltb, le-ltb, le-leb, lt-leb, leb-true, eq-eqb, ne-eqb}
 use Rattle.refusal.proofs.PlaceLaws.{one-fewer, none-left}
@@ -69,13 +68,3 @@ range-low (r ∷ rs) (x ∷ s) (suc v) fits low =
 pub fit-small : (x : List ℕ) → variables x ≤ limits .variables → variables-fit (ranges x) (state x) ≡ true → Small x
 fit-small x few fits =
     record { few = few; low = λ v low. rw (← ranges-at x v low) (range-low (ranges x) (state x) v fits (omega (arith, ranges-length x))) }
-
--- what f gives at the numbers from k to n, copied among words
-module _ (f : ℕ → ℕ) (l : List ℕ) (at k n : ℕ) where
-  pub copied-all : n ≤ k → sets l (at + k) (table f k (n - k)) ≡ l
-  unfolding table
-  copied-all past = rw (none-left k n past)
-
-  pub copied-next : k < n → sets (set l (at + k) (f k)) (at + (k + 1)) (table f (k + 1) (n - (k + 1))) ≡ sets l (at + k) (table f k (n - k))
-  unfolding table
-  copied-next more = let next : at + (k + 1) ≡ suc (at + k) = omega arith in rw (one-fewer k n more, next)

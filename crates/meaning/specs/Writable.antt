@@ -7,7 +7,7 @@ use lib.ListN.{length, getD}
 use lib.Dec.{ltb, leb, eqb}
 use Rattle.sas.specs.Task.{Fact, Assignment, State, Action, Task}
 use Rattle.sheet.specs.Limits.{limits}
-use Rattle.sheet.specs.between.Encode.{encode}
+use Rattle.sheet.specs.between.Encode.{first-edition, encode}
 use Rattle.meaning.specs.Order.{insert, ordered}
 
 -- a fact of a variable that has a range, at a value in it
@@ -50,4 +50,4 @@ writable T =
     && (variables-fit (T .domains) (T .initial)
     && (group-fits (T .domains) (T .goal)
     && (actions-fit (T .domains) (T .actions)
-    && leb (length (encode (ordered T))) (limits .words))))))
+    && leb (length (encode first-edition (ordered T))) (limits .words))))))

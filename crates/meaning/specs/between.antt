@@ -1,5 +1,3 @@
 -- What stands between the code and the definitions to be believed: laws and theorems tie the two together.
--- Gathered: a group of facts as bits and slots hold it. Laid: parts of a sheet among words. Built: the whole sheet.
+-- Gathered: where facts stand among the numbers, and what the functions that gather them hand to each other.
 pub mod Gathered
-pub mod Laid
-pub mod Built

@@ -15,47 +15,47 @@ const EFFECT: usize = 4;
 // How far behind its variable a value stands: that of a fact, and of an effect the old value and the new one.
 const VALUE: usize = 1;
 
-pub(crate) const OLD: usize = 1;
+pub const OLD: usize = 1;
 
-pub(crate) const NEW: usize = 2;
+pub const NEW: usize = 2;
 
 // Where the metric stands, the number of variables, and the range of the first.
 const METRIC_AT: usize = 0;
 
 const VARIABLES_AT: usize = 1;
 
-pub(crate) const RANGES_AT: usize = 2;
+pub const RANGES_AT: usize = 2;
 
 // Where facts stand: in `count` lines of `wide` numbers each, the first variable at index `from`, and each value `on`
 // numbers behind its variable.
-pub(crate) struct Lines {
-    pub(crate) from: usize,
-    pub(crate) wide: usize,
-    pub(crate) on: usize,
-    pub(crate) count: usize,
+pub struct Lines {
+    pub from: usize,
+    pub wide: usize,
+    pub on: usize,
+    pub count: usize,
 }
 
 // The number at index i.
-pub(crate) fn number(x: &[u32], i: usize) -> usize
+pub fn number(x: &[u32], i: usize) -> usize
     ensures { λ r. ⌜ (r ≡ number-at (now (x .entry)) i) × (r < 2 ^ 32) ⌝ }
 {
     word(x, i) as usize
 }
 
-pub(crate) fn variables(x: &[u32]) -> usize
+pub fn variables(x: &[u32]) -> usize
     ensures { λ r. ⌜ (r ≡ variables-of (now (x .entry))) × (r < 2 ^ 32) ⌝ }
 {
     number(x, VARIABLES_AT)
 }
 
 // Where the number of goal facts stands, and that of operators.
-pub(crate) fn goal_at(x: &[u32]) -> usize
+pub fn goal_at(x: &[u32]) -> usize
     ensures { λ r. ⌜ (r ≡ goal-at (now (x .entry))) × (r < 2 ^ 34) ⌝ }
 {
     RANGES_AT + 2 * variables(x)
 }
 
-pub(crate) fn operators_at(x: &[u32]) -> usize
+pub fn operators_at(x: &[u32]) -> usize
     ensures { λ r. ⌜ (r ≡ operators-at (now (x .entry))) × (r < 2 ^ 35) ⌝ }
 {
     let goal = goal_at(x);
@@ -63,14 +63,14 @@ pub(crate) fn operators_at(x: &[u32]) -> usize
 }
 
 // Of the operator whose numbers begin at index i: where the number of its effects stands, and its cost.
-pub(crate) fn effects_at(x: &[u32], i: usize) -> usize
+pub fn effects_at(x: &[u32], i: usize) -> usize
     requires { ⌜ i ≤ far ⌝ }
     ensures { λ r. ⌜ (r ≡ effects-at (now (x .entry)) i) × (r < i + 2 ^ 34) ⌝ }
 {
     i + 1 + FACT * number(x, i)
 }
 
-pub(crate) fn cost_at(x: &[u32], i: usize) -> usize
+pub fn cost_at(x: &[u32], i: usize) -> usize
     requires { ⌜ i ≤ far ⌝ }
     ensures { λ r. ⌜ (r ≡ cost-at (now (x .entry)) i) × (r < i + 2 ^ 35) ⌝ }
 {
@@ -79,7 +79,7 @@ pub(crate) fn cost_at(x: &[u32], i: usize) -> usize
 }
 
 // What it costs: with metric 0 every operator costs 1.
-pub(crate) fn cost(x: &[u32], i: usize) -> u32
+pub fn cost(x: &[u32], i: usize) -> u32
     requires { ⌜ i ≤ far ⌝ }
     ensures { λ r. ⌜ r ≡ action-at (now (x .entry)) i .cost ⌝ }
 {
@@ -90,7 +90,7 @@ pub(crate) fn cost(x: &[u32], i: usize) -> u32
 }
 
 // The lines of facts whose number stands at index i: those of the goal, or of the prevail conditions.
-pub(crate) fn fact_lines(x: &[u32], i: usize) -> Lines
+pub fn fact_lines(x: &[u32], i: usize) -> Lines
     requires { ⌜ i ≤ far ⌝ }
     ensures { λ r. ⌜ (r ≡ fact-lines (now (x .entry)) i) × Near r ⌝ }
 {
@@ -104,7 +104,7 @@ pub(crate) fn fact_lines(x: &[u32], i: usize) -> Lines
 
 // The lines of the effects of the operator whose numbers begin at index i, each with the value `on` numbers behind its
 // variable.
-pub(crate) fn effect_lines(x: &[u32], i: usize, on: usize) -> Lines
+pub fn effect_lines(x: &[u32], i: usize, on: usize) -> Lines
     requires { ⌜ (i ≤ far) × (on ≤ 2) ⌝ }
     ensures { λ r. ⌜ (r ≡ effect-lines (now (x .entry)) i on) × Near r ⌝ }
 {

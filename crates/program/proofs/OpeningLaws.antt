@@ -10,15 +10,15 @@ use Rattle.refusal.specs.declared.Refusal.the-variants.{Length}
 use Rattle.refusal.specs.Refusal.{Told, told-refusal}
 use Rattle.sheet.specs.Decode.{table}
 use Rattle.sheet.proofs.TableLaws.{table-length, table-more, table-take, table-part}
-use Rattle.program.specs.declared.frame.Frame.{Frame}
-use Rattle.program.specs.declared.frame.Frame.the-variants.{Broken, Long, Whole}
+use Rattle.records.specs.declared.frame.Frame.{Frame}
+use Rattle.records.specs.declared.frame.Frame.the-variants.{Broken, Long, Whole}
 use Rattle.program.specs.declared.opened.Opened.the-variants as opened
-use Rattle.program.specs.Form.{word-at, unpacked, plan-words, further-words, input-form}
-use Rattle.program.specs.between.Needed.{most-words}
+use Rattle.records.specs.Form.{word-at, unpacked, plan-words, further-words, input-form}
+use Rattle.records.specs.between.Needed.{most-words}
 use Rattle.program.specs.Long.{long-refusal}
 use Rattle.program.specs.Opening.{Opening, Refused, Lodged, opening}
 use Rattle.program.specs.between.Found.{opening-of}
-use Rattle.program.proofs.FormLaws.{inside-limits, Record-there, Says, input-says}
+use Rattle.records.proofs.FormLaws.{inside-limits, End-there, Says, input-says}
 
 module _ (further : ℕ) (bytes : List ℕ) where
   pub opening-broken : input-form further bytes ≡ Broken → opening further bytes ≡ Refused (told-refusal Length)
@@ -81,7 +81,7 @@ module _ (bytes words : List ℕ) (room : ℕ) (roomy : most-words ≤ room) (un
   at-front Broken is = subst (At-front words) (sym (opening-broken 0 bytes is)) tt
   at-front (Long n) is = subst (At-front words) (sym (opening-long 0 bytes n is)) tt
   at-front (Whole n m end) is =
-      let there : Record-there 0 bytes n m end = rw is at (input-says 0 bytes) in
+      let there : End-there 0 bytes n m end = rw is at (input-says 0 bytes) in
       let (low, high) = inside-limits n (there .task .inside) in
       let task : length (unpacked bytes n) ≡ n = table-length (word-at bytes) 0 n in
       let plan : length (plan-words bytes n m) ≡ m = table-length (word-at bytes) (n + 1) m in

@@ -14,9 +14,9 @@ use Rattle.lines.specs.Lines.{line}
 use Rattle.lines.specs.Prints.{Prints}
 use Rattle.refusal.specs.Refusal.{Told}
 use Rattle.program.specs.between.Room.{line-room}
-use Rattle.program.specs.between.Needed.{bytes-to-read}
-use Rattle.program.proofs.FormLaws.{reads-header}
-use Rattle.program.proofs.FormTheorem.{still-needed}
+use Rattle.records.specs.between.Needed.{bytes-to-read}
+use Rattle.records.proofs.FormLaws.{reads-header}
+use Rattle.records.proofs.FormTheorem.{still-needed}
 use Rattle.program.specs.Printed.{refusal-line, Has-read, Has-done}
 use Rattle.program.specs.declared.input.Input.{Input}
 
@@ -76,9 +76,9 @@ module _ (text before after : List ℕ) (written : ℕ) (room : length text ≤ 
   rest-stays = rw (parts, all-written) (drop-append-seam text (drop (length text) before))
 
 -- a program that has read, and has printed its answer to what it has read
-pub has-done : (text : List ℕ → List ℕ) (bytes : List ℕ) (input : Input) (before after : List ℕ) (written room : ℕ) → room ≤ length before
-    → Has-read 0 1 bytes input → length (text (take (input .count) bytes)) ≤ room → Prints (text (take (input .count) bytes)) 0 before after written
-    → Has-done text bytes (record { input = input; written = written }) before after
-has-done text bytes input before after written room roomy read short prints =
+pub has-done : (further : ℕ) (text : List ℕ → List ℕ) (bytes : List ℕ) (input : Input) (before after : List ℕ) (written room : ℕ) → room ≤ length before
+    → Has-read further 1 bytes input → length (text (take (input .count) bytes)) ≤ room → Prints (text (take (input .count) bytes)) 0 before after written
+    → Has-done further text bytes (record { input = input; written = written }) before after
+has-done further text bytes input before after written room roomy read short prints =
     let fits : length (text (take (input .count) bytes)) ≤ length before = omega (arith, short, roomy) in
     record { read = read; printed = front-text _ before after written fits prints; others = rest-stays _ before after written fits prints }

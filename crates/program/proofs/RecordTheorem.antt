@@ -12,12 +12,12 @@ use Rattle.sheet.specs.Decode.{table}
 use Rattle.sheet.proofs.TableLaws.{table-at, table-take, table-part, table-nothing}
 use Rattle.sheet.proofs.Parts.{Measured, accepted-measured}
 use Rattle.plan.specs.Readable.{Readable}
-use Rattle.program.specs.declared.frame.Frame.the-variants.{Whole}
-use Rattle.program.specs.Form.{word-bytes, word-at, length-at, task-length, outside, input-form, unpacked, plan-words}
-use Rattle.program.specs.Bytes.{input-of, Word-sized, word}
+use Rattle.records.specs.declared.frame.Frame.the-variants.{Whole}
+use Rattle.records.specs.Form.{word-bytes, word-at, length-at, task-length, outside, input-form, unpacked, plan-words}
+use Rattle.records.specs.Bytes.{input-of, Word-sized, word}
 use Rattle.program.specs.Opening.{Lodged, opening}
-use Rattle.program.proofs.BytesTheorem.{bytes-read-back, all-bytes-length, sized-append}
-use Rattle.program.proofs.FormLaws.{form-whole, input-ends}
+use Rattle.records.proofs.BytesTheorem.{bytes-read-back, all-bytes-length, sized-append}
+use Rattle.records.proofs.FormLaws.{form-whole, input-ends}
 use Rattle.program.proofs.OpeningLaws.{opening-whole}
 
 module _ (w l : List ℕ) (sized : Word-sized w) (sized-list : Word-sized l) (readable : Readable w l) where

@@ -7,18 +7,18 @@ use mathlib.Core.List.{List, _++_}
 use lib.ListN.{length, take, length-append}
 use lib.Seq.{take-all}
 use Rattle.refusal.specs.Refusal.{Told}
-use Rattle.program.specs.declared.frame.Frame.{Frame}
-use Rattle.program.specs.declared.frame.Frame.the-variants.{Broken, Long, Whole}
-use Rattle.program.specs.Form.{record-form}
-use Rattle.program.specs.between.Needed.{bytes-to-read}
+use Rattle.records.specs.declared.frame.Frame.{Frame}
+use Rattle.records.specs.declared.frame.Frame.the-variants.{Broken, Long, Whole}
+use Rattle.records.specs.Form.{record-form}
+use Rattle.records.specs.between.Needed.{bytes-to-read}
 use Rattle.program.specs.Long.{long-refusal}
 use Rattle.program.specs.Opening.{Refused, opening}
 use Rattle.program.specs.Reply.{reply-further}
 use Rattle.program.specs.Printed.{Has-read, Read-from}
 use Rattle.program.specs.declared.input.Input.{Input}
-use Rattle.program.proofs.InputWordLaws.{words-stay}
-use Rattle.program.proofs.FormLaws.{input-from, input-runs-on, Task-there, form-says, whole-reads}
-use Rattle.program.proofs.FormTheorem.{settled, enough}
+use Rattle.records.proofs.InputWordLaws.{words-stay}
+use Rattle.records.proofs.FormLaws.{input-from, input-runs-on, Task-there, form-says, whole-reads}
+use Rattle.records.proofs.FormTheorem.{settled, enough}
 use Rattle.program.proofs.OpeningLaws.{opening-broken, opening-long}
 
 -- once all bytes that must be read are there, with one beyond the record, no further byte changes what is found

@@ -1,8 +1,5 @@
--- Form: little-endian words, and the form of a record and of an input. Bytes: words as bytes. Long: the refusal of a
--- plan that is too long to be read. Opening: what a program finds of its input. Reply: what it answers to it. Printed:
--- what it prints of a tally and of a refusal, and what it has read and printed.
-pub mod Form
-pub mod Bytes
+-- Long: the refusal of a plan that is too long to be read. Opening: what a program finds of its input. Reply: what it
+-- answers to it. Printed: what it prints of a tally and of a refusal, and what it has read and printed.
 pub mod Long
 pub mod Opening
 pub mod Reply

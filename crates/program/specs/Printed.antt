@@ -11,7 +11,7 @@ use Rattle.refusal.specs.Refusal.{Told}
 use Rattle.tally.specs.declared.Tally.{Tally}
 use Rattle.program.specs.declared.input.Input.{Input}
 use Rattle.program.specs.declared.input.Done.{Done}
-use Rattle.program.specs.between.Needed.{bytes-to-read}
+use Rattle.records.specs.between.Needed.{bytes-to-read}
 
 -- a line of a word, and the steps and the price of a tally
 abbrev pub tally-line : List ℕ → Tally → List ℕ
@@ -28,10 +28,11 @@ pub record Has-read (further beyond : ℕ) (bytes : List ℕ) (input : Input) : 
   pub enough : input .ended ≡ false → bytes-to-read further beyond (take (input .count) bytes) ≤ input .count
   pub short : input .ended ≡ true → input .count < bytes-to-read further beyond (take (input .count) bytes)
 
--- what a program that prints this text of its input has done: what it has read, and its answer, which is the text of
--- the bytes read; every other byte is as it was
-pub record Has-done (text : List ℕ → List ℕ) (bytes : List ℕ) (done : Done) (before after : List ℕ) : Type 0 where
-  pub read : Has-read 0 1 bytes (done .input)
+-- what a program that reads so many further words behind the plan, and prints this text of its input, has done: what it
+-- has read, and its answer, which is the text of the bytes read; every other byte is as it was
+pub record Has-done (further : ℕ) (text : List ℕ → List ℕ) (bytes : List ℕ) (done : Done) (before after : List ℕ)
+    : Type 0 where
+  pub read : Has-read further 1 bytes (done .input)
   pub printed : take (done .written) after ≡ text (take (done .input .count) bytes)
   pub others : drop (done .written) after ≡ drop (done .written) before
 

@@ -1,5 +1,4 @@
 -- What stands between the code and the definitions to be believed: laws and theorems tie the two together.
--- Found: what the code finds of its input. Needed: how many bytes must be read. Room: how many bytes a line takes.
+-- Found: what the code finds of its input. Room: how many bytes a line takes.
 pub mod Found
-pub mod Needed
 pub mod Room

@@ -1,8 +1,8 @@
 // The reading of standard input, in stages, so that a program never waits for bytes that it does not need.
-use crate::framing::WORDS;
-use crate::framing::bytes_to_read;
-use crate::word::WORD;
 use libc::STDIN_FILENO;
+use records::framing::WORDS;
+use records::framing::bytes_to_read;
+use records::word::WORD;
 ghost use Rattle.program.specs.Printed.{Has-read};
 
 // How many bytes have been read, and whether the input ended before all that were asked for.

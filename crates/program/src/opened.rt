@@ -1,15 +1,15 @@
 // What a program finds of its input before it answers.
-use crate::frame::Frame;
-use crate::framing::frame_input;
 use crate::long::refuse_long;
-use crate::unpack::unpack;
 use access::front;
+use records::frame::Frame;
+use records::framing::frame_input;
+use records::unpack::unpack;
 use refusal::Refusal;
 ghost use mathlib.Core.Path.{_≡_};
 ghost use Prim.Native.Nat.{_+_, _≤_};
 ghost use lib.ListN.{length};
-ghost use Rattle.program.specs.Form.{unpacked};
-ghost use Rattle.program.specs.between.Needed.{most-words};
+ghost use Rattle.records.specs.Form.{unpacked};
+ghost use Rattle.records.specs.between.Needed.{most-words};
 ghost use Rattle.program.specs.Opening.{opening};
 ghost use Rattle.program.specs.between.Found.{opening-of};
 

@@ -1,8 +1,8 @@
 // Words as bytes.
-use crate::word::BYTE;
 use lines::put_text;
-ghost use Rattle.program.specs.Form.{word-bytes};
-ghost use Rattle.program.specs.Bytes.{bytes-of, all-bytes};
+use records::word::BYTE;
+ghost use Rattle.records.specs.Form.{word-bytes};
+ghost use Rattle.records.specs.Bytes.{bytes-of, all-bytes};
 ghost use Rattle.lines.specs.Prints.{Prints};
 
 // Puts a word, its lowest byte first.

@@ -14,6 +14,7 @@ use borrow.Author.Tests.{not-true}
 use Rattle.sas.specs.Task.{Fact, Assignment, State, Action, idle}
 use Rattle.sas.specs.Plan.{holds, applicable, apply, needed, written, needs}
 use Rattle.sas.specs.between.WellFormed.{Plain}
+use Rattle.sas.proofs.FactLaws.{all-satisfied}
 use Rattle.sas.proofs.WellFormedLaws.{Actions-plain}
 use Rattle.sas.proofs.ActionLaws.{applicable-needed, apply-length}
 use Rattle.reduction.specs.Reduction.{Reduction, whole, valid-for, Valid-for, meets, Before}
@@ -26,7 +27,7 @@ use Rattle.reduction.specs.between.Course.{held-after, held, On-course}
 use Rattle.reduction.proofs.ReductionLaws.{whole-valid, contains-behind, alike-behind}
 use Rattle.reduction.proofs.MemberLaws.{found, has-member, member-has, has-no-member}
 use Rattle.reduction.proofs.WantedLaws.{wanted-holds, wanted-before, first-wanted}
-use Rattle.reduction.proofs.HeldLaws.{all-satisfied, run-length, each-step, apply-held, held-more, held-kept, held-struck, held-alike}
+use Rattle.reduction.proofs.HeldLaws.{run-length, each-step, apply-held, held-more, held-kept, held-struck, held-alike}
 use Rattle.reduction.proofs.BeforeLaws.{before-first, rest-valid, before-next}
 use Rattle.reduction.proofs.TurnLaws.{turns, strike-flagged, keep-goes-on}
 use Rattle.reduction.proofs.SearchTheorem.{struck-visited, done-visited}

@@ -1,22 +1,21 @@
 -- Whether a fact holds after an action is told by whether it held before: what the action writes holds, a fact of a variable that it sets otherwise does not,
--- and every other one is as before. So what a search has decided before an index tells which facts hold there. This is of plain actions alone. An assignment
--- all of whose facts hold is satisfied, a run keeps the number of variables, and what holds of each action of a plan holds of the one at an
--- index. By the laws of `apply`, and by list induction. Assumes nothing.
+-- and every other one is as before. So what a search has decided before an index tells which facts hold there. This is of plain actions alone. A run
+-- keeps the number of variables, and what holds of each action of a plan holds of the one at an index. By the laws of `apply`, and by list induction. Assumes nothing.
 use Prim.Native.Nat.{ℕ, zero, suc, _<_}
 use native.Mathlib.Omega.{arith}
 use mathlib.Core.Path.{_≡_, refl, sym, _∙_, ap}
 use mathlib.Core.Logic.{⊎-elim}
 use mathlib.Core.Bool.{Bool, true, false, true≢false, not, _&&_, _||_, and-eq-true-iff, or-true}
 use mathlib.Core.Option.{some}
-use mathlib.Core.List.{List, [], _∷_, List·Memᴰ, List·Memᴰ·head, List·Memᴰ·tail, Memᴰ·cast}
+use mathlib.Core.List.{List, [], _∷_, List·Memᴰ, List·Memᴰ·head, Memᴰ·cast}
 use lib.ListN.{length, getD, take}
 use lib.Seq.{drop-cons, take-take}
 use lib.Dec.{eqb}
 use borrow.Author.Tests.{eqb-true, eq-eqb}
-use Rattle.sas.specs.Task.{Fact, Assignment, State, Action, idle}
-use Rattle.sas.specs.Plan.{holds, satisfies, apply, run, written, may-write}
+use Rattle.sas.specs.Task.{Fact, State, Action, idle}
+use Rattle.sas.specs.Plan.{holds, apply, run, written, may-write}
 use Rattle.sas.specs.between.WellFormed.{Plain}
-use Rattle.sas.proofs.FactLaws.{holds-value, satisfies-nothing, satisfies-more}
+use Rattle.sas.proofs.FactLaws.{holds-value}
 use Rattle.sas.proofs.WellFormedLaws.{plain-known, each-behind}
 use Rattle.sas.proofs.ActionLaws.{result-assigned, apply-length, apply-other, apply-holds}
 use Rattle.sas.proofs.RunLaws.{run-end, run-first}
@@ -26,11 +25,6 @@ use Rattle.reduction.specs.between.Wanted.{has}
 use Rattle.reduction.specs.between.Course.{touches, held-after, held}
 use Rattle.reduction.proofs.ReductionLaws.{alike-before}
 use Rattle.reduction.proofs.MemberLaws.{or-cases, found, found-passes, has-member, has-no-member}
-
--- an assignment all of whose facts hold is satisfied
-pub all-satisfied : (s : State) (q : Assignment) → ((f : Fact) → List·Memᴰ f q → holds s f ≡ true) → satisfies s q ≡ true
-all-satisfied s [] h = satisfies-nothing s
-all-satisfied s (f ∷ q) h = satisfies-more s f q (h f (List·Memᴰ·head refl)) ∙ all-satisfied s q (λ g m. h g (List·Memᴰ·tail m))
 
 -- a run keeps the number of variables
 pub run-length : {t : State} (s : State) (p : List Action) → run s p ≡ some t → length t ≡ length s

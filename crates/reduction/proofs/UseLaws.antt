@@ -15,7 +15,7 @@ use borrow.Author.Tests.{eqb-true, eqb-false, not-true, not-false}
 use Rattle.sas.specs.Task.{Fact, Assignment, State, Action, idle}
 use Rattle.sas.specs.Plan.{holds, applicable, apply, needed, written, may-write, needs}
 use Rattle.sas.specs.between.WellFormed.{Plain}
-use Rattle.sas.proofs.FactLaws.{satisfied-holds}
+use Rattle.sas.proofs.FactLaws.{satisfied-holds, all-satisfied}
 use Rattle.sas.proofs.WellFormedLaws.{Actions-plain, each-behind}
 use Rattle.sas.proofs.ActionLaws.{result-applied, applicable-needed, needed-holds, apply-length, written-or-held}
 use Rattle.sas.proofs.RunLaws.{run-nothing}
@@ -28,7 +28,7 @@ use Rattle.reduction.specs.between.Sound.{Flags-kept, Visited, Cut, Lack
 use Rattle.reduction.specs.between.Cuts.{wanted-held, needed-in, useful, unless-flagged, tests}
 use Rattle.reduction.proofs.ValidLaws.{runs-valid, valid-end}
 use Rattle.reduction.proofs.MemberLaws.{or-neither, found, found-passes, member-has}
-use Rattle.reduction.proofs.HeldLaws.{all-satisfied, run-length, apply-held, held-more}
+use Rattle.reduction.proofs.HeldLaws.{run-length, apply-held, held-more}
 use Rattle.reduction.proofs.BeforeLaws.{completed-valid}
 use Rattle.reduction.proofs.WinsLaws.{not-lower-through}
 use Rattle.reduction.proofs.MinimalTheorem.{struck-valid, kept-valid, valid-struck, valid-kept}

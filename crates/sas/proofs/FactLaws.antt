@@ -86,3 +86,8 @@ satisfies-rest s f q h = sym (satisfies-more s f q (satisfies-first s f q h)) �
 pub satisfied-holds : {f : Fact} {q : Assignment} (s : State) → satisfies s q ≡ true → List·Memᴰ f q → holds s f ≡ true
 satisfied-holds s h (List·Memᴰ·head {x = g} {xs = q} e) = rw e (satisfies-first s g q h)
 satisfied-holds s h (List·Memᴰ·tail {x = g} {xs = q} m) = satisfied-holds s (satisfies-rest s g q h) m
+
+-- an assignment all of whose facts hold is satisfied
+pub all-satisfied : (s : State) (q : Assignment) → ((f : Fact) → List·Memᴰ f q → holds s f ≡ true) → satisfies s q ≡ true
+all-satisfied s [] h = satisfies-nothing s
+all-satisfied s (f ∷ q) h = satisfies-more s f q (h f (List·Memᴰ·head refl)) ∙ all-satisfied s q (λ g m. h g (List·Memᴰ·tail m))

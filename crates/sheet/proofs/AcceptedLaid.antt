@@ -7,7 +7,7 @@ use mathlib.Core.List.{List, _∷_, _++_, map}
 use lib.ListN.{length, getD, length-append, length-map, List·getD-map}
 use Rattle.sheet.specs.Layout.{word, variables, actions, pairs, pairs-end, offset, size, part-end, goal-start, goal-end, precondition-count, precondition-start, effect-start, effect-end}
 use Rattle.sheet.specs.Decode.{table, fact-of, facts, domains, initial, goal, action, task}
-use Rattle.sheet.specs.between.Encode.{fact-word, fact-words, action-part, parts}
+use Rattle.sheet.specs.between.Encode.{fact-word, fact-words, first-edition, action-part, parts}
 use Rattle.sheet.specs.Causes.{Accepted}
 use Rattle.sheet.proofs.TableLaws.{table-length, table-at, facts-length}
 use Rattle.sheet.proofs.Parts.{first-part, next-part, last-part, domains-size, initial-size, effect-inside}
@@ -48,7 +48,7 @@ module _ (w : List ℕ) (accepted : Accepted w) where
         stands = facts-stand w (goal-start w) (goal-end w);
       }
 
-  action-told : (a : ℕ) → a < actions w → Part w (3 + a) (offset w (3 + a)) (action-part (action w a))
+  action-told : (a : ℕ) → a < actions w → Part w (3 + a) (offset w (3 + a)) (action-part first-edition (action w a))
   unfolding action action-part
   action-told a h =
       let before : List ℕ = fact-words (action w a .precondition) in
@@ -80,13 +80,13 @@ module _ (w : List ℕ) (accepted : Accepted w) where
         ends = λ none. let last : k ≡ 2 + actions w = omega arith in sym end ∙ rw last (last-part w accepted);
       }))
 
-  actions-laid : (n k a from : ℕ) → k ≡ 3 + a → a + n ≡ actions w → Next k from → Laid w k from (map action-part (table (action w) a n))
+  actions-laid : (n k a from : ℕ) → k ≡ 3 + a → a + n ≡ actions w → Next k from → Laid w k from (map (action-part first-edition) (table (action w) a n))
   unfolding table
   actions-laid zero k a from e number here = over (here .ends (omega arith))
   actions-laid (suc n) k a from e number here =
       lay here (omega arith) (rw e (action-told a (omega arith))) (actions-laid n (k + 1) (a + 1) _ (omega arith) (omega arith))
 
-  pub accepted-laid : Laid w 0 (pairs-end w) (parts (task w))
+  pub accepted-laid : Laid w 0 (pairs-end w) (parts first-edition (task w))
   unfolding parts task domains initial
   accepted-laid =
       let start : Next 0 (pairs-end w) = record { begins = λ some. first-part w accepted; ends = λ none. absurd (omega arith) } in

@@ -13,7 +13,7 @@ use Rattle.sas.proofs.WellFormedLaws.{rising-known}
 use Rattle.sheet.specs.Limits.{limits}
 use Rattle.sheet.specs.Layout.{word, variables, actions, offset, goal-start, goal-end, cost-word, precondition-count, precondition-start, effect-start, effect-end}
 use Rattle.sheet.specs.Decode.{table, fact-of, facts, domains, initial, goal, action, task}
-use Rattle.sheet.specs.between.Encode.{fact-word, fact-words, action-part, parts, Encodable}
+use Rattle.sheet.specs.between.Encode.{fact-word, fact-words, first-edition, action-part, parts, Encodable}
 use Rattle.sheet.proofs.TableLaws.{table-length, table-at, facts-over, facts-next}
 use Rattle.sheet.proofs.LaidLaws.{Stands, stands-first, stands-second, Part, Laid}
 use Rattle.sheet.proofs.LaidLaws.Laid.{then}
@@ -40,7 +40,7 @@ variables-read w l k n told e = ext-getD 0 (table read 0 n) l (table-length read
         let here : v < n = rw table-length at h in
         table-at read 0 n v v 0 here (omega arith) ∙ told .stands .reads v _ (omega (arith, told .in-place)) (omega arith)
 
-module _ (w : List ℕ) (T : Task) (writable : Encodable T) where
+module _ (w : List ℕ) (T : Task) (writable : Encodable first-edition T) where
   facts-read : (q : Assignment) (i end : ℕ) → ((f : Fact) → List·Memᴰ f q → Known (T .domains) f) → Stands w i (fact-words q) → end ≡ i + length q
       → facts w i end ≡ q
   facts-read [] i end known s e = facts-over w i end (omega arith)
@@ -52,7 +52,7 @@ module _ (w : List ℕ) (T : Task) (writable : Encodable T) where
       facts-next w i end (omega arith) ∙ rw (here, fact-of-word f small, facts-read q (i + 1) end (λ g m. known g (List·Memᴰ·tail m)) next (omega arith))
 
   -- action a is the one whose part pair 3 + a has
-  action-read : {from : ℕ} (a : ℕ) (x : Action) → Action-formed (T .domains) x → Part w (3 + a) from (action-part x) → action w a ≡ x
+  action-read : {from : ℕ} (a : ℕ) (x : Action) → Action-formed (T .domains) x → Part w (3 + a) from (action-part first-edition x) → action w a ≡ x
   unfolding action action-part written
   action-read {from} a x formed told =
       let count : ℕ = length (x .precondition) in
@@ -73,7 +73,7 @@ module _ (w : List ℕ) (T : Task) (writable : Encodable T) where
       )
 
   actions-read : {from : ℕ} (k a : ℕ) (p : List Action) → k ≡ 3 + a → ((x : Action) → List·Memᴰ x p → Action-formed (T .domains) x)
-      → Laid w k from (map action-part p) → table (action w) a (length p) ≡ p
+      → Laid w k from (map (action-part first-edition) p) → table (action w) a (length p) ≡ p
   unfolding table
   actions-read k a [] e formed laid = refl
   actions-read k a (x ∷ p) e formed (then told rest) =
@@ -81,7 +81,7 @@ module _ (w : List ℕ) (T : Task) (writable : Encodable T) where
       rw (here, actions-read (k + 1) (a + 1) p (omega arith) (λ y m. formed y (List·Memᴰ·tail m)) rest)
 
   -- words among which the parts of a task are laid out mean that task
-  pub task-read : {from : ℕ} → variables w ≡ length (T .domains) → actions w ≡ length (T .actions) → Laid w 0 from (parts T) → task w ≡ T
+  pub task-read : {from : ℕ} → variables w ≡ length (T .domains) → actions w ≡ length (T .actions) → Laid w 0 from (parts first-edition T) → task w ≡ T
   unfolding task domains initial goal parts
   task-read many number (then first (then second (then third rest))) =
       let formed : Well-formed T = writable .well-formed in

@@ -18,7 +18,7 @@ use Rattle.sas.specs.between.WellFormed.Rising.{empty, fact}
 use Rattle.sheet.specs.Limits.{limits}
 use Rattle.sheet.specs.Layout.{word, edition, variables, actions, stated-length, pairs, pairs-end, offset, size, part-end, domain, start}
 use Rattle.sheet.specs.Decode.{fact-of, facts, domains, initial, goal, action, task}
-use Rattle.sheet.specs.between.Encode.{Encodable}
+use Rattle.sheet.specs.between.Encode.{first-edition, Encodable}
 use Rattle.sheet.specs.Causes.{bad-length, bad-edition, bad-counts, due, wrong-size, bad-pair, pair-place, bad-variable, variable-place, bad-fact, group-place, action-place, fact-place, cost-place, sheet-checks, Accepted}
 use Rattle.sheet.proofs.TableLaws.{table-at, facts-length, facts-next}
 use Rattle.sheet.proofs.PairLaws.{due-first, due-later, pairs-fit}
@@ -149,7 +149,7 @@ unfolding group-place
 whole-clear w start end rising = group-clear w start start end rising refl (λ h. absurd (omega arith))
 
 -- words of edition 1 that are measured, whose pairs fit, and that mean a task that can be written, are accepted
-module _ (w : List ℕ) (writable : Encodable (task w)) where
+module _ (w : List ℕ) (writable : Encodable first-edition (task w)) where
   variable-clear : (v : ℕ) → v < variables w → bad-variable w v ≡ false
   unfolding bad-variable task initial
   variable-clear v h =

@@ -14,7 +14,7 @@ use Rattle.plan.proofs.PlanLaws.{steps-formed}
 use Rattle.landmark.specs.Marks.{unmarked}
 use Rattle.minimal.specs.Minimised.{most-unmarked, minimal-of}
 use Rattle.minimal.proofs.DemandThree.{is-minimal, plan-left, few-pass, many-refused}
-use Rattle.program.specs.Bytes.{input-of, Word-sized}
+use Rattle.records.specs.Bytes.{input-of, Word-sized}
 use Rattle.program.specs.Printed.{refusal-line, Has-read, Read-from}
 use Rattle.program.specs.declared.input.Input.{Input}
 use Rattle.program.specs.Reply.{reply-further}

@@ -12,7 +12,7 @@ use Rattle.reduction.specs.Minimal.{Minimal-reduction}
 use Rattle.landmark.specs.Marks.{unmarked}
 use Rattle.minimal.specs.Minimised.{most-unmarked}
 use Rattle.minimal.specs.Statement.{Is-marked, Valid-striking}
-use Rattle.program.specs.Bytes.{input-of, Word-sized}
+use Rattle.records.specs.Bytes.{input-of, Word-sized}
 use Rattle.program.specs.Printed.{refusal-line}
 use Rattle.report.specs.Report.{report}
 use Rattle.shorten.specs.Shorten.{printed}

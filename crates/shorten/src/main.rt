@@ -5,10 +5,10 @@ mod shortened;
 
 use crate::shortened::answer_input;
 use plan::limits::Plan;
-use program::framing::BYTES;
 use program::output::LINE;
 use program::output::first_bytes;
 use program::output::write_text;
+use records::framing::BYTES;
 
 // The most bytes that are printed: three lines, and one for each step.
 const TEXT: usize = LINE * (3 + Plan::STEPS);

@@ -1,13 +1,13 @@
 // What the program prints for the bytes of its input, put into lent bytes.
 use access::front;
-use program::framing::ALONE;
-use program::framing::WORDS;
 use program::input::Done;
 use program::input::read;
 use program::opened::Opened;
 use program::opened::open_input;
 use program::output::put_refusal;
 use program::parts::plan_part;
+use records::framing::ALONE;
+use records::framing::WORDS;
 use report::shortened::put_shortened;
 ghost use Prim.Native.Nat.{_≤_};
 ghost use lib.ListN.{length};
@@ -35,7 +35,7 @@ fn shorten_input(bytes: &[u8], out: &mut [u8]) -> usize
 // Reads the input to the front of `bytes`, and puts what is printed for it to the front of `out`.
 pub(crate) fn answer_input(bytes: &mut [u8], out: &mut [u8]) -> Done
     requires { ⌜ report-room ≤ length (now out) ⌝ }
-    ensures { λ r. ⌜ Has-done printed (now (bytes .exit)) r (now (out .entry)) (now (out .exit)) ⌝ }
+    ensures { λ r. ⌜ Has-done 0 printed (now (bytes .exit)) r (now (out .entry)) (now (out .exit)) ⌝ }
 {
     let input = read(bytes, 0, ALONE);
     let n = input.count;

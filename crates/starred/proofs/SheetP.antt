@@ -5,7 +5,7 @@ use mathlib.Core.Path.{_≡_, refl}
 use mathlib.Core.List.{[], _∷_, flatten}
 use Rattle.sas.specs.Task.{Fact, Task}
 use Rattle.sheet.specs.Decode.{table, facts, domains, initial, goal, action, task}
-use Rattle.sheet.specs.between.Encode.{action-part, parts, pairs-of, body, sheet-of, encode, Encodable}
+use Rattle.sheet.specs.between.Encode.{first-edition, action-part, parts, pairs-of, body, sheet-of, encode, Encodable}
 use Rattle.sheet.proofs.EncodeTheorem.{accepted-encodable}
 use Rattle.starred.specs.Sheets.{sheet-p}
 use Rattle.starred.proofs.Starred.{starred}
@@ -35,7 +35,7 @@ task-p =
       goal = gate 0 ∷ basin 1 ∷ [];
     }
 
-pub encodes : encode task-p ≡ sheet-p
+pub encodes : encode first-edition task-p ≡ sheet-p
 unfolding encode sheet-of body pairs-of parts action-part flatten
 encodes = refl
 
@@ -43,5 +43,5 @@ pub decodes : task sheet-p ≡ task-p
 unfolding task domains initial goal action facts table
 decodes = refl
 
-pub encodable : Encodable task-p
+pub encodable : Encodable first-edition task-p
 encodable = rw decodes at (accepted-encodable sheet-p (starred .0 .0))

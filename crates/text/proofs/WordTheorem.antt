@@ -7,11 +7,11 @@ use mathlib.Core.List.{List, [], _∷_}
 use lib.ListN.{length}
 use lib.Dec.{ltb}
 use borrow.Author.Tests.{ltb-true}
-use Rattle.program.specs.Form.{unpacked}
+use Rattle.records.specs.Form.{unpacked}
 use Rattle.ascii.specs.Bytes.{all-digits, decimal-from}
 use Rattle.text.specs.Text.{Field, word-from, word-of, Reading, Words, NoWord, NoRoom, Long, in-front, read, reading}
-use Rattle.program.specs.Bytes.{all-bytes, Word-sized, nothing, word}
-use Rattle.program.proofs.BytesTheorem.{bytes-read-back}
+use Rattle.records.specs.Bytes.{all-bytes, Word-sized, nothing, word}
+use Rattle.records.proofs.BytesTheorem.{bytes-read-back}
 
 -- what a reading finds is words
 abbrev Fine : Reading → Type 0

@@ -1,6 +1,6 @@
 -- How long a text is. Assumes nothing.
 use Prim.Native.Nat.{ℕ, _+_}
-use Rattle.program.specs.between.Needed.{most-words}
+use Rattle.records.specs.between.Needed.{most-words}
 
 -- the most words of a text, one more than input that is whole has
 abbrev pub most : ℕ

@@ -1,5 +1,5 @@
 // How long a text is. specs/Limits.antt has the same for the definitions.
-use program::framing::WORDS;
+use records::framing::WORDS;
 
 // The most words of a text: one more than input that is whole has, so that a program which reads them still sees that
 // they run on.

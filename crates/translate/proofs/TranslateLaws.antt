@@ -12,7 +12,7 @@ use Rattle.refusal.specs.declared.Refusal.{Refusal}
 use Rattle.refusal.specs.Refusal.{told-refusal}
 use Rattle.refusal.specs.Check.{answer}
 use Rattle.sheet.specs.Limits.{limits}
-use Rattle.program.specs.Bytes.{all-bytes}
+use Rattle.records.specs.Bytes.{all-bytes}
 use Rattle.program.specs.Printed.{refusal-line}
 use Rattle.program.specs.between.Room.{line-room}
 use Rattle.translate.specs.declared.answer.Answered.{Answered}

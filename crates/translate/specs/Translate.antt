@@ -8,7 +8,7 @@ use Rattle.ascii.specs.Bytes.{ascii}
 use Rattle.refusal.specs.Refusal.{Told}
 use Rattle.refusal.specs.Check.{answer}
 use Rattle.sheet.specs.Limits.{limits}
-use Rattle.program.specs.Bytes.{all-bytes}
+use Rattle.records.specs.Bytes.{all-bytes}
 use Rattle.program.specs.Printed.{refusal-line}
 use Rattle.translate.specs.Answer.{Answer, only-writes, only-says}
 use Rattle.translation.specs.Translation.{text-sheet, translation-checks}

@@ -9,7 +9,7 @@ use crate::answer::give;
 use crate::translate::translate_input;
 use form::limits::TEXT;
 use program::output::LINE;
-use program::word::WORD;
+use records::word::WORD;
 use sheet::limits::Sheet;
 ghost use mathlib.Core.Path.{_≡_};
 ghost use Prim.Native.Nat.{_+_};

@@ -17,18 +17,19 @@ use Rattle.sas.specs.Task.{Task}
 use Rattle.sheet.specs.Limits.{limits}
 use Rattle.sheet.specs.Decode.{task}
 use Rattle.sheet.specs.Causes.{Accepted}
-use Rattle.sheet.specs.between.Encode.{encode, Encodable}
+use Rattle.sheet.specs.between.Encode.{first-edition, encode, Encodable}
 use Rattle.sheet.proofs.EncodeTheorem.{encode-decodes, encode-accepted}
 use Rattle.sheet.proofs.TableLaws.{table-length}
 use Rattle.form.specs.Form.{most-bytes, walked, whole, broken-line, unsupported-line, numbers-of}
-use Rattle.form.specs.between.Reading.{Outcome, barred-at, text-outcome, found-in}
+use Rattle.form.specs.between.Reading.{Outcome, barred-at}
 use Rattle.form.specs.between.Reading.Outcome.{Broken, Whole}
-use Rattle.meaning.specs.declared.build.Built.{Built}
+use Rattle.text_sections.specs.between.Outcome.{text-outcome, found-in}
+use Rattle.task_sheet.specs.declared.build.Built.{Built}
 use Rattle.meaning.specs.Sections.{variables, range-of, starting, ranges, state, meaning}
 use Rattle.meaning.specs.Order.{ordered}
 use Rattle.meaning.specs.Writable.{writable}
-use Rattle.meaning.specs.between.Built.{Builds}
-use Rattle.meaning.proofs.LayLaws.{front-stored}
+use Rattle.task_sheet.specs.between.Built.{Builds}
+use Rattle.sheet_writer.proofs.SheetLaws.{front-stored}
 use Rattle.meaning.proofs.OrderTheorem.{writable-fits, writable-encodable}
 use Rattle.translation.specs.declared.translate.Translated.{Translated}
 use Rattle.translation.specs.declared.translate.Translated.the-variants.{Refused, Written}
@@ -39,7 +40,7 @@ use Rattle.translation.proofs.OrderedLaws.{task-in-order}
 -- the checks of the task
 module _ (x : List ℕ) (room : ℕ) where
   abbrev words-needed : ℕ
-  words-needed = length (encode (ordered (meaning x)))
+  words-needed = length (encode first-edition (ordered (meaning x)))
 
   told-unwritable : writable (meaning x) ≡ false → some (record { number = 15; place = 0 }) ≡ answer (task-checks x room)
   unfolding answer task-checks
@@ -55,11 +56,11 @@ module _ (x : List ℕ) (room : ℕ) where
 
 -- the sheet of a task that can be written, at the front of lent words
 module _ (T : Task) (complete : length (T .initial) ≡ length (T .domains)) (fits : writable T ≡ true) where
-  sheet-written : (before after : List ℕ) (n : ℕ) → n ≡ length (encode (ordered T)) → n ≤ length before
-      → after ≡ sets before 0 (encode (ordered T)) → Writes-sheet T before n after
+  sheet-written : (before after : List ℕ) (n : ℕ) → n ≡ length (encode first-edition (ordered T)) → n ≤ length before
+      → after ≡ sets before 0 (encode first-edition (ordered T)) → Writes-sheet T before n after
   sheet-written before after n counted room stored =
-      let s : List ℕ = encode (ordered T) in
-      let can : Encodable (ordered T) = writable-encodable T complete fits in
+      let s : List ℕ = encode first-edition (ordered T) in
+      let can : Encodable first-edition (ordered T) = writable-encodable T complete fits in
       let long : length s ≤ length before = rw counted at room in
       let front : take n after ≡ s = ap (take n) stored ∙ ap (λ k. take k (sets before 0 s)) counted ∙ front-stored s before long in
       let same : 0 + length s ≡ n = omega arith in
@@ -206,7 +207,7 @@ module _ {x sheet sheet′ : List ℕ} {b : Built} (builds : Builds x sheet shee
     writes-sheet room fit after stored =
         let needed : b .words ≡ words-needed x (length before) = builds .words fits in
         let small : b .words ≤ length sheet = omega (arith, writable-fits (meaning x) can .words) in
-        let words : take (b .words) sheet′ ≡ encode (ordered (meaning x)) = builds .written fits small in
+        let words : take (b .words) sheet′ ≡ encode first-edition (ordered (meaning x)) = builds .written fits small in
         record {
           answers = told-none x (length before) can (rw needed at fit);
           leaves = sheet-written (meaning x) (complete x) can before after (b .words) needed fit (stored ∙ ap (sets before 0) words);

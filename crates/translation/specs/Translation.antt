@@ -13,7 +13,7 @@ use Rattle.sas.specs.Task.{Fact, Assignment, Action, Task}
 use Rattle.sas.specs.between.WellFormed.{Rising}
 use Rattle.sheet.specs.Decode.{task}
 use Rattle.sheet.specs.Causes.{Accepted}
-use Rattle.sheet.specs.between.Encode.{encode}
+use Rattle.sheet.specs.between.Encode.{first-edition, encode}
 use Rattle.form.specs.Form.{most-bytes, broken-line, unsupported-line, numbers-of}
 use Rattle.meaning.specs.Sections.{meaning}
 use Rattle.meaning.specs.Order.{ordered}
@@ -26,7 +26,7 @@ abbrev pub text-task : List ℕ → Task
 text-task text = meaning (numbers-of text)
 
 abbrev pub text-sheet : List ℕ → List ℕ
-text-sheet text = encode (ordered (text-task text))
+text-sheet text = encode first-edition (ordered (text-task text))
 
 -- 15: the sheet would break a limit or a rule of document 01; then 10: it is longer than the room for it
 unfoldable pub task-checks : List ℕ → ℕ → List Check
@@ -34,7 +34,7 @@ task-checks x room =
     record { number = 15; fires = when (not (writable (meaning x))) 0 }
     ∷ record {
       number = 10;
-      fires = when (ltb room (length (encode (ordered (meaning x))))) (length (encode (ordered (meaning x))));
+      fires = when (ltb room (length (encode first-edition (ordered (meaning x))))) (length (encode first-edition (ordered (meaning x))));
     }
     ∷ []
 
@@ -77,8 +77,8 @@ pub record In-order (T U : Task) : Type 0 where
 -- every word past it stays
 pub record Writes-sheet (T : Task) (before : List ℕ) (n : ℕ) (after : List ℕ) : Type 0 where
   pub room : n ≤ length before
-  pub sheet : take n after ≡ encode (ordered T)
-  pub counted : n ≡ length (encode (ordered T))
+  pub sheet : take n after ≡ encode first-edition (ordered T)
+  pub counted : n ≡ length (encode first-edition (ordered T))
   pub accepted : Accepted (take n after)
   pub means : In-order T (task (take n after))
   pub rest : drop n after ≡ drop n before

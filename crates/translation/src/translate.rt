@@ -2,11 +2,11 @@
 use access::front;
 use access::put_all;
 use form::limits::NUMBERS;
-use form::text::Form;
-use form::text::read_text;
-use meaning::build::build;
 use refusal::Refusal;
+use text_sections::text::Form;
+use text_sections::text::read_text;
 use sheet::limits::Sheet;
+use task_sheet::build::build;
 ghost use mathlib.Core.Path.{_≡_};
 ghost use Prim.Native.Nat.{_*_};
 ghost use lib.ListN.{length};

@@ -2,8 +2,6 @@
 use access::front;
 use plan::check::Answer;
 use plan::check::check_plan;
-use program::framing::ALONE;
-use program::framing::WORDS;
 use program::input::Done;
 use program::input::read;
 use program::opened::Opened;
@@ -11,6 +9,8 @@ use program::opened::open_input;
 use program::output::put_refusal;
 use program::output::put_tally;
 use program::parts::plan_part;
+use records::framing::ALONE;
+use records::framing::WORDS;
 ghost use Prim.Native.Nat.{_≤_};
 ghost use lib.ListN.{length};
 ghost use Rattle.program.specs.between.Room.{line-room, Text-put};
@@ -49,7 +49,7 @@ fn check_input(bytes: &[u8], out: &mut [u8]) -> usize
 // Reads the input to the front of `bytes`, and puts what is printed for it to the front of `out`.
 pub(crate) fn answer_input(bytes: &mut [u8], out: &mut [u8]) -> Done
     requires { ⌜ line-room ≤ length (now out) ⌝ }
-    ensures { λ r. ⌜ Has-done printed (now (bytes .exit)) r (now (out .entry)) (now (out .exit)) ⌝ }
+    ensures { λ r. ⌜ Has-done 0 printed (now (bytes .exit)) r (now (out .entry)) (now (out .exit)) ⌝ }
 {
     let input = read(bytes, 0, ALONE);
     let n = input.count;

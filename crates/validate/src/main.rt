@@ -4,10 +4,10 @@
 mod check;
 
 use crate::check::answer_input;
-use program::framing::BYTES;
 use program::output::LINE;
 use program::output::first_bytes;
 use program::output::write_text;
+use records::framing::BYTES;
 
 fn main() {
     let mut bytes = [0u8; BYTES];

@@ -8,10 +8,10 @@ use Rattle.refusal.specs.declared.Refusal.{Refusal}
 use Rattle.refusal.specs.Refusal.{told-refusal}
 use Rattle.program.specs.declared.opened.Opened.{Opened}
 use Rattle.program.specs.declared.opened.Opened.the-variants as opened
-use Rattle.program.specs.Form.{unpacked}
+use Rattle.records.specs.Form.{unpacked}
 use Rattle.program.specs.Opening.{Refused, Lodged, opening}
 use Rattle.program.specs.between.Found.{opening-of}
-use Rattle.program.specs.between.Needed.{most-words}
+use Rattle.records.specs.between.Needed.{most-words}
 use Rattle.program.proofs.OpeningLaws.{record-front}
 use Rattle.text.specs.declared.reader.Ending.{Ending}
 use Rattle.text.specs.Text.{Words, found-in, reading-of}

@@ -2,7 +2,7 @@
 use access::front;
 use access::put_all;
 use lent::write_pair;
-use program::framing::WORDS;
+use records::framing::WORDS;
 use program::opened::Opened;
 use program::opened::open_input;
 use program::parts::plan_part;

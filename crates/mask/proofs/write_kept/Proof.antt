@@ -8,9 +8,10 @@ use lib.ListN.{length, getD}
 use lib.Seq.{sets}
 use borrow.Author.Needs.{needs}
 use Rattle.mask.specs.Mask.{mask-length, word-bits}
-use Rattle.mask.specs.between.Places.{at-places, kept-by-words}
+use Rattle.access.specs.between.Places.{at-places}
+use Rattle.access.proofs.OnesLaws.{ones-at-few}
+use Rattle.mask.specs.between.Places.{kept-by-words}
 use Rattle.mask.proofs.LengthLaws.{words-length}
-use Rattle.mask.proofs.MaskWordLaws.{ones-at-few}
 use Rattle.mask.proofs.WriteLaws.{places-left, left-whole, left-length, left-none, word-passed, word-stored}
 use Rattle.mask.proofs.write_kept.Statement.{statement}
 use Rattle.mask.proofs.write_kept.Tie as tie

@@ -15,13 +15,18 @@ fact-word f = f .variable * limits .values + f .value
 abbrev pub fact-words : Assignment → List ℕ
 fact-words q = map fact-word q
 
--- the part of an action: its cost, its number of precondition facts, those facts, then its effect facts
-unfoldable pub action-part : Action → List ℕ
-action-part a = a .cost ∷ length (a .precondition) ∷ (fact-words (a .precondition) ++ fact-words (a .effect))
+-- the one edition that is read and written
+abbrev pub first-edition : ℕ
+first-edition = 1
+
+-- the part of an action: its cost, its number of precondition facts, those facts, then its effect facts. Of what is
+-- written here this is all that another edition may say otherwise, but for its number
+unfoldable pub action-part : ℕ → Action → List ℕ
+action-part edition a = a .cost ∷ length (a .precondition) ∷ (fact-words (a .precondition) ++ fact-words (a .effect))
 
 -- the parts in the order of their pairs: the domain sizes, the starting values, the goal facts, then the actions
-unfoldable pub parts : Task → List (List ℕ)
-parts T = T .domains ∷ T .initial ∷ fact-words (T .goal) ∷ map action-part (T .actions)
+unfoldable pub parts : ℕ → Task → List (List ℕ)
+parts edition T = T .domains ∷ T .initial ∷ fact-words (T .goal) ∷ map (action-part edition) (T .actions)
 
 -- the pairs of offset and length of parts that begin at word `from`:
 -- each later offset is the offset before it plus that length
@@ -41,13 +46,13 @@ body ps = pairs-of (first-offset ps) ps ++ flatten ps
 unfoldable pub sheet-of : ℕ → ℕ → ℕ → List (List ℕ) → List ℕ
 sheet-of edition variables actions ps = edition ∷ variables ∷ actions ∷ (header + length (body ps)) ∷ body ps
 
--- edition 1, a domain for each variable, and the task's actions
-unfoldable pub encode : Task → List ℕ
-encode T = sheet-of 1 (length (T .domains)) (length (T .actions)) (parts T)
+-- in an edition: a domain for each variable, and the task's actions
+unfoldable pub encode : ℕ → Task → List ℕ
+encode edition T = sheet-of edition (length (T .domains)) (length (T .actions)) (parts edition T)
 
--- a task that can be written: well-formed, so that each domain has at least its starting value, of plain actions, and
+-- a task that can be written in an edition: well-formed, so that each domain has at least its starting value, of plain actions, and
 -- within the limits
-pub record Encodable (T : Task) : Type 0 where
+pub record Encodable (edition : ℕ) (T : Task) : Type 0 where
   pub well-formed : Well-formed T
   pub plain : (a : Action) → List·Memᴰ a (T .actions) → Plain (T .domains) a
   pub some-variable : 1 ≤ length (T .domains)
@@ -55,4 +60,4 @@ pub record Encodable (T : Task) : Type 0 where
   pub values : (v : ℕ) → v < length (T .domains) → getD (T .domains) v 0 ≤ limits .values
   pub actions : length (T .actions) ≤ limits .actions
   pub costs : (a : Action) → List·Memᴰ a (T .actions) → a .cost ≤ limits .cost
-  pub words : length (encode T) ≤ limits .words
+  pub words : length (encode edition T) ≤ limits .words

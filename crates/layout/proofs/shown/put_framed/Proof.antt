@@ -1,5 +1,5 @@
 -- `put_framed` meets its contract, by the form. Assumes nothing.
-use Rattle.program.specs.declared.frame.Frame.the-variants.{Broken, Long, Whole}
+use Rattle.records.specs.declared.frame.Frame.the-variants.{Broken, Long, Whole}
 use Rattle.layout.proofs.ShownLaws.{framed-as}
 use borrow.Author.Needs.{needs}
 use Rattle.layout.proofs.shown.put_framed.Statement.{statement}

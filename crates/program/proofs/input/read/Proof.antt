@@ -5,7 +5,7 @@ use mathlib.Core.Path.{_≡_, refl, sym}
 use borrow.Author.Needs.{needs}
 use lib.ListN.{length}
 use lib.Seq.{length-take-le}
-use Rattle.program.specs.between.Needed.{most-bytes}
+use Rattle.records.specs.between.Needed.{most-bytes}
 use Rattle.program.proofs.PrintedLaws.{read-nothing, read-enough, read-short}
 use Rattle.program.proofs.input.read.Statement.{statement}
 use Rattle.program.proofs.input.read.Tie as tie

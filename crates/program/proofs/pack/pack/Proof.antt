@@ -7,7 +7,7 @@ use lib.ListN.{length, take}
 use lib.Seq.{take-length}
 use Rattle.lines.specs.Prints.{Prints}
 use Rattle.lines.proofs.PrintLaws.{prints-length}
-use Rattle.program.specs.Bytes.{all-bytes}
+use Rattle.records.specs.Bytes.{all-bytes}
 use Rattle.program.proofs.PackLaws.{no-word-put, word-put}
 use Rattle.program.proofs.pack.pack.Statement.{statement}
 use Rattle.program.proofs.pack.pack.Tie as tie

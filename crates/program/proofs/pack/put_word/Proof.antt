@@ -1,5 +1,5 @@
 -- `put_word` meets its contract: its four bytes are put. Assumes nothing.
-use Rattle.program.specs.Bytes.{bytes-of}
+use Rattle.records.specs.Bytes.{bytes-of}
 use borrow.Author.Needs.{needs}
 use Rattle.program.proofs.pack.put_word.Statement.{statement}
 use Rattle.program.proofs.pack.put_word.Tie as tie

@@ -26,7 +26,7 @@ same-length-2 c = search needs
 returns : tie.Need-returns
 returns c =
     let put = c .before .before .shorten-input .ensures in
-    has-done printed _ _ _ _ _ _ (c .before .before .before .before .before .before .before .before .before .before .before .pre) (c .before .before .before .before .before .before .before .read .ensures) (put .1) (put .0)
+    has-done 0 printed _ _ _ _ _ _ (c .before .before .before .before .before .before .before .before .before .before .before .pre) (c .before .before .before .before .before .before .before .read .ensures) (put .1) (put .0)
 
 pub answer-input-spec : {M : Type 1} → statement M
 answer-input-spec =

@@ -1,0 +1,2 @@
+-- EffectLaws: effects as the code reads them.
+pub mod EffectLaws
