@@ -1,7 +1,7 @@
 //! The forms that answers have, told alike by the rules and by the makers of cases.
 
 use super::{Answer, Service};
-use crate::rules::{Kept, Licensed, Mask, Refusal};
+use crate::rules::{Kept, Licensed, Mask, Refusal, Values};
 
 impl Answer {
     /// The number and the place are zero, and these counts stand behind them.
@@ -67,6 +67,14 @@ impl Answer {
         Answer {
             end: end.to_vec(),
             ..Answer::accepted(&[cost, steps])
+        }
+    }
+
+    /// The states along a plan, one behind the other, and how many they are.
+    pub fn passing(states: &[Values]) -> Self {
+        Answer {
+            states: states.concat(),
+            ..Answer::accepted(&[states.len()])
         }
     }
 

@@ -3,7 +3,7 @@
 
 use super::{Answer, Case, Service};
 use crate::makers::{List, Walk};
-use crate::rules::{mask_of, Cause, Claim, Kept, Licensed, MAX_UNMARKED};
+use crate::rules::{mask_of, Cause, Claim, Kept, Licensed, Values, MAX_UNMARKED};
 
 impl List {
     /// The lengths are those that the service needs.
@@ -27,6 +27,10 @@ impl List {
             (Service::CheckPlan, Some(_)) => {
                 let walk = Walk::of(self.task.clone(), &self.plan);
                 Some(walk.answer())
+            }
+            (Service::Course, Some(_)) => {
+                let walk = Walk::of(self.task.clone(), &self.plan);
+                Some(walk.passing(walk.states.len()))
             }
             (Service::Marks, _) => {
                 let marked = known.marked.as_ref()?;
@@ -80,5 +84,13 @@ impl Walk {
     /// Of the check of a plan whose goal holds at the end.
     pub fn answer(&self) -> Answer {
         Answer::valid(self.cost(), self.plan.len(), self.end())
+    }
+
+    /// Of the states along a plan, where so many are passed.
+    pub fn passing(&self, count: usize) -> Answer {
+        let variables = self.task.sizes.len();
+        let states = self.states[..count].iter();
+        let states: Vec<Values> = states.map(|state| state[..variables].to_vec()).collect();
+        Answer::passing(&states)
     }
 }

@@ -145,11 +145,12 @@ macro_rules! slices {
 }
 
 // A site state is rolled forward where it is lent, and the end of a plan is told in words that
-// stand for nothing before. Of two outputs, `first` is elimination's.
+// stand for nothing before. The room for the states along a plan is the caller's choice, as that of
+// the outputs is. Of two outputs, `first` is elimination's.
 slices! {
     read words: u32, plan: u32, text: u8;
-    written state: u32 = 0, end: u32 = MAX_VARIABLES, first: u32 = 0, second: u32 = 0,
-        part: u32 = 0, mask: u64 = MASK_WORDS, out: u64 = 0
+    written state: u32 = 0, end: u32 = MAX_VARIABLES, states: u32 = 0, first: u32 = 0,
+        second: u32 = 0, part: u32 = 0, mask: u64 = MASK_WORDS, out: u64 = 0
 }
 
 impl Memory {

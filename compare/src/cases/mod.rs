@@ -10,7 +10,7 @@ mod service;
 pub mod worked;
 
 pub use memory::{Answer, Lent, Memory, WRITTEN};
-pub use service::{going, reducing, taking_plan, Call, Numbers, Service, SERVICES};
+pub use service::{going, reducing, refusing, taking_plan, Call, Numbers, Service, SERVICES};
 pub use service::{CLAIM, CLAIMS, CLAIM_AT, FIRST, SECOND};
 
 use crate::rules::Refusal;
@@ -44,7 +44,7 @@ impl Case {
 
     /// The lengths are those that the service needs, and the words are such as no answer has.
     pub fn fitting(service: Service, words: &[u32], plan: &[u32], outputs: [usize; 2]) -> Self {
-        let lengths = service.lengths(outputs);
+        let lengths = service.lengths(words, plan, outputs);
         Case::filled(service, words, plan, &lengths, || u64::MAX)
     }
 

@@ -6,8 +6,8 @@
 //! under test, so the compiler must not take it for granted.
 
 use super::{Answer, Memory, WRITTEN};
-use crate::rules::MAX_VARIABLES;
-use crate::rules::{self, passes, search, Lodged, Refusal, State, Tally, Way};
+use crate::rules::{self, passes, search, Cause, Lodged, Refusal, State, Tally, Way};
+use crate::rules::{MAX_VARIABLES, VARIABLES_WORD};
 use std::cmp::Ordering;
 
 /// The outputs, whose lengths are the caller's choice.
@@ -116,6 +116,11 @@ services! {
         answers: &[0, 1, 2, 3, 4, 5, 6, 7, 8, 9, 11],
         rule: |lent, _| Lodged::check(&lent.words, &lent.plan, &[])
             .map(|lodged| Answer::valid(lodged.cost(), lent.plan.len(), &lodged.end)),
+    }
+    Course = hollchiku_course(words: u32, plan: u32, states: u32; ; out: u64) {
+        out: &["refusal number", "place", "states"],
+        answers: &[0, 1, 2, 3, 4, 5, 6, 7, 8, 9],
+        rule: |lent, _| rules::course(&lent.words, &lent.plan).map(|it| Answer::passing(&it)),
     }
     TallyAdd = hollchiku_tally_add(; cost, steps, price; out: u64) {
         out: &["cost", "steps"],
@@ -255,13 +260,18 @@ impl Service {
         self.takes("plan")
     }
 
-    /// The lengths of the slices that it writes to, with outputs of these lengths where it takes
-    /// them.
-    pub fn lengths(self, outputs: [usize; 2]) -> Vec<usize> {
+    pub fn refuses(self, cause: Cause) -> bool {
+        self.declared().answers.contains(&(cause as u64))
+    }
+
+    /// The lengths of the slices that it writes to for this sheet and plan, with outputs of these
+    /// lengths where it takes them.
+    pub fn lengths(self, words: &[u32], plan: &[u32], outputs: [usize; 2]) -> Vec<usize> {
         let length = |&(slice, needed): &(&str, usize)| match slice {
             _ if !self.takes(slice) => 0,
             FIRST => outputs[0],
             SECOND => outputs[1],
+            "states" => room_for_states(words, plan),
             "out" => self.declared().out.len(),
             _ => needed,
         };
@@ -269,10 +279,23 @@ impl Service {
     }
 }
 
+/// Of the states before each step and at the end. The sheet may be any words.
+fn room_for_states(words: &[u32], plan: &[u32]) -> usize {
+    let variables = words.get(VARIABLES_WORD).map_or(0, |&word| word as usize);
+    variables.min(MAX_VARIABLES) * (plan.len() + 1)
+}
+
 /// Those that take a plan.
 pub fn taking_plan() -> Vec<Service> {
     let services = SERVICES.iter().copied();
     services.filter(|it| it.takes_plan()).collect()
+}
+
+/// Those of them that refuse for this cause.
+pub fn refusing(cause: Cause) -> Vec<Service> {
+    let mut services = taking_plan();
+    services.retain(|it| it.refuses(cause));
+    services
 }
 
 /// Those that strike steps of a plan.

@@ -17,8 +17,8 @@ mod translator;
 pub use elimination::{cheaper, eliminate, greedy, kept_part};
 pub use exact::{exact, steps_of};
 pub use license::{license, license_by_search, Claim, Licensed};
-pub use plan::{all_hold, do_step, has, mask_of, step, Kept, Lodged, Mask, State};
-pub use plan::{Tally, MASK_WORDS, WORD_BITS};
+pub use plan::{all_hold, course, do_step, has, mask_of, read, step, Kept, Lodged, Mask, State};
+pub use plan::{Tally, Values, MASK_WORDS, WORD_BITS};
 pub use program::{sheet_and_rest, words_of, Way, Written};
 pub use program::{
     written_by_license, written_by_shorten, written_by_translate, written_by_validate,

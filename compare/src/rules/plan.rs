@@ -1,4 +1,5 @@
-//! States and steps, the check of a plan, the steps of it that a reduction keeps, and tallies.
+//! States and steps, the states along a plan, the check of a plan, the steps of it that a reduction
+//! keeps, and tallies.
 
 use super::task::Task;
 use super::{check_sheet, refuse, split, Action, Cause, Refusal};
@@ -6,6 +7,9 @@ use super::{MAX_STEPS, MAX_TALLY_COST, MAX_VARIABLES};
 
 /// Any 64 values; those past a task's variables mean nothing to it.
 pub type State = [u32; MAX_VARIABLES];
+
+/// A state as a value for each variable of its task, and none past them.
+pub type Values = Vec<u32>;
 
 /// A fact holds by equality of the whole value, which may be outside the domain.
 pub fn all_hold(facts: &[u32], state: &State) -> bool {
@@ -38,6 +42,34 @@ pub fn step(words: &[u32], state: &mut State, action: u32) -> Result<(), Refusal
     refuse(Cause::NotValid, (!done).then_some(only_place))
 }
 
+/// The task of a sheet and the actions of a plan's steps, valid or not. Refusals 1 to 9; positions in
+/// the plan count from 1.
+pub fn read<'a>(words: &'a [u32], plan: &[u32]) -> Result<(Task<'a>, Vec<Action<'a>>), Refusal> {
+    let task = check_sheet(words)?;
+    let too_long = plan.len() > MAX_STEPS;
+    refuse(Cause::PlanLength, too_long.then_some(MAX_STEPS))?;
+    let unknown = plan.iter().position(|&a| a as usize >= task.actions());
+    refuse(Cause::UnknownAction, unknown.map(|index| index + 1))?;
+    let actions = plan.iter().map(|&a| task.action(a as usize)).collect();
+    Ok((task, actions))
+}
+
+/// The states along a plan: the starting values and the state after each step, up to the first that
+/// can't be done. The goal isn't looked at.
+pub fn course(words: &[u32], plan: &[u32]) -> Result<Vec<Values>, Refusal> {
+    let (task, actions) = read(words, plan)?;
+    let values = |state: &State| state[..task.sizes().len()].to_vec();
+    let mut state = task.start();
+    let mut states = vec![values(&state)];
+    for action in actions {
+        if !do_step(action, &mut state) {
+            break;
+        }
+        states.push(values(&state));
+    }
+    Ok(states)
+}
+
 /// A valid plan of a task, with the actions of its steps and its end state.
 pub struct Lodged<'a> {
     pub task: Task<'a>,
@@ -47,18 +79,12 @@ pub struct Lodged<'a> {
 }
 
 impl<'a> Lodged<'a> {
-    /// Refusals 1 to 11; 10 is for services with outputs, whose lengths are passed. Positions in
-    /// the plan count from 1.
+    /// Refusals 1 to 11; 10 is for services with outputs, whose lengths are passed.
     pub fn check(words: &'a [u32], plan: &'a [u32], outputs: &[usize]) -> Result<Self, Refusal> {
-        let task = check_sheet(words)?;
+        let (task, actions) = read(words, plan)?;
         let steps = plan.len();
-        let too_long = steps > MAX_STEPS;
-        refuse(Cause::PlanLength, too_long.then_some(MAX_STEPS))?;
-        let unknown = plan.iter().position(|&a| a as usize >= task.actions());
-        refuse(Cause::UnknownAction, unknown.map(|index| index + 1))?;
         let too_short = outputs.iter().any(|&length| length < steps);
         refuse(Cause::ShortOutput, too_short.then_some(steps))?;
-        let actions: Vec<_> = plan.iter().map(|&a| task.action(a as usize)).collect();
         let mut end = task.start();
         let failing = actions.iter().position(|&a| !do_step(a, &mut end));
         refuse(Cause::NotValid, failing.map(|index| index + 1))?;

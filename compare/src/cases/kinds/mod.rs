@@ -111,7 +111,7 @@ fn case_with(
     plan: &[u32],
     outputs: [usize; 2],
 ) -> Case {
-    let mut lengths = service.lengths(outputs);
+    let mut lengths = service.lengths(words, plan, outputs);
     for (length, (slice, _)) in lengths.iter_mut().zip(WRITTEN) {
         if *length > 0 && ![FIRST, SECOND].contains(slice) {
             *length = random_length(random, *length);

@@ -1,5 +1,5 @@
-//! Plans: valid ones by walks, for the checker of plans, and each way for a plan to be refused, for
-//! every service that takes a plan.
+//! Plans: valid ones by walks, for the checker of plans and the states along them, and each way for a
+//! plan to be refused, for every service that takes a plan.
 
 use super::{plan_case, service_for_valid, Make};
 use crate::cases::{taking_plan, Case, Service};
@@ -40,11 +40,16 @@ const TOO_LONG: Refusal = Refusal {
 
 impl Walk {
     fn accepted(&self, random: &mut Random) -> Option<Case> {
-        let case = plan_case(random, Service::CheckPlan, &self.task, &self.plan);
-        Some(case.due(self.answer()))
+        let (service, answer) = match random.once_in(2) {
+            true => (Service::CheckPlan, self.answer()),
+            false => (Service::Course, self.passing(self.states.len())),
+        };
+        let case = plan_case(random, service, &self.task, &self.plan);
+        Some(case.due(answer))
     }
 
-    /// Spoils the walk and hands it to some service.
+    /// Spoils the walk and hands it to some service. Where a plan that is not valid is no refusal, the
+    /// states are those up to the step that fails.
     fn refused(
         mut self,
         random: &mut Random,
@@ -52,7 +57,11 @@ impl Walk {
     ) -> Option<Case> {
         let refusal = spoil(&mut self, random)?;
         let service = random.pick(&taking_plan());
-        Some(plan_case(random, service, &self.task, &self.plan).refused(refusal))
+        let case = plan_case(random, service, &self.task, &self.plan);
+        Some(match service.refuses(refusal.cause) {
+            true => case.refused(refusal),
+            false => case.due(self.passing(refusal.place)),
+        })
     }
 }
 

@@ -8,8 +8,8 @@ mod texts;
 
 pub use sheets::{with_lamp_cost, SHEET_P};
 
-use super::{reducing, taking_plan, Answer, Case, Service, SECOND};
-use crate::rules::{Cause, Claim, Kept, Licensed, Mask, MAX_UNMARKED, MAX_VARIABLES};
+use super::{reducing, refusing, taking_plan, Answer, Case, Lent, Service, SECOND};
+use crate::rules::{Cause, Claim, Kept, Licensed, Mask, Values, MAX_UNMARKED, MAX_VARIABLES};
 use sheets::{dearest, gate_alone, two_ways, u_and_v, LAMP};
 
 /// A case with its name in a report of differences.
@@ -22,6 +22,7 @@ pub fn cases() -> Vec<Worked> {
     let mut cases = valid_plans();
     cases.extend(limits());
     cases.extend(steps());
+    cases.extend(courses());
     cases.extend(tallies());
     cases.extend(reductions());
     cases.extend(refusals());
@@ -97,6 +98,49 @@ fn steps() -> Vec<Worked> {
         ("lamp", step(&[9, 9], LAMP).due(to(&[9, 9, 1]))),
         ("drop", step(&[], 2).refused(Cause::NotValid.at(1))),
         ("unknown", step(&[], 4).refused(Cause::UnknownAction.at(1))),
+    ]
+}
+
+/// The states along lists 1 and 4 to 6, of which the last three are not valid; along one with a step
+/// behind that which can't be done; and along the longest list, of which there is no room for the
+/// last.
+fn courses() -> Vec<Worked> {
+    let in_p = |plan: &[u32]| Case::fitting(Service::Course, &SHEET_P, plan, [0; 2]);
+    let passing = |plan: &[u32], states: &[[u32; 3]]| {
+        let states: Vec<Values> = states.iter().map(|state| state.to_vec()).collect();
+        in_p(plan).due(Answer::passing(&states))
+    };
+    let [start, lifted, drained] = [[0, 0, 0], [1, 0, 0], [1, 1, 0]];
+    let [lit, lit_lifted] = [[0, 0, 1], [1, 0, 1]];
+    let along_list_1 = [
+        start,
+        lit,
+        lit_lifted,
+        lit,
+        lit_lifted,
+        [1, 1, 1],
+        [0, 1, 1],
+    ];
+    let mut longest = vec![start];
+    longest.extend([lit; 252]);
+    longest.extend([lit_lifted, [1, 1, 1], [0, 1, 1]]);
+    let mut without_room = passing(&lamps_then_drain(255), &longest);
+    without_room.lent.states = Lent::of(vec![u32::MAX; 3 * 255 + 1]);
+    let unknown = in_p(&[0, 0, 4]).refused(Cause::UnknownAction.at(3));
+    vec![
+        ("states, list 1", passing(&LIST_1, &along_list_1)),
+        ("states, list 4", passing(&[], &[start])),
+        ("states, list 5", passing(&[0, 0], &[start, lifted])),
+        (
+            "states, list 6",
+            passing(&[0, 1], &[start, lifted, drained]),
+        ),
+        (
+            "states, drain behind",
+            passing(&[0, 0, 1], &[start, lifted]),
+        ),
+        ("states, no room", without_room),
+        ("states, unknown action", unknown),
     ]
 }
 
@@ -231,13 +275,17 @@ fn refusals() -> Vec<Worked> {
     let too_long = lamps_then_drain(256);
     let mut cases = Vec::new();
     for service in taking_plan() {
-        let in_p = |plan: &[u32], outputs| Case::fitting(service, &SHEET_P, plan, outputs);
-        let not_valid = |plan, place| in_p(plan, [2; 2]).refused(Cause::NotValid.at(place));
-        let too_long = in_p(&too_long, [0; 2]).refused(Cause::PlanLength.at(255));
+        let too_long = Case::fitting(service, &SHEET_P, &too_long, [0; 2]);
+        cases.push(("256 steps", too_long.refused(Cause::PlanLength.at(255))));
+    }
+    for service in refusing(Cause::NotValid) {
+        let not_valid = |plan: &[u32], place| {
+            let case = Case::fitting(service, &SHEET_P, plan, [2; 2]);
+            case.refused(Cause::NotValid.at(place))
+        };
         cases.push(("list 4", not_valid(&[], 1)));
         cases.push(("list 5", not_valid(&[0, 0], 2)));
         cases.push(("list 6", not_valid(&[0, 1], 3)));
-        cases.push(("256 steps", too_long));
     }
     cases
 }

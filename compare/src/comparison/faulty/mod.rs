@@ -1,5 +1,6 @@
 //! Services that each have one fault, to show that the comparison finds it.
 
+mod course;
 mod exact;
 mod license;
 mod marks;
@@ -18,8 +19,9 @@ fn fault(name: &'static str, answer: impl Fn(&Memory) -> Answer + 'static) -> Fa
 }
 
 /// The faults of each service that has faulty versions.
-pub fn all() -> [(Service, Vec<Fault>); 3] {
+pub fn all() -> [(Service, Vec<Fault>); 4] {
     [
+        (Service::Course, course::faults()),
         (Service::Exact, exact::faults()),
         (Service::Marks, marks::faults()),
         (Service::License, license::faults()),
