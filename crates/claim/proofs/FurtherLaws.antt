@@ -28,16 +28,16 @@ use Rattle.plan.specs.Readable.{Readable}
 use Rattle.plan.specs.declared.check.Answer.the-variants.{Valid, Refused}
 use Rattle.plan.specs.Checked.{told-answer}
 use Rattle.plan.proofs.PlanLaws.{passed-readable}
-use Rattle.service.specs.Reduced.{tally-left}
-use Rattle.service.specs.between.Held.{mask, held, Leaves}
-use Rattle.service.specs.between.Kept.{Keeps, Finishes}
-use Rattle.service.proofs.LodgedLaws.{lodged-plan, lodged-valid, roomy}
-use Rattle.service.proofs.TalliedLaws.{kept-steps}
-use Rattle.service.proofs.AnswerLaws.{keeps, answers-kept}
+use Rattle.reduced.specs.Reduced.{tally-left}
+use Rattle.reduced.specs.between.Held.{mask, held, Leaves}
+use Rattle.reduced.specs.between.Kept.{Keeps, Finishes}
+use Rattle.reduced.proofs.LodgedLaws.{lodged-plan, lodged-valid, roomy}
+use Rattle.reduced.proofs.TalliedLaws.{kept-steps}
+use Rattle.reduced.proofs.AnswerLaws.{keeps, answers-kept}
 use Rattle.landmark.specs.Marks.{marks, marked, unmarked}
 use Rattle.landmark.proofs.MarkTheorem.{marks-length}
-use Rattle.elimination.specs.Eliminations.{cheaper-of}
-use Rattle.elimination.proofs.LeavesLaws.{cheaper-valid, cheaper-leaves}
+use Rattle.cheaper.specs.Cheaper.{cheaper-of}
+use Rattle.cheaper.proofs.CheaperLaws.{cheaper-valid, cheaper-leaves}
 use Rattle.minimal.specs.declared.within.Shortened.{Shortened}
 use Rattle.minimal.specs.Minimised.{most-unmarked, minimal-checks, minimal-of, Minimises}
 use Rattle.minimal.proofs.DemandThree.{is-minimal, many-refused, refused-many, passed-few}

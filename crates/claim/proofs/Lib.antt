@@ -1,5 +1,3 @@
--- ThroughLaws: flags that are kept by a first reduction and then by a second one, step by step.
-pub mod ThroughLaws
 -- LicenseLaws: what the service answers on each of its ways.
 pub mod LicenseLaws
 -- FurtherLaws: what it answers of a list that goes further than the minimal reduction.

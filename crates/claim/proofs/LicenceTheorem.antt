@@ -19,12 +19,14 @@ use Rattle.sheet.specs.Decode.{goal, initial, action, task}
 use Rattle.plan.specs.Valid.{steps}
 use Rattle.plan.specs.Readable.{Readable}
 use Rattle.plan.proofs.PlanLaws.{steps-formed}
-use Rattle.service.proofs.TalliedLaws.{kept-steps}
+use Rattle.reduced.proofs.TalliedLaws.{kept-steps}
 use Rattle.landmark.specs.Marks.{unmarked}
 use Rattle.elimination.specs.declared.single.Elimination.{Elimination}
-use Rattle.elimination.specs.Eliminations.{left-by, cheaper-of}
-use Rattle.elimination.proofs.LeavesLaws.{left-valid, cheaper-valid}
-use Rattle.elimination.proofs.CheaperTheorem.{cheaper-no-dearer}
+use Rattle.elimination.specs.Eliminations.{left-by}
+use Rattle.cheaper.specs.Cheaper.{cheaper-of}
+use Rattle.elimination.proofs.LeavesLaws.{left-valid}
+use Rattle.cheaper.proofs.CheaperLaws.{cheaper-valid}
+use Rattle.cheaper.proofs.CheaperTheorem.{cheaper-no-dearer}
 use Rattle.minimal.specs.Minimised.{most-unmarked, minimal-of}
 use Rattle.minimal.specs.Statement.{Valid-striking}
 use Rattle.minimal.proofs.DemandThree.{valid-list, is-minimal}

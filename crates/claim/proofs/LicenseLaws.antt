@@ -26,10 +26,10 @@ use Rattle.plan.specs.declared.check.Answer.the-variants.{Valid, Refused}
 use Rattle.plan.specs.Checked.{told-answer, lodged-tally}
 use Rattle.plan.specs.between.Lodged.{Checks-lodged}
 use Rattle.plan.proofs.PlanLaws.{passed-readable}
-use Rattle.service.specs.Reduced.{room-checks, reduction-checks}
-use Rattle.service.specs.between.Held.{mask}
-use Rattle.service.proofs.LodgedLaws.{lodged-plan, room-checked, nothing-refused, roomy}
-use Rattle.service.proofs.AnswerLaws.{answers-refused}
+use Rattle.reduced.specs.Reduced.{room-checks, reduction-checks}
+use Rattle.reduced.specs.between.Held.{mask}
+use Rattle.reduced.proofs.LodgedLaws.{lodged-plan, room-checked, nothing-refused, roomy}
+use Rattle.reduced.proofs.AnswerLaws.{answers-refused}
 use Rattle.landmark.specs.Marks.{marks, marked, unmarked}
 use Rattle.minimal.specs.declared.within.Shortened.{Shortened}
 use Rattle.minimal.specs.Minimised.{most-unmarked, unmarked-checks, minimal-checks, minimal-refusal, Minimises}

@@ -13,8 +13,8 @@ use Rattle.reduction.specs.Reduction.{Reduction, kept, compose}
 use Rattle.tally.specs.Tally.{nothing}
 use Rattle.plan.specs.Checked.{lodged-tally}
 use Rattle.landmark.specs.Marks.{marked, unmarked}
-use Rattle.service.specs.Reduced.{reduction-checks, Reduces}
-use Rattle.elimination.specs.Eliminations.{cheaper-of}
+use Rattle.reduced.specs.Reduced.{reduction-checks, Reduces}
+use Rattle.cheaper.specs.Cheaper.{cheaper-of}
 use Rattle.minimal.specs.Minimised.{most-unmarked, minimal-of}
 use Rattle.claim.specs.declared.answer.Claim.{Claim}
 use Rattle.claim.specs.declared.answer.Claim.the-variants.{Least, Irreducible, Open}

@@ -13,7 +13,7 @@ use Rattle.sheet.specs.Decode.{goal, initial, task}
 use Rattle.plan.specs.Valid.{steps}
 use Rattle.plan.specs.Readable.{Readable}
 use Rattle.plan.specs.Checked.{told-answer, told-tally}
-use Rattle.service.specs.Reduced.{tally-left}
+use Rattle.reduced.specs.Reduced.{tally-left}
 use Rattle.landmark.specs.Marks.{unmarked}
 use Rattle.elimination.specs.declared.single.Elimination.{Elimination}
 use Rattle.elimination.specs.Eliminations.{left-by}

@@ -3,13 +3,13 @@
 use crate::answer::Claim;
 use crate::answer::Licensed;
 use crate::answer::grant;
-use crate::through::mask_through;
 use access::put_all;
-use elimination::both::flags_of_cheaper;
+use cheaper::both::flags_of_cheaper;
 use minimal::reduce::minimal_reduction;
 use plan::check::Answer;
 use plan::limits::Plan;
-use service::finish::finish;
+use reduced::finish::finish;
+use reduced::through::mask_through;
 use tally::Tally;
 ghost use Rattle.claim.specs.Licensed.{Licenses};
 ghost use Rattle.claim.specs.between.Further.{Goes-further};

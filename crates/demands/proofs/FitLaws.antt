@@ -13,8 +13,8 @@ use Rattle.plan.specs.Valid.{steps}
 use Rattle.plan.proofs.PlanLaws.{passed-readable}
 use Rattle.reduction.specs.Reduction.{Reduction, meets}
 use Rattle.reduction.proofs.MinimalTheorem.{minimal-found}
-use Rattle.service.specs.Reduced.{reduction-checks}
-use Rattle.service.proofs.LodgedLaws.{lodged-plan, lodged-valid, roomy}
+use Rattle.reduced.specs.Reduced.{reduction-checks}
+use Rattle.reduced.proofs.LodgedLaws.{lodged-plan, lodged-valid, roomy}
 use Rattle.elimination.specs.declared.single.Elimination.{Elimination}
 use Rattle.elimination.specs.Eliminations.{left-by}
 use Rattle.elimination.proofs.LeavesLaws.{left-fits}

@@ -23,9 +23,10 @@ use Rattle.reduction.specs.Reduction.{Reduction, count}
 use Rattle.reduction.proofs.ReductionLaws.{kept-length, left-length}
 use Rattle.mask.proofs.MaskTheorem.{front-and-rest}
 use Rattle.course.specs.Course.{course-checks}
-use Rattle.service.specs.Reduced.{room-checks, reduction-checks, output-left}
+use Rattle.reduced.specs.Reduced.{room-checks, reduction-checks, output-left}
 use Rattle.elimination.specs.declared.single.Elimination.the-variants.{Plain, Greedy}
-use Rattle.elimination.specs.Eliminations.{elimination-of, greedy-elimination-of, left-by, cheaper-part}
+use Rattle.elimination.specs.Eliminations.{elimination-of, greedy-elimination-of, left-by}
+use Rattle.cheaper.specs.Cheaper.{cheaper-part}
 use Rattle.minimal.specs.Minimised.{most-unmarked, unmarked-checks, minimal-checks, minimal-of}
 use Rattle.claim.specs.Licensed.{licensed-of}
 use Rattle.sas.specs.Task.{Task}

@@ -31,14 +31,15 @@ use Rattle.plan.proofs.PlanLaws.{passed-readable}
 use Rattle.plan.proofs.PlanTheorem.{plan-theorem, passes-exactly}
 use Rattle.course.specs.Course.{course, Courses}
 use Rattle.course.proofs.CourseTheorem.{whole-course, stuck-course, course-reached}
-use Rattle.service.specs.Reduced.{reduction-checks, tally-left, Answers}
-use Rattle.service.proofs.LodgedLaws.{lodged-valid}
+use Rattle.reduced.specs.Reduced.{reduction-checks, tally-left, Answers}
+use Rattle.reduced.proofs.LodgedLaws.{lodged-valid}
 use Rattle.landmark.specs.Marks.{marks, marked, Masks}
 use Rattle.landmark.proofs.MarkTheorem.{marks-theorem, marks-length, bits-just-marked}
 use Rattle.elimination.specs.declared.single.Elimination.{Elimination}
 use Rattle.elimination.specs.declared.single.Elimination.the-variants.{Plain, Greedy}
-use Rattle.elimination.specs.Eliminations.{elimination-of, greedy-elimination-of, left-by, Reduces-both, cheaper-part}
-use Rattle.elimination.proofs.CheaperTheorem.{greedy-shown, elimination-shown, nothing-shown}
+use Rattle.elimination.specs.Eliminations.{elimination-of, greedy-elimination-of, left-by}
+use Rattle.cheaper.specs.Cheaper.{Reduces-both, cheaper-part}
+use Rattle.cheaper.proofs.CheaperTheorem.{greedy-shown, elimination-shown, nothing-shown}
 use Rattle.minimal.specs.declared.within.Shortened.{Shortened}
 use Rattle.minimal.specs.Minimised.{minimal-of}
 use Rattle.claim.specs.Licensed.{licensed-of}

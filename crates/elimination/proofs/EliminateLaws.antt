@@ -3,20 +3,26 @@ use Prim.Native.Nat.{ℕ, _+_, _≤_, _<_}
 use native.Mathlib.Numerals.{add-one}
 use native.Mathlib.Omega.{arith}
 use mathlib.Core.Path.{_≡_, _∙_}
-use mathlib.Core.Bool.{true}
+use mathlib.Core.Bool.{Bool, true, false}
 use mathlib.Core.List.{List}
-use lib.ListN.{length, replicate, length-map, length-append, length-replicate}
+use lib.ListN.{length, getD, replicate, length-map, length-append, length-replicate}
 use lib.Seq.{take-at}
+use Rattle.tally.specs.declared.Tally.{Tally}
+use Rattle.step.specs.between.Advance.{Advances}
 use Rattle.sheet.specs.Decode.{initial, goal, action}
 use Rattle.plan.specs.Limits.{most-steps}
 use Rattle.plan.specs.Valid.{steps}
 use Rattle.reduction.specs.Reduction.{Reduction, whole, valid, Before}
 use Rattle.reduction.specs.between.Elimination.{eliminated, eliminate}
 use Rattle.reduction.proofs.ReductionLaws.{kept-whole}
+use Rattle.reduction.proofs.TrialLaws.{unkept-fails}
 use Rattle.reduction.proofs.BeforeLaws.{before-first}
-use Rattle.service.specs.between.Held.{mask, held, none-struck}
-use Rattle.service.proofs.HeldLaws.{all-held}
-use Rattle.elimination.specs.between.Current.{Current, Eliminates}
+use Rattle.reduced.specs.between.Held.{mask, held, none-struck}
+use Rattle.reduced.proofs.HeldLaws.{all-held}
+use Rattle.trial.specs.between.Trial.{Makes-trial}
+use Rattle.trial.specs.between.Current.{Current}
+use Rattle.trial.proofs.CurrentLaws.{trial-met, trial-unmet, left-mask, left-current, left-next, unkept, passed-over, advanced}
+use Rattle.elimination.specs.between.Turn.{Eliminates}
 
 -- nothing struck: the flags of a plan that is valid
 module _ (w l : List ℕ) (flags : Reduction) (few : length l ≤ most-steps) (is : flags ≡ none-struck (length l)) where
@@ -33,6 +39,36 @@ module _ (w l : List ℕ) (flags : Reduction) (few : length l ≤ most-steps) (i
         long = rw whole-held (simp (length-append, length-replicate) (omega arith));
         none-past = whole-held ∙ rw (all-mask, length-map l (action w));
         valid-left = rw (all-mask, kept-whole (steps w l)) v;
+      }
+
+-- elimination's turn
+module _ (w l : List ℕ) (flags : Reduction) (current : Current w l flags) (i : ℕ) (values : List ℕ) (here : i < length l) (before : Before (initial w) (steps w l) (mask l flags) i values) where
+  -- at a kept step whose trial succeeds
+  pub eliminates-struck : (met : Bool) (left : Reduction) (struck : Tally) → Makes-trial w l i flags values met left struck → getD flags i false ≡ true → met ≡ true → Eliminates w l i flags left values
+  eliminates-struck met left struck tries up is =
+      record {
+        current = left-current w l flags current i values here before met left struck tries up is;
+        struck = left-mask w l flags current i values here before met left struck tries ∙ rw (trial-met w l flags current i values here before met left struck tries up is);
+        before = left-next w l flags current i values here before met left struck tries up is;
+      }
+
+  -- at one whose trial fails
+  pub eliminates-done : (met done : Bool) (left : Reduction) (struck : Tally) (values′ : List ℕ) → getD flags i false ≡ true → Makes-trial w l i flags values met left struck → met ≡ false
+      → Advances w values (getD l i 0) done values′ → Eliminates w l i flags flags values′
+  eliminates-done met done left struck values′ up tries is advances =
+      record {
+        current = current;
+        struck = rw (trial-unmet w l flags current i values here before met left struck tries is);
+        before = advanced w l flags current i values here before done values′ up advances;
+      }
+
+  -- at a step that was struck before
+  pub eliminates-nothing : getD flags i false ≡ false → Eliminates w l i flags flags values
+  eliminates-nothing down =
+      record {
+        current = current;
+        struck = rw (unkept-fails (initial w) (goal w) (steps w l) (mask l flags) i (unkept w l flags current i values here before down));
+        before = passed-over w l flags current i values here before down;
       }
 
 -- the flags and the state before index i

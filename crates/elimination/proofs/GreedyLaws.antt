@@ -13,8 +13,8 @@ use Rattle.reduction.specs.Reduction.{Reduction, valid}
 use Rattle.reduction.specs.between.Elimination.{best, rounds, greedy}
 use Rattle.reduction.proofs.BeforeLaws.{before-first}
 use Rattle.elimination.specs.declared.greedy.Best.{Best}
-use Rattle.service.specs.between.Held.{mask, held, none-struck}
-use Rattle.elimination.specs.between.Current.{Current}
+use Rattle.reduced.specs.between.Held.{mask, held, none-struck}
+use Rattle.trial.specs.between.Current.{Current}
 use Rattle.elimination.specs.between.Round.{Picks, Looks}
 use Rattle.elimination.proofs.EliminateLaws.{all-current, all-mask}
 

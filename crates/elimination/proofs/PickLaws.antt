@@ -16,15 +16,15 @@ use Rattle.reduction.specs.between.Order.{lower}
 use Rattle.reduction.specs.between.Elimination.{trial, better, best}
 use Rattle.reduction.proofs.TrialLaws.{unkept-fails}
 use Rattle.elimination.specs.declared.greedy.Best.{Best}
-use Rattle.elimination.specs.declared.trial.Tried.{Tried}
-use Rattle.elimination.specs.between.Walk.{Balanced}
-use Rattle.elimination.specs.between.Trial.{Tries}
-use Rattle.service.specs.between.Held.{mask}
-use Rattle.elimination.specs.between.Current.{Current}
-use Rattle.service.specs.between.Tallied.{is-less}
+use Rattle.trial.specs.declared.Tried.{Tried}
+use Rattle.trial.specs.between.Walk.{Balanced}
+use Rattle.trial.specs.between.Trial.{Makes-trial}
+use Rattle.reduced.specs.between.Held.{mask}
+use Rattle.trial.specs.between.Current.{Current}
+use Rattle.reduced.specs.between.Tallied.{is-less}
 use Rattle.elimination.specs.between.Round.{replaces, better-of, Picks, Looks}
-use Rattle.elimination.proofs.CurrentLaws.{mask-length, mask-flag, trial-met, trial-unmet, left-mask, left-current, advanced, eliminates-nothing}
-use Rattle.elimination.proofs.BalanceLaws.{balanced-mask, readable-fits, more-struck}
+use Rattle.trial.proofs.CurrentLaws.{mask-length, trial-met, trial-unmet, left-mask, left-current, unkept, passed-over, advanced}
+use Rattle.trial.proofs.BalanceLaws.{balanced-mask, readable-fits, more-struck}
 use Rattle.plan.specs.Readable.{Readable}
 
 module _ (w l : List ℕ) (m : Reduction) (i : ℕ) where
@@ -54,7 +54,7 @@ module _ (w l : List ℕ) (m : Reduction) (i : ℕ) where
 
 module _ (w l : List ℕ) (readable : Readable w l) (flags : Reduction) (current : Current w l flags) (i : ℕ) (values : List ℕ) (here : i < length l)
     (before : Before (initial w) (steps w l) (mask l flags) i values) where
-  module _ (so-far : Best) (tried : Tried) (picks : Picks w l (mask l flags) i so-far) (tries : Tries w l i flags values (tried .succeeds) (tried .flags) (tried .struck)) (up : getD flags i false ≡ true) where
+  module _ (so-far : Best) (tried : Tried) (picks : Picks w l (mask l flags) i so-far) (tries : Makes-trial w l i flags values (tried .succeeds) (tried .flags) (tried .struck)) (up : getD flags i false ≡ true) where
     chosen : Best
     chosen = record { found = true; flags = tried .flags; struck = tried .struck }
 
@@ -111,7 +111,7 @@ module _ (w l : List ℕ) (readable : Readable w l) (flags : Reduction) (current
         by-case true s true e = picks-second s r _ is e refl
 
   -- a kept step is tried and done
-  pub looks-kept : (so-far r : Best) (tried : Tried) (done : Bool) (next : List ℕ) → Picks w l (mask l flags) i so-far → Tries w l i flags values (tried .succeeds) (tried .flags) (tried .struck) → getD flags i false ≡ true
+  pub looks-kept : (so-far r : Best) (tried : Tried) (done : Bool) (next : List ℕ) → Picks w l (mask l flags) i so-far → Makes-trial w l i flags values (tried .succeeds) (tried .flags) (tried .struck) → getD flags i false ≡ true
       → r ≡ better-of so-far tried → Advances w values (getD l i 0) done next → Looks w l (mask l flags) (i + 1) r next
   looks-kept so-far r tried done next picks tries up is advances =
       record { picks = rw add-one (picks-next so-far tried picks tries up r is); before = advanced w l flags current i values here before done next up advances }
@@ -119,8 +119,5 @@ module _ (w l : List ℕ) (readable : Readable w l) (flags : Reduction) (current
   -- a struck one is passed over
   pub looks-struck : (so-far : Best) → Picks w l (mask l flags) i so-far → getD flags i false ≡ false → Looks w l (mask l flags) (i + 1) so-far values
   looks-struck so-far picks down =
-      let unkept : getD (mask l flags) i false ≡ false = mask-flag w l flags current i here ∙ down in
-      record {
-        picks = rw add-one (same-picks w l (mask l flags) i so-far picks (best-same w l (mask l flags) i (unkept-fails (initial w) (goal w) (steps w l) (mask l flags) i unkept)));
-        before = eliminates-nothing w l flags current i values here before down .before;
-      }
+      let fails = unkept-fails (initial w) (goal w) (steps w l) (mask l flags) i (unkept w l flags current i values here before down) in
+      record { picks = rw add-one (same-picks w l (mask l flags) i so-far picks (best-same w l (mask l flags) i fails)); before = passed-over w l flags current i values here before down }

@@ -1,21 +1,12 @@
--- What the two eliminations of document 01 answer as services. Assumes nothing.
-use Prim.Native.Nat.{ℕ, min}
-use mathlib.Core.Path.{_≡_}
+-- What the two eliminations of document 01 leave of a list. Assumes nothing.
+use Prim.Native.Nat.{ℕ}
 use mathlib.Core.List.{List}
-use lib.ListN.{length, take}
-use Rattle.refusal.specs.declared.Verdict.{Verdict}
-use Rattle.refusal.specs.Refusal.{told}
-use Rattle.refusal.specs.Check.{answer, unless-refused}
-use Rattle.tally.specs.declared.Tally.{Tally}
-use Rattle.tally.specs.declared.Order.the-variants.{Less, Equal, Greater}
-use Rattle.tally.specs.Tally.{nothing, comparison}
 use Rattle.sheet.specs.Decode.{goal, initial}
 use Rattle.plan.specs.Valid.{steps}
 use Rattle.reduction.specs.Reduction.{Reduction}
 use Rattle.reduction.specs.between.Elimination.{eliminate, greedy}
 use Rattle.elimination.specs.declared.single.Elimination.{Elimination}
 use Rattle.elimination.specs.declared.single.Elimination.the-variants.{Plain, Greedy}
-use Rattle.service.specs.Reduced.{reduction-checks, tally-left, output-left}
 
 -- what elimination leaves of the list l of the sheet w, and what greedy elimination leaves
 abbrev pub elimination-of : List ℕ → List ℕ → Reduction
@@ -28,32 +19,3 @@ greedy-elimination-of w l = greedy (initial w) (goal w) (steps w l)
 abbrev pub left-by : Elimination → List ℕ → List ℕ → Reduction
 left-by Plain w l = elimination-of w l
 left-by Greedy w l = greedy-elimination-of w l
-
--- what the cheaper of the two leaves: "lower price, then fewer steps, then elimination's"
-unfoldable pub cheaper-of : List ℕ → List ℕ → Reduction
-cheaper-of w l =
-    elim (comparison (tally-left w l (greedy-elimination-of w l)) (tally-left w l (elimination-of w l))) [
-      | Less ↦ greedy-elimination-of w l
-      | Equal ↦ elimination-of w l
-      | Greater ↦ elimination-of w l
-    ]
-
--- "The cheaper-of-both service fills two lent outputs, elimination's first, and returns both tallies or a refusal";
--- both outputs must have room
-pub record Reduces-both (w l before before′ : List ℕ) (verdict : Verdict) (first second : Tally)
-    (after after′ : List ℕ) : Type 0 where
-  pub refusal : told verdict ≡ answer (reduction-checks w l (min (length before) (length before′)))
-  pub first-tally : first ≡ unless-refused (told verdict) (tally-left w l (elimination-of w l)) nothing
-  pub second-tally : second ≡ unless-refused (told verdict) (tally-left w l (greedy-elimination-of w l)) nothing
-  pub first-output : after ≡ unless-refused (told verdict) (output-left l (elimination-of w l) before) before
-  pub second-output : after′ ≡ unless-refused (told verdict) (output-left l (greedy-elimination-of w l) before′) before′
-
--- "the kept part of whichever lent list is cheaper: lower price, then fewer steps, then elimination's. That part begins
--- at the output's first word and has as many words as the tally has steps, or the whole output if that is shorter."
-unfoldable pub cheaper-part : List ℕ → List ℕ → Tally → Tally → List ℕ
-cheaper-part first second of-first of-second =
-    elim (comparison of-second of-first) [
-      | Less ↦ take (of-second .steps) second
-      | Equal ↦ take (of-first .steps) first
-      | Greater ↦ take (of-first .steps) first
-    ]

@@ -1,4 +1,4 @@
--- Eliminations: what the services of the two eliminations answer.
+-- Eliminations: what the two eliminations leave of a list.
 pub mod Eliminations
 -- between: what functions hand to each other, which need not be believed.
 pub mod between

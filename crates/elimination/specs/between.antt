@@ -1,7 +1,4 @@
 -- What stands between the code and the definitions to be believed: laws and theorems tie the two together.
--- Walk: the rest of the current list. Trial: one trial from the state before its step. Current: the current list as
--- flags. Round: a round of greedy elimination.
-pub mod Walk
-pub mod Trial
-pub mod Current
+-- Turn: elimination's turn at a position. Round: a round of greedy elimination.
+pub mod Turn
 pub mod Round

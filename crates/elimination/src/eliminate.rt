@@ -1,16 +1,16 @@
 // Elimination (document 01): a trial at each position in turn.
-use crate::trial::trial;
 use plan::limits::Plan;
-use service::held::all_kept;
+use reduced::held::all_kept;
 use step::advance::advance_in;
 use step::state::initial;
+use trial::trial;
 ghost use mathlib.Core.Path.{_≡_};
 ghost use mathlib.Core.Bool.{true};
 ghost use Rattle.reduction.specs.Reduction.{valid};
 ghost use Rattle.sheet.specs.Decode.{goal, initial as initial-of};
 ghost use Rattle.plan.specs.Valid.{steps};
 ghost use Rattle.plan.specs.Readable.{Readable};
-ghost use Rattle.service.specs.between.Held.{held};
+ghost use Rattle.reduced.specs.between.Held.{held};
 ghost use Rattle.elimination.specs.Eliminations.{elimination-of};
 
 // The flags that elimination leaves of a valid plan: on success all strikes of a trial stand, otherwise its step is

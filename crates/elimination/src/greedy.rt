@@ -1,21 +1,21 @@
 // Greedy elimination (document 01): rounds of trials, of which each takes the best success.
-use crate::trial::Tried;
-use crate::trial::trial;
 use plan::limits::Plan;
-use service::held::all_kept;
+use reduced::held::all_kept;
 use step::advance::advance_in;
 use step::state::initial;
 use tally::Order;
 use tally::Tally;
+use trial::Tried;
+use trial::trial;
 ghost use mathlib.Core.Path.{_≡_};
 ghost use mathlib.Core.Bool.{true};
 ghost use lib.ListN.{length};
 ghost use Rattle.reduction.specs.Reduction.{valid};
 ghost use Rattle.sheet.specs.Decode.{goal, initial as initial-of};
 ghost use Rattle.plan.specs.Valid.{steps};
-ghost use Rattle.service.specs.between.Held.{mask, held};
+ghost use Rattle.reduced.specs.between.Held.{mask, held};
 ghost use Rattle.elimination.specs.Eliminations.{greedy-elimination-of};
-ghost use Rattle.elimination.specs.between.Current.{Current};
+ghost use Rattle.trial.specs.between.Current.{Current};
 ghost use Rattle.elimination.specs.between.Round.{Picks, better-of};
 ghost use Rattle.plan.specs.Readable.{Readable};
 

@@ -4,17 +4,17 @@ use crate::greedy::greedy;
 use plan::check::Answer;
 use plan::check::check_lodged;
 use plan::limits::Plan;
-use service::answer::Reduced;
-use service::finish::finish;
-use service::room::check_room;
+use reduced::answer::Reduced;
+use reduced::finish::finish;
+use reduced::room::check_room;
 ghost use mathlib.Core.Path.{_≡_};
 ghost use mathlib.Core.Bool.{true};
 ghost use Rattle.reduction.specs.Reduction.{valid};
 ghost use Rattle.sheet.specs.Decode.{goal, initial};
 ghost use Rattle.plan.specs.Valid.{steps};
 ghost use Rattle.plan.specs.Readable.{Readable};
-ghost use Rattle.service.specs.between.Held.{held};
-ghost use Rattle.service.specs.Reduced.{Reduces};
+ghost use Rattle.reduced.specs.between.Held.{held};
+ghost use Rattle.reduced.specs.Reduced.{Reduces};
 ghost use Rattle.elimination.specs.Eliminations.{left-by};
 
 // Which of document 01's two eliminations.
@@ -24,7 +24,7 @@ pub enum Elimination {
 }
 
 // The flags that an elimination leaves of a valid plan.
-pub(crate) fn flags_left(words: &[u32], plan: &[u32], by: Elimination) -> [bool; Plan::STEPS]
+pub fn flags_left(words: &[u32], plan: &[u32], by: Elimination) -> [bool; Plan::STEPS]
     requires { ⌜ Readable (now words) (now plan) ⌝ }
     requires { ⌜ valid (initial (now words)) (goal (now words)) (steps (now words) (now plan)) ≡ true ⌝ }
     ensures { λ r. ⌜ r ≡ held (now (plan .entry)) (left-by by (now (words .entry)) (now (plan .entry))) ⌝ }

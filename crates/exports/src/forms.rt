@@ -1,14 +1,14 @@
 // The forms that programs read and print, over lent words and bytes.
+use claim_report::put_licensed;
 use layout::shown::show;
 use program::pack::pack;
-use report::licensed::put_licensed;
 use report::shortened::put_shortened;
 use words::open_record;
 use words::read_text;
 ghost use Rattle.lines.specs.Prints.{Prints};
 ghost use Rattle.records.specs.Bytes.{all-bytes};
 ghost use Rattle.layout.specs.Shown.{shown};
-ghost use Rattle.report.specs.Licensed.{licensed};
+ghost use Rattle.claim_report.specs.Licensed.{licensed};
 ghost use Rattle.report.specs.Shortened.{shortened};
 ghost use Rattle.words.specs.Found.{Reads-lent, Opens-lent};
 

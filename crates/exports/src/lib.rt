@@ -9,8 +9,8 @@
 mod forms;
 
 use access::put_all;
+use cheaper::both::kept_part;
 use course::plan_course;
-use elimination::both::kept_part;
 use elimination::single::Elimination;
 use landmark::marks::marks_mask;
 use lent::read_state;
@@ -38,7 +38,7 @@ ghost use Rattle.refusal.specs.Check.{answer};
 ghost use Rattle.tally.specs.Tally.{one-more, comparison};
 ghost use Rattle.sheet.specs.Causes.{sheet-checks};
 ghost use Rattle.elimination.specs.declared.single.Elimination.the-variants.{Plain, Greedy};
-ghost use Rattle.elimination.specs.Eliminations.{cheaper-part};
+ghost use Rattle.cheaper.specs.Cheaper.{cheaper-part};
 ghost use Rattle.lent.specs.Words.{answer-words, lent-tally, tally-words, order-number};
 ghost use Rattle.exports.specs.Services.{Steps-lent, Checks-lent, Courses-lent, Marks-lent, Translates-lent};
 ghost use Rattle.striking.specs.Strikes.{Eliminates-lent, Minimises-lent, Licenses-lent, Reduces-both-lent};

@@ -10,7 +10,7 @@ use lib.ListN.{length}
 use Rattle.reduction.specs.Reduction.{Reduction, keeps}
 use Rattle.plan.specs.Limits.{most-steps}
 use Rattle.plan.specs.Readable.{Readable}
-use Rattle.service.specs.between.Held.{held}
+use Rattle.reduced.specs.between.Held.{held}
 use Rattle.landmark.specs.Marks.{marks}
 use Rattle.landmark.specs.between.Passes.{framed-list, pass, ends-up, steps-held}
 use Rattle.landmark.proofs.PassTheorem.{Passing, start-flagged, passing-start, passing-more, passed-all, passed-settled}

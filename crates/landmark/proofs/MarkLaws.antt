@@ -26,8 +26,8 @@ use Rattle.plan.specs.Readable.{Readable}
 use Rattle.plan.specs.Checked.{lodged-checks, plan-checks, told-answer, Checks}
 use Rattle.plan.specs.between.Lodged.{Checks-lodged}
 use Rattle.plan.proofs.PlanLaws.{passed-readable}
-use Rattle.service.specs.between.Held.{mask, held, Leaves}
-use Rattle.service.proofs.HeldLaws.{leaves}
+use Rattle.reduced.specs.between.Held.{mask, held, Leaves}
+use Rattle.reduced.proofs.HeldLaws.{leaves}
 use Rattle.landmark.specs.Marks.{marks, Masks}
 use Rattle.landmark.specs.between.Flagged.{Marks, Marks-lodged}
 

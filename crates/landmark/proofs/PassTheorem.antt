@@ -37,7 +37,7 @@ use Rattle.plan.specs.Limits.{most-steps}
 use Rattle.plan.specs.Valid.{steps}
 use Rattle.plan.specs.Readable.{Readable}
 use Rattle.plan.proofs.PlanLaws.{goal-rising, steps-formed}
-use Rattle.service.specs.between.Held.{held}
+use Rattle.reduced.specs.between.Held.{held}
 use Rattle.fact_table.specs.between.Tables.{most-facts}
 use Rattle.landmark.specs.Marks.{marks}
 use Rattle.trace.specs.between.Traces.{trace-start, started}

@@ -15,7 +15,7 @@ ghost use lib.ListN.{length};
 ghost use Rattle.reduction.specs.Reduction.{keeps};
 ghost use Rattle.plan.specs.Limits.{most-steps};
 ghost use Rattle.plan.specs.Readable.{Readable};
-ghost use Rattle.service.specs.between.Held.{held};
+ghost use Rattle.reduced.specs.between.Held.{held};
 ghost use Rattle.landmark.specs.Marks.{marks};
 ghost use Rattle.landmark.specs.between.Passes.{framed-list, pass, ends-up, steps-held};
 

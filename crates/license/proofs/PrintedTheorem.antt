@@ -14,7 +14,7 @@ use Rattle.program.specs.declared.input.Input.{Input}
 use Rattle.program.specs.Reply.{reply-further}
 use Rattle.program.proofs.RecordTheorem.{record-opened}
 use Rattle.program.proofs.ReplyTheorem.{reply-to-all}
-use Rattle.report.specs.Licensed.{licensed}
+use Rattle.claim_report.specs.Licensed.{licensed}
 use Rattle.license.specs.License.{printed}
 use Rattle.license.specs.Statement.{May-be-lodged-printed}
 

@@ -4,7 +4,7 @@ use Prim.Native.Nat.{ℕ}
 use mathlib.Core.List.{List}
 use Rattle.program.specs.Printed.{refusal-line}
 use Rattle.program.specs.Reply.{reply}
-use Rattle.report.specs.Licensed.{licensed}
+use Rattle.claim_report.specs.Licensed.{licensed}
 
 -- what is printed for the bytes of an input
 abbrev pub printed : List ℕ → List ℕ

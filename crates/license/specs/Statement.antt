@@ -12,7 +12,7 @@ use Rattle.claim.specs.declared.answer.Claim.{Claim}
 use Rattle.claim.specs.Statement.{Licence}
 use Rattle.records.specs.Bytes.{input-of, Word-sized}
 use Rattle.report.specs.Report.{report}
-use Rattle.report.specs.Licensed.{claim-line}
+use Rattle.claim_report.specs.Licensed.{claim-line}
 use Rattle.license.specs.License.{printed}
 
 -- what is printed of the list l of the sheet w is a licence: its claim, and the report of its reduction

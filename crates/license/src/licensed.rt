@@ -1,5 +1,6 @@
 // What the program prints for the bytes of its input, put into lent bytes.
 use access::front;
+use claim_report::put_licensed;
 use program::input::Done;
 use program::input::read;
 use program::opened::Opened;
@@ -8,12 +9,11 @@ use program::output::put_refusal;
 use program::parts::plan_part;
 use records::framing::ALONE;
 use records::framing::WORDS;
-use report::licensed::put_licensed;
 ghost use Prim.Native.Nat.{_≤_};
 ghost use lib.ListN.{length};
 ghost use Rattle.program.specs.Printed.{Has-done};
 ghost use Rattle.program.specs.between.Room.{Text-put};
-ghost use Rattle.report.specs.between.Reported.{licence-room};
+ghost use Rattle.claim_report.specs.between.LicenceRoom.{licence-room};
 ghost use Rattle.license.specs.License.{printed};
 
 // Licenses the plan, unless the input is refused before.

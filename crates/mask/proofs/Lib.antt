@@ -10,5 +10,5 @@ pub mod KeptWordLaws
 pub mod WriteLaws
 -- MaskTheorem: a mask tells a reduction bit by bit, by its ones, and by the list that is written out.
 pub mod MaskTheorem
--- BitLaws: a bit raised is a step kept.
+-- BitLaws: a bit as it is read.
 pub mod BitLaws

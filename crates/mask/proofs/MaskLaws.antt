@@ -1,5 +1,5 @@
--- The words of a reduction: which flags each has, that it fits its type, and that their ones are the kept steps, by induction on the number of words; and how
--- the code makes and counts four of them. Assumes nothing.
+-- The words of a reduction: which flags each has, and that their ones are the kept steps, by induction on the number of words; and how the code makes and
+-- counts four of them. Assumes nothing.
 use Prim.Native.Nat.{ℕ, zero, suc, _+_, _-_, _*_, _^_, _≤_, _<_}
 use native.Mathlib.Nat.{zero-add, add-zero, mul-suc, suc-add, lt-of-lt-of-le}
 use native.Mathlib.Omega.{arith}
@@ -10,7 +10,7 @@ use lib.ListN.{length, getD, take, drop, length-drop}
 use lib.Seq.{drop-drop}
 use lib.Arith.{le-zero}
 use lib.Count.{ones}
-use lib.Pow.{pow-pos, pow-mono}
+use lib.Pow.{pow-mono}
 use Rattle.reduction.specs.Reduction.{Reduction, count}
 use Rattle.mask.specs.Mask.{mask-length, word-bits, digit, binary, words-of, mask-words, ones-of}
 use Rattle.mask.proofs.MaskWordLaws.{binary-below, binary-next, binary-ones}
@@ -23,13 +23,6 @@ words-at (suc n) zero m h = refl
 words-at (suc n) (suc k) m h =
     let next : word-bits + word-bits * k ≡ word-bits * suc k = omega (arith, mul-suc word-bits k) in
     words-at n k (drop word-bits m) (omega arith) ∙ rw (drop-drop, next)
-
--- each word fits its type
-pub words-fit : (n k : ℕ) (m : Reduction) → getD (words-of n m) k 0 < 2 ^ word-bits
-unfolding words-of
-words-fit zero k m = pow-pos word-bits
-words-fit (suc n) zero m = binary-below word-bits m
-words-fit (suc n) (suc k) m = words-fit n k (drop word-bits m)
 
 count-parts : (n : ℕ) (m : Reduction) → count (take n m) + count (drop n m) ≡ count m
 unfolding count

@@ -16,7 +16,7 @@ use Rattle.mask.specs.Mask.{mask-length, word-bits, mask-bits, digit, wo
 use Rattle.mask.specs.between.Places.{kept-by-words}
 use Rattle.mask.proofs.MaskWordLaws.{binary-bit}
 use Rattle.mask.proofs.BitLaws.{none-up}
-use Rattle.mask.proofs.MaskLaws.{words-at, words-fit, words-ones}
+use Rattle.mask.proofs.MaskLaws.{words-at, words-ones}
 use Rattle.mask.proofs.KeptWordLaws.{words-keep}
 
 is-one : (b : Bool) → eqb (digit b) 1 ≡ b
@@ -43,11 +43,6 @@ module _ (m : Reduction) where
       by-case false e =
           let past : mask-bits ≤ i = ltb-false i mask-bits e in
           sym (none-up (mask-words m) i refl (omega arith)) ∙ sym (List·getD-eq-default m false (omega arith))
-
-  -- each word fits its type
-  pub word-fits : (k : ℕ) → getD (mask-words m) k 0 < 2 ^ word-bits
-  unfolding mask-words
-  word-fits k = words-fit mask-length k m
 
   -- "The number of kept steps is the number of ones in the mask."
   pub ones-are-kept : length m ≤ mask-bits → ones-of (mask-words m) ≡ count m

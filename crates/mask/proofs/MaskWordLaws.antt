@@ -1,12 +1,12 @@
 -- A word by its binary digits: its size, each of its bits, the number of its ones and their places, by induction on the digits. Assumes nothing.
-use Prim.Native.Nat.{ℕ, zero, suc, _+_, _*_, _/_, _%_, _^_, _≤_, _<_}
+use Prim.Native.Nat.{ℕ, zero, suc, _+_, _*_, _/_, _%_, _^_, _<_}
 use native.Mathlib.Nat.{pow-suc, pow-succ', zero-div, div-div-eq-div-mul}
 use native.Mathlib.Numerals.{add-one}
 use native.Mathlib.Omega.{arith}
 use mathlib.Core.Path.{_≡_, refl}
 use mathlib.Core.Bool.{Bool, true, false}
 use mathlib.Core.List.{[], _∷_}
-use lib.ListN.{length, getD, take, drop}
+use lib.ListN.{getD, take, drop}
 use lib.Seq.{take-nil, drop-nil}
 use lib.Count.{ones, ones-step}
 use lib.Pow.{pow-pos}
@@ -25,12 +25,6 @@ unfolding binary
 binary-below zero m = omega arith
 binary-below (suc n) [] = pow-pos (suc n)
 binary-below (suc n) (b ∷ m) = rw pow-suc (omega (arith, binary-below n m, digit-low b))
-
-pub binary-fits : (n : ℕ) (m : Reduction) → length m ≤ n → binary m < 2 ^ n
-unfolding binary
-binary-fits n [] few = pow-pos n
-binary-fits zero (b ∷ m) few = absurd (omega arith)
-binary-fits (suc n) (b ∷ m) few = rw pow-suc (omega (arith, binary-fits n m (omega arith), digit-low b))
 
 -- one digit more, below the others
 pub binary-next : (n j : ℕ) (m : Reduction) → binary (take (suc n) (drop j m)) ≡ 2 * binary (take n (drop (j + 1) m)) + digit (getD m j false)

@@ -1,3 +1,3 @@
 -- What stands between the code and the definitions to be believed: laws and theorems tie the two together.
--- Places: the words of a mask as the code makes and reads them.
+-- Places: the ones of a mask's words, and a plan's words at them.
 pub mod Places

@@ -1,4 +1,4 @@
-// A reduction of a plan as a mask of four words: made from flags, counted, and written out.
+// A reduction of a plan as a mask of four words: made from flags, counted, read bit by bit, and written out.
 use access::flag;
 use access::write_word;
 ghost use mathlib.Core.Path.{_≡_};
@@ -8,7 +8,7 @@ ghost use lib.ListN.{length, getD, take, drop};
 ghost use lib.Seq.{sets};
 ghost use lib.Count.{ones as ones-in};
 ghost use Rattle.mask.specs.Mask.{word-bits, mask-bits, digit as digit-of, binary, mask-words, ones-of, bit-up};
-ghost use Rattle.mask.specs.between.Places.{with-bit, kept-by-words};
+ghost use Rattle.mask.specs.between.Places.{kept-by-words};
 
 // Document 01's mask. Its words may hold any values.
 pub struct Mask {
@@ -40,18 +40,6 @@ impl Mask {
         } else {
             false
         }
-    }
-
-    // The mask with the step at index i kept too.
-    pub fn with(self, i: usize) -> Mask
-        ensures { λ r. ⌜ r .words ≡ with-bit (self .words) i ⌝ }
-    {
-        let mut words = self.words;
-        let k = i / Mask::BITS;
-        if k < Mask::WORDS {
-            words[k] = words[k] | (1 << (i % Mask::BITS));
-        }
-        Mask { words }
     }
 }
 

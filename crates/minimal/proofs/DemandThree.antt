@@ -27,7 +27,7 @@ use Rattle.plan.specs.declared.check.Answer.{Answer}
 use Rattle.plan.specs.Valid.{steps}
 use Rattle.plan.specs.Checked.{plan-checks, told-answer}
 use Rattle.plan.proofs.PlanTheorem.{plan-theorem}
-use Rattle.service.specs.Reduced.{room-checks, reduction-checks, Answers}
+use Rattle.reduced.specs.Reduced.{room-checks, reduction-checks, Answers}
 use Rattle.minimal.specs.declared.within.Shortened.{Shortened}
 use Rattle.minimal.specs.Minimised.{unmarked-checks, minimal-checks, minimal-of, Minimises}
 use Rattle.minimal.specs.Statement.{Answered, Refused-unmarked, Demand-three}

@@ -35,12 +35,12 @@ use Rattle.landmark.specs.Marks.{marks, marked, unmarked}
 use Rattle.landmark.specs.between.Flagged.{Marks, Marks-lodged}
 use Rattle.landmark.proofs.MarkLaws.{marks-leave}
 use Rattle.landmark.proofs.MarkTheorem.{marks-length}
-use Rattle.service.specs.declared.finish.Kept.{Kept}
-use Rattle.service.specs.between.Held.{mask, Leaves}
-use Rattle.service.specs.between.Kept.{Finishes}
-use Rattle.service.specs.Reduced.{tally-left, room-checks, reduction-checks}
-use Rattle.service.proofs.LodgedLaws.{lodged-valid}
-use Rattle.service.proofs.AnswerLaws.{keeps, answers-refused, answers-kept}
+use Rattle.reduced.specs.declared.finish.Kept.{Kept}
+use Rattle.reduced.specs.between.Held.{mask, Leaves}
+use Rattle.reduced.specs.between.Kept.{Finishes}
+use Rattle.reduced.specs.Reduced.{tally-left, room-checks, reduction-checks}
+use Rattle.reduced.proofs.LodgedLaws.{lodged-valid}
+use Rattle.reduced.proofs.AnswerLaws.{keeps, answers-refused, answers-kept}
 use Rattle.packed_state.specs.between.Chosen.{most-choices, open-before}
 use Rattle.packed_state.proofs.ChosenLaws.{open-counted}
 use Rattle.turns.specs.between.Told.{Finds}

@@ -14,7 +14,7 @@ use Rattle.tally.specs.Tally.{nothing}
 use Rattle.sheet.specs.Decode.{goal, initial}
 use Rattle.plan.specs.Valid.{steps}
 use Rattle.plan.specs.Checked.{lodged-tally}
-use Rattle.service.specs.Reduced.{reduction-checks, Answers}
+use Rattle.reduced.specs.Reduced.{reduction-checks, Answers}
 use Rattle.landmark.specs.Marks.{marked, unmarked}
 use Rattle.minimal.specs.declared.within.Shortened.{Shortened}
 

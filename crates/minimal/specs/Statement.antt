@@ -17,7 +17,7 @@ use Rattle.sheet.specs.Decode.{goal, initial, task}
 use Rattle.plan.specs.declared.check.Answer.{Answer}
 use Rattle.plan.specs.Valid.{steps}
 use Rattle.plan.specs.Checked.{told-answer, told-tally}
-use Rattle.service.specs.Reduced.{tally-left}
+use Rattle.reduced.specs.Reduced.{tally-left}
 use Rattle.landmark.specs.Marks.{marks, unmarked}
 use Rattle.plan.specs.Readable.{Readable}
 

@@ -4,5 +4,3 @@ pub mod ReportLaws
 pub mod ToldLaws
 -- ShortenedLaws: what the minimal reduction tells of a list is what is printed for it.
 pub mod ShortenedLaws
--- LicensedLaws: what the licence tells of a list is what is printed for it.
-pub mod LicensedLaws

@@ -19,7 +19,7 @@ use Rattle.mask.proofs.MaskTheorem.{up-is-flag}
 use Rattle.sheet.specs.Layout.{cost-word}
 use Rattle.plan.specs.Checked.{lodged-tally}
 use Rattle.landmark.specs.Marks.{marked}
-use Rattle.service.specs.Reduced.{tally-left}
+use Rattle.reduced.specs.Reduced.{tally-left}
 use Rattle.minimal.specs.declared.within.Shortened.{Shortened}
 use Rattle.program.specs.Printed.{tally-line}
 use Rattle.program.specs.between.Room.{word-room, line-room, Short-line}

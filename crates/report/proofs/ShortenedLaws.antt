@@ -23,7 +23,7 @@ use Rattle.plan.specs.Readable.{Readable}
 use Rattle.plan.specs.declared.check.Answer.the-variants.{Valid, Refused}
 use Rattle.plan.specs.Checked.{told-answer}
 use Rattle.plan.proofs.PlanLaws.{passed-readable}
-use Rattle.service.specs.Reduced.{room-checks, reduction-checks}
+use Rattle.reduced.specs.Reduced.{room-checks, reduction-checks}
 use Rattle.minimal.specs.declared.within.Shortened.{Shortened}
 use Rattle.minimal.specs.Minimised.{most-unmarked, unmarked-checks, minimal-checks, minimal-of, Minimises}
 use Rattle.program.specs.Printed.{refusal-line}

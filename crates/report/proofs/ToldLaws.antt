@@ -13,7 +13,7 @@ use Rattle.plan.specs.Limits.{most-steps}
 use Rattle.plan.specs.declared.check.Answer.the-variants.{Valid}
 use Rattle.plan.specs.Checked.{told-answer, lodged-tally}
 use Rattle.landmark.specs.Marks.{marked}
-use Rattle.service.specs.Reduced.{Answers}
+use Rattle.reduced.specs.Reduced.{Answers}
 use Rattle.minimal.specs.declared.within.Shortened.{Shortened}
 use Rattle.report.specs.between.Reported.{Reports}
 

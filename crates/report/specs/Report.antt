@@ -9,7 +9,7 @@ use Rattle.sheet.specs.Layout.{cost-word}
 use Rattle.plan.specs.Checked.{lodged-tally}
 use Rattle.reduction.specs.Reduction.{Reduction}
 use Rattle.landmark.specs.Marks.{marked}
-use Rattle.service.specs.Reduced.{tally-left}
+use Rattle.reduced.specs.Reduced.{tally-left}
 use Rattle.program.specs.Printed.{tally-line}
 
 -- "for each kept step its position, action and price": a line for each, where the first step of the list stands at

@@ -48,7 +48,7 @@ fn put_steps(words: &[u32], plan: &[u32], mask: Mask, out: &mut [u8], at: usize)
 }
 
 // Puts all lines of a plan, of which `kept` is the tally left.
-pub(crate) fn put_report(
+pub fn put_report(
     words: &[u32],
     plan: &[u32],
     told: Shortened,

@@ -28,8 +28,8 @@ use Rattle.step.specs.State.{in-array}
 use Rattle.plan.specs.Limits.{most-steps}
 use Rattle.plan.specs.Valid.{steps}
 use Rattle.fact_bits.specs.between.Bits.{Told-behind}
-use Rattle.service.specs.Reduced.{tally-left}
-use Rattle.service.specs.between.Tallied.{tallied}
+use Rattle.reduced.specs.Reduced.{tally-left}
+use Rattle.reduced.specs.between.Tallied.{tallied}
 use Rattle.packed_state.specs.between.Chosen.{most-choices, open-before, chosen}
 use Rattle.packed_state.specs.between.Packed.{row-bytes, most-rows, written-over, packed-start}
 use Rattle.choice_rows.specs.between.Rows.{struck-row, Rowed}

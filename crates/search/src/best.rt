@@ -9,7 +9,7 @@ use packed_state::packed::ROWS;
 use packed_state::packed::start;
 use packed_state::packed::write_row;
 use plan::limits::Plan;
-use service::tallied::tally_of;
+use reduced::tallied::tally_of;
 use tally::Tally;
 use turns::chosen::Chosen;
 use turns::turns::keep;

@@ -2,7 +2,7 @@
 use access::flag;
 use choice_rows::rows::open;
 use plan::limits::Plan;
-use service::room::shorter;
+use reduced::room::shorter;
 use turns::chosen::BITS;
 ghost use mathlib.Core.Path.{_≡_};
 ghost use Rattle.turns.specs.between.Unpacked.{chosen-up, kept-by, Unpacks};

@@ -23,10 +23,10 @@ use Rattle.sheet.specs.Causes.{bad-length, bad-edition, bad-counts, due, wrong-
 use Rattle.plan.specs.between.Fault.{fault}
 use Rattle.plan.specs.Checked.{unknown-place, list-checks, read-checks, valid-checks, lodged-checks, plan-checks}
 use Rattle.plan.proofs.PlanTheorem.{passes-exactly}
-use Rattle.service.specs.Reduced.{tally-left}
+use Rattle.reduced.specs.Reduced.{tally-left}
 use Rattle.landmark.specs.Marks.{marks, unmarked}
 use Rattle.landmark.proofs.MarkTheorem.{marks-theorem}
-use Rattle.elimination.specs.Eliminations.{cheaper-of}
+use Rattle.cheaper.specs.Cheaper.{cheaper-of}
 use Rattle.minimal.specs.Minimised.{minimal-of}
 use Rattle.claim.specs.declared.answer.Claim.the-variants.{Irreducible}
 use Rattle.claim.specs.Licensed.{cheaper-list, claim-of, claimed-by, licensed-of}

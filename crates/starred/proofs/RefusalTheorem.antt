@@ -11,7 +11,7 @@ use Rattle.sheet.specs.Decode.{table, facts, initial, goal, action}
 use Rattle.sheet.specs.Causes.{bad-length, bad-edition, bad-counts, due, wrong-size, bad-pair, pair-place, bad-variable, variable-place, bad-fact, group-place, action-place, fact-place, cost-place, sheet-checks}
 use Rattle.plan.specs.between.Fault.{fault}
 use Rattle.plan.specs.Checked.{unknown-place, list-checks, read-checks, valid-checks, lodged-checks}
-use Rattle.service.specs.Reduced.{room-checks}
+use Rattle.reduced.specs.Reduced.{room-checks}
 use Rattle.landmark.specs.Marks.{marks}
 use Rattle.minimal.specs.Minimised.{unmarked-checks, minimal-checks}
 use Rattle.starred.specs.Rows.{Each}

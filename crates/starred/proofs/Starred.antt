@@ -31,7 +31,7 @@ use Rattle.plan.specs.between.Fault.{fault}
 use Rattle.plan.specs.Checked.{unknown-place, list-checks, read-checks, valid-checks, lodged-checks, plan-checks, lodged-tally}
 use Rattle.plan.proofs.PlanLaws.{read-readable}
 use Rattle.plan.proofs.PlanTheorem.{plan-theorem, passes-exactly}
-use Rattle.service.specs.Reduced.{room-checks, tally-left}
+use Rattle.reduced.specs.Reduced.{room-checks, tally-left}
 use Rattle.landmark.specs.Marks.{marks}
 use Rattle.landmark.proofs.MarkTheorem.{marks-theorem}
 use Rattle.minimal.specs.Minimised.{unmarked-checks, minimal-checks}
@@ -39,7 +39,7 @@ use Rattle.minimal.specs.Statement.{Is-marked}
 use Rattle.starred.specs.Sheets.{sheet-p, gate-alone, two-writers, one-for-both}
 use Rattle.starred.specs.Rows.{Way, Each, Just-at, struck-by, checks-of, By-rule, Keeps-at, Loses, Holds, Row-holds, list-1, rows}
 use Rattle.starred.specs.Rows.Way.{elimination, greedily, minimally}
-use Rattle.starred.specs.Rows.Claim.{valid-at, refused-at}
+use Rattle.starred.specs.Rows.Saying.{valid-at, refused-at}
 use Rattle.starred.proofs.RowLaws.{_also_, positions-from, kept-just}
 
 module _ (w l : List ℕ) where

@@ -10,7 +10,7 @@ use Rattle.reduction.specs.Reduction.{Reduction, keeps, whole}
 use Rattle.sheet.specs.Decode.{task}
 use Rattle.plan.specs.Valid.{steps}
 use Rattle.plan.specs.Readable.{Readable}
-use Rattle.service.specs.Reduced.{tally-left}
+use Rattle.reduced.specs.Reduced.{tally-left}
 use Rattle.landmark.specs.Marks.{unmarked}
 use Rattle.minimal.specs.Statement.{Valid-striking}
 use Rattle.claim.specs.declared.answer.Claim.{Claim}

@@ -9,7 +9,7 @@ use Rattle.refusal.specs.Refusal.{Told}
 use Rattle.refusal.specs.Check.{Check, answer}
 use Rattle.sheet.specs.Causes.{sheet-checks}
 use Rattle.plan.specs.Checked.{plan-checks}
-use Rattle.service.specs.Reduced.{reduction-checks}
+use Rattle.reduced.specs.Reduced.{reduction-checks}
 use Rattle.landmark.specs.Marks.{unmarked}
 use Rattle.minimal.specs.Minimised.{most-unmarked, minimal-checks}
 use Rattle.starred.specs.Sheets.{sheet-p}

@@ -18,7 +18,7 @@ use Rattle.sheet.specs.Decode.{initial, goal, task}
 use Rattle.sheet.specs.Causes.{Accepted}
 use Rattle.plan.specs.Valid.{steps}
 use Rattle.plan.specs.Checked.{plan-checks, lodged-tally}
-use Rattle.service.specs.Reduced.{reduction-checks, tally-left}
+use Rattle.reduced.specs.Reduced.{reduction-checks, tally-left}
 use Rattle.landmark.specs.Marks.{marks}
 use Rattle.elimination.specs.Eliminations.{elimination-of, greedy-elimination-of}
 use Rattle.minimal.specs.Minimised.{most-unmarked, minimal-checks, minimal-of}
@@ -35,23 +35,23 @@ abbrev pub all-three : List Way
 all-three = elimination ∷ greedily ∷ minimally ∷ []
 
 -- what document 01 says of a list
-pub data Claim : Type 0 where
+pub data Saying : Type 0 where
   -- it is valid, at this price with so many steps
-  valid-at : ℕ → ℕ → Claim
+  valid-at : ℕ → ℕ → Saying
   -- these positions are marked, and no others; the words of the mask
-  marked-at : List ℕ → List ℕ → Claim
+  marked-at : List ℕ → List ℕ → Saying
   -- each of these ways keeps these positions, and no others, at this price; the words of the mask
-  keep-at : List Way → List ℕ → ℕ → List ℕ → Claim
+  keep-at : List Way → List ℕ → ℕ → List ℕ → Saying
   -- to keep these positions is valid at this price, and loses at this position
-  loses-at : List ℕ → ℕ → ℕ → Claim
+  loses-at : List ℕ → ℕ → ℕ → Saying
   -- it is refused by number 11, at this place
-  refused-at : ℕ → Claim
+  refused-at : ℕ → Saying
 
 -- the words of a sheet, a list, and what is said of it
 pub record Row : Type 0 where
   pub sheet : List ℕ
   pub list : List ℕ
-  pub claim : Claim
+  pub says : Saying
 
 -- each element of a list passes
 abbrev pub Each : {A : Type 0} → (A → Type 0) → List A → Type 0
@@ -109,7 +109,7 @@ module _ (w l : List ℕ) where
       × (place ≡ length l + 1))
 
   -- what is said holds
-  abbrev pub Holds : Claim → Type 0
+  abbrev pub Holds : Saying → Type 0
   Holds (valid-at price n) =
       (answer (plan-checks w l) ≡ none) × Plan (task w) (steps w l)
       × (lodged-tally w l ≡ record { cost = price; steps = n })
@@ -122,7 +122,7 @@ module _ (w l : List ℕ) where
 
 -- a row holds: its sheet is accepted, and what is said of its list holds
 abbrev pub Row-holds : Row → Type 0
-Row-holds r = Accepted (r .sheet) × Holds (r .sheet) (r .list) (r .claim)
+Row-holds r = Accepted (r .sheet) × Holds (r .sheet) (r .list) (r .says)
 
 -- the words of a mask that has ones in its first word alone
 abbrev pub in-first-word : ℕ → List ℕ
@@ -133,8 +133,8 @@ abbrev pub list-1 : List ℕ
 list-1 = 3 ∷ 0 ∷ 2 ∷ 0 ∷ 1 ∷ 2 ∷ []
 
 -- one row
-abbrev pub said-of : List ℕ → List ℕ → Claim → Row
-said-of w l c = record { sheet = w; list = l; claim = c }
+abbrev pub said-of : List ℕ → List ℕ → Saying → Row
+said-of w l c = record { sheet = w; list = l; says = c }
 
 -- the worked lists 1 to 9, in order
 abbrev pub rows : List Row

@@ -11,8 +11,8 @@ use Rattle.reduction.specs.Reduction.{Reduction}
 use Rattle.tally.specs.declared.Tally.{Tally}
 use Rattle.plan.specs.declared.check.Answer.{Answer}
 use Rattle.plan.specs.Checked.{told-answer, told-tally}
-use Rattle.service.specs.Reduced.{Answers}
-use Rattle.elimination.specs.Eliminations.{Reduces-both}
+use Rattle.reduced.specs.Reduced.{Answers}
+use Rattle.cheaper.specs.Cheaper.{Reduces-both}
 use Rattle.minimal.specs.Minimised.{most-unmarked}
 use Rattle.minimal.specs.Statement.{Answered, Refused-unmarked, Demand-three-of, Demand-three}
 use Rattle.claim.specs.declared.answer.Claim.{Claim}

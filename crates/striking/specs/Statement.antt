@@ -14,7 +14,7 @@ use Rattle.plan.specs.Valid.{steps}
 use Rattle.plan.specs.Readable.{Readable}
 use Rattle.reduction.specs.Reduction.{Reduction, keeps, kept, count}
 use Rattle.reduction.specs.Minimal.{Minimal-reduction}
-use Rattle.service.specs.Reduced.{tally-left}
+use Rattle.reduced.specs.Reduced.{tally-left}
 use Rattle.landmark.specs.Marks.{unmarked}
 use Rattle.minimal.specs.Minimised.{most-unmarked}
 use Rattle.minimal.specs.Statement.{Is-marked, Valid-striking}

@@ -10,7 +10,7 @@ use Rattle.refusal.specs.Check.{answer, unless-refused}
 use Rattle.tally.specs.Tally.{nothing}
 use Rattle.reduction.specs.Reduction.{Reduction}
 use Rattle.mask.specs.Mask.{mask-length, mask-words}
-use Rattle.service.specs.Reduced.{reduction-checks, tally-left, output-left}
+use Rattle.reduced.specs.Reduced.{reduction-checks, tally-left, output-left}
 use Rattle.elimination.specs.declared.single.Elimination.{Elimination}
 use Rattle.elimination.specs.Eliminations.{elimination-of, greedy-elimination-of, left-by}
 use Rattle.minimal.specs.Minimised.{most-unmarked, minimal-checks, minimal-of}

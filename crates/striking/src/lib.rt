@@ -1,7 +1,7 @@
 // The services that strike, over lent words: the list left, its mask and the answer go to lent slices.
+use cheaper::both::cheaper;
 use claim::answer::Claim;
 use claim::license::license;
-use elimination::both::cheaper;
 use elimination::single::Elimination;
 use elimination::single::eliminate_plan;
 use lent::write_both;

@@ -30,10 +30,10 @@ use Rattle.sheet.specs.Layout.{cost-word}
 use Rattle.sheet.specs.Decode.{action}
 use Rattle.plan.specs.Readable.{Readable}
 use Rattle.plan.specs.Valid.{steps}
-use Rattle.service.specs.Reduced.{tally-left}
-use Rattle.service.specs.between.Tallied.{is-less, tallied}
-use Rattle.service.proofs.TalliedLaws.{plainly, left-bounded}
-use Rattle.service.proofs.LessLaws.{less-lower}
+use Rattle.reduced.specs.Reduced.{tally-left}
+use Rattle.reduced.specs.between.Tallied.{is-less, tallied}
+use Rattle.reduced.proofs.TalliedLaws.{plainly, left-bounded}
+use Rattle.reduced.proofs.LessLaws.{less-lower}
 use Rattle.packed_state.specs.between.Chosen.{most-choices, open-before, weight, chosen}
 use Rattle.packed_state.proofs.ChosenLaws.{open-unflagged, open-rises, chosen-unflagged, chosen-below, chosen-alike, chosen-stays}
 use Rattle.turns.specs.declared.chosen.Chosen.{Chosen}

@@ -34,7 +34,7 @@ use Rattle.sheet.proofs.Accepted.{accepted-well-formed}
 use Rattle.plan.specs.Valid.{steps}
 use Rattle.plan.proofs.PlanLaws.{steps-at, steps-plain}
 use Rattle.fact_bits.proofs.BitTheorem.{wanted-told, useful-told}
-use Rattle.service.specs.between.Tallied.{is-less}
+use Rattle.reduced.specs.between.Tallied.{is-less}
 use Rattle.packed_state.specs.between.Chosen.{most-choices, open-before}
 use Rattle.packed_state.specs.between.Packed.{has-all, written-over, Tells-state}
 use Rattle.choice_rows.specs.between.Rows.{strike-row, keep-row, use-row, struck-row, kept-row, costs-before}

@@ -7,7 +7,7 @@ ghost use mathlib.Core.Path.{_≡_};
 ghost use lib.ListN.{getD};
 ghost use lib.Bits.{bitOr};
 ghost use Rattle.tally.specs.Tally.{one-more, comparison};
-ghost use Rattle.service.specs.between.Tallied.{is-less};
+ghost use Rattle.reduced.specs.between.Tallied.{is-less};
 ghost use Rattle.turns.specs.between.Unpacked.{bit-of};
 
 // A reduction that keeps the flagged steps. It is small, and the turns hand it on by value.

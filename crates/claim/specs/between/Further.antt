@@ -9,7 +9,7 @@ use Rattle.refusal.specs.Check.{answer}
 use Rattle.tally.specs.declared.Tally.{Tally}
 use Rattle.plan.specs.Checked.{lodged-tally}
 use Rattle.landmark.specs.Marks.{unmarked}
-use Rattle.service.specs.Reduced.{reduction-checks}
+use Rattle.reduced.specs.Reduced.{reduction-checks}
 use Rattle.minimal.specs.Minimised.{most-unmarked}
 
 pub record Goes-further (w l before : List ℕ) (lodged : Tally) (others : ℕ) : Type 0 where

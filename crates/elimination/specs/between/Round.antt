@@ -9,12 +9,12 @@ use Rattle.sheet.specs.Decode.{initial, goal}
 use Rattle.plan.specs.Valid.{steps}
 use Rattle.reduction.specs.Reduction.{Reduction, Before}
 use Rattle.reduction.specs.between.Elimination.{best}
-use Rattle.service.specs.between.Held.{mask}
-use Rattle.service.specs.between.Tallied.{is-less}
+use Rattle.reduced.specs.between.Held.{mask}
+use Rattle.reduced.specs.between.Tallied.{is-less}
 use Rattle.elimination.specs.declared.greedy.Best.{Best}
-use Rattle.elimination.specs.declared.trial.Tried.{Tried}
-use Rattle.elimination.specs.between.Walk.{Balanced}
-use Rattle.elimination.specs.between.Current.{Current}
+use Rattle.trial.specs.declared.Tried.{Tried}
+use Rattle.trial.specs.between.Walk.{Balanced}
+use Rattle.trial.specs.between.Current.{Current}
 
 -- a success that strikes more, or the first, takes the place of the best so far
 unfoldable pub replaces : Best → Tried → Bool

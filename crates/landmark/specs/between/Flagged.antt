@@ -12,7 +12,7 @@ use Rattle.reduction.specs.Reduction.{Reduction}
 use Rattle.plan.specs.declared.check.Answer.{Answer}
 use Rattle.plan.specs.Limits.{most-steps}
 use Rattle.plan.specs.Checked.{lodged-checks, told-answer, told-tally, lodged-tally}
-use Rattle.service.specs.between.Held.{held}
+use Rattle.reduced.specs.between.Held.{held}
 use Rattle.landmark.specs.Marks.{marks}
 
 -- the check of the list l of the sheet w by these checks, with its marks in a flag for each step that a list may have:

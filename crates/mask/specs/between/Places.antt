@@ -1,14 +1,8 @@
--- The words of a mask as the code makes and reads them, one by one. Assumes nothing.
-use Prim.Native.Nat.{ℕ, _+_, _/_, _%_, _^_}
+-- The ones of a mask's words, in order, and a plan's words at them. Assumes nothing.
+use Prim.Native.Nat.{ℕ, _+_}
 use mathlib.Core.List.{List, [], _∷_, _++_}
-use lib.ListN.{getD, set}
-use lib.Bits.{bitOr}
 use Rattle.access.specs.between.Places.{ones-at, at-places}
 use Rattle.mask.specs.Mask.{word-bits}
-
--- the words with bit i of them one
-unfoldable pub with-bit : List ℕ → ℕ → List ℕ
-with-bit ws i = set ws (i / word-bits) (bitOr (getD ws (i / word-bits) 0) (2 ^ (i % word-bits)))
 
 -- the places of the ones in words, the lowest digit of the first at place i
 unfoldable pub places : ℕ → List ℕ → List ℕ

@@ -13,17 +13,13 @@ use Rattle.sheet.specs.Layout.{cost-word}
 use Rattle.plan.specs.Limits.{most-steps}
 use Rattle.plan.specs.Checked.{lodged-tally}
 use Rattle.landmark.specs.Marks.{marked}
-use Rattle.service.specs.Reduced.{tally-left}
+use Rattle.reduced.specs.Reduced.{tally-left}
 use Rattle.program.specs.between.Room.{line-room}
 use Rattle.minimal.specs.declared.within.Shortened.{Shortened}
 
 -- the most bytes that are printed: three lines, and one for each step
 abbrev pub report-room : ℕ
 report-room = line-room * (3 + most-steps)
-
--- and with the line of a claim before it
-abbrev pub licence-room : ℕ
-licence-room = line-room + report-room
 
 -- a mask that is the reduction m of the list l
 pub record Masks-steps (l : List ℕ) (m : Reduction) (mask : Mask) : Type 0 where

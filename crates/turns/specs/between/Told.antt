@@ -18,8 +18,8 @@ use Rattle.plan.specs.Limits.{most-steps}
 use Rattle.plan.specs.Readable.{Readable}
 use Rattle.plan.specs.Valid.{steps}
 use Rattle.fact_bits.specs.between.Bits.{Told-behind}
-use Rattle.service.specs.Reduced.{tally-left}
-use Rattle.service.specs.between.Held.{Leaves}
+use Rattle.reduced.specs.Reduced.{tally-left}
+use Rattle.reduced.specs.between.Held.{Leaves}
 use Rattle.packed_state.specs.between.Chosen.{most-choices, open-before, chosen}
 use Rattle.packed_state.specs.between.Packed.{row-bytes, most-rows, Tells-state}
 use Rattle.choice_rows.specs.between.Rows.{rows-before, costs-before}

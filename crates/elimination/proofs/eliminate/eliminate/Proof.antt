@@ -6,8 +6,7 @@ use Prim.Native.Nat.{_-_}
 use lib.ListN.{length}
 use Rattle.step.specs.State.{front}
 use Rattle.step.proofs.StateLaws.{front-initial}
-use Rattle.elimination.proofs.CurrentLaws.{eliminates-struck, eliminates-done, eliminates-nothing}
-use Rattle.elimination.proofs.EliminateLaws.{Eliminating, eliminating-start, eliminating-more, eliminating-end}
+use Rattle.elimination.proofs.EliminateLaws.{eliminates-struck, eliminates-done, eliminates-nothing, Eliminating, eliminating-start, eliminating-more, eliminating-end}
 use Rattle.elimination.proofs.eliminate.eliminate.Statement.{statement}
 use Rattle.elimination.proofs.eliminate.eliminate.Tie as tie
 

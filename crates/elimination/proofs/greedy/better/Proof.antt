@@ -1,7 +1,7 @@
 -- `better` meets its contract: a trial that fails, a first success, one that strikes more, or one that does not. Assumes nothing.
 use mathlib.Core.Path.{ap}
-use Rattle.service.specs.between.Tallied.{is-less}
-use Rattle.elimination.proofs.RoundLaws.{fails, first-success, more-success, no-more-success}
+use Rattle.reduced.specs.between.Tallied.{is-less}
+use Rattle.elimination.proofs.BetterLaws.{fails, first-success, more-success, no-more-success}
 use borrow.Author.Needs.{needs}
 use Rattle.elimination.proofs.greedy.better.Statement.{statement}
 use Rattle.elimination.proofs.greedy.better.Tie as tie

@@ -8,7 +8,7 @@ use Prim.Native.Nat.{_-_, _≤_}
 use lib.ListN.{length}
 use Rattle.step.specs.State.{front}
 use Rattle.step.proofs.StateLaws.{front-initial}
-use Rattle.service.specs.between.Held.{mask}
+use Rattle.reduced.specs.between.Held.{mask}
 use Rattle.elimination.specs.between.Round.{Looks}
 use Rattle.elimination.proofs.greedy.round.Statement.{statement}
 use Rattle.elimination.proofs.greedy.round.Tie as tie

@@ -1,7 +1,7 @@
 -- `eliminate_plan` meets its contract: a list that passes is valid where the elimination begins, and it leaves what the definition says. Assumes nothing.
 use Rattle.elimination.proofs.LeavesLaws.{left-leaves}
-use Rattle.service.proofs.AnswerLaws.{keeps, answers-refused, answers-kept}
-use Rattle.service.proofs.LodgedLaws.{room-checked, nothing-refused, lodged-valid}
+use Rattle.reduced.proofs.AnswerLaws.{keeps, answers-refused, answers-kept}
+use Rattle.reduced.proofs.LodgedLaws.{room-checked, nothing-refused, lodged-valid}
 use Rattle.plan.proofs.PlanLaws.{passed-readable}
 use mathlib.Core.Path.{sym}
 use borrow.Author.Needs.{needs}

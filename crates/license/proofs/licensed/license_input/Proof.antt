@@ -2,7 +2,7 @@
 use native.Mathlib.Omega.{arith}
 use mathlib.Core.Path.{refl}
 use Rattle.program.specs.between.Room.{Text-put}
-use Rattle.report.specs.between.Reported.{licence-room}
+use Rattle.claim_report.specs.between.LicenceRoom.{licence-room}
 use Rattle.program.proofs.ReplyLaws.{reply-refused, reply-lodged}
 use borrow.Author.Needs.{needs}
 use Rattle.license.proofs.licensed.license_input.Statement.{statement}
