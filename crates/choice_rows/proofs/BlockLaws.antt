@@ -18,7 +18,7 @@ use Rattle.sas.proofs.ActionLaws.{applicable-needed}
 use Rattle.sas.proofs.WellFormedLaws.{Actions-plain, rising-few}
 use Rattle.reduction.specs.Reduction.{Reduction}
 use Rattle.reduction.specs.between.Course.{held-after}
-use Rattle.reduction.proofs.HeldLaws.{each-step}
+use Rattle.reduction.proofs.turns.HeldLaws.{each-step}
 use Rattle.sheet.specs.Decode.{domains, action}
 use Rattle.sheet.proofs.Parts.{accepted-measured}
 use Rattle.sheet.proofs.Accepted.{domains-length}

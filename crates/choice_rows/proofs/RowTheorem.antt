@@ -20,7 +20,7 @@ use Rattle.reduction.specs.Reduction.{Reduction}
 use Rattle.reduction.specs.Landmark.{step}
 use Rattle.reduction.specs.between.Search.{Visit}
 use Rattle.reduction.specs.between.Course.{held-after, held, On-course}
-use Rattle.reduction.proofs.HeldLaws.{held-kept, held-struck, held-alike}
+use Rattle.reduction.proofs.turns.HeldLaws.{held-kept, held-struck, held-alike}
 use Rattle.sheet.specs.Limits.{limits}
 use Rattle.sheet.specs.Layout.{cost-word}
 use Rattle.sheet.specs.Decode.{domains, initial, goal, action, task}

@@ -22,7 +22,7 @@ use Rattle.sas.proofs.FactLaws.{satisfies-nothing, satisfies-more, satisfies-fa
 use Rattle.sas.proofs.WellFormedLaws.{rising-few}
 use Rattle.sas.proofs.ActionLaws.{apply-length}
 use Rattle.reduction.specs.between.Course.{held-after}
-use Rattle.reduction.proofs.HeldLaws.{apply-held}
+use Rattle.reduction.proofs.turns.HeldLaws.{apply-held}
 use Rattle.fact_bits.specs.between.Bits.{bits-hold}
 use Rattle.packed_state.specs.between.Packed.{state-bytes, row-bytes, most-rows, asks-at, value-at}
 use Rattle.packed_state.specs.between.Packed.{lacking, taking, misses, has-all, written-from, written-over}

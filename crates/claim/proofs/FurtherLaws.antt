@@ -17,7 +17,7 @@ use Rattle.tally.specs.declared.Tally.{Tally}
 use Rattle.tally.proofs.TallyLaws.{same-tally}
 use Rattle.reduction.specs.Reduction.{Reduction, kept, count, compose, valid}
 use Rattle.reduction.proofs.ReductionLaws.{kept-length, left-length, kept-compose, compose-length}
-use Rattle.reduction.proofs.RoundLaws.{count-few}
+use Rattle.reduction.proofs.marks.RoundLaws.{count-few}
 use Rattle.mask.specs.declared.Mask.{Mask}
 use Rattle.mask.specs.Mask.{mask-bits, mask-words}
 use Rattle.mask.proofs.MaskTheorem.{front-and-rest}

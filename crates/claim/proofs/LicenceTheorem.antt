@@ -13,8 +13,8 @@ use Rattle.reduction.specs.Reduction.{Reduction, kept, whole, valid, Valid-redu
 use Rattle.reduction.specs.Landmark.{Landmark}
 use Rattle.reduction.specs.Minimal.{Minimal-reduction}
 use Rattle.reduction.proofs.ReductionLaws.{kept-lodged, left-length, left-cost, reduced-plan, kept-compose, compose-valid}
-use Rattle.reduction.proofs.MinimalTheorem.{nothing-more}
-use Rattle.reduction.proofs.LandmarksKept.{all-marked-whole}
+use Rattle.reduction.proofs.minimal.MinimalTheorem.{nothing-more}
+use Rattle.reduction.proofs.marks.LandmarksKept.{all-marked-whole}
 use Rattle.sheet.specs.Decode.{goal, initial, action, task}
 use Rattle.plan.specs.Valid.{steps}
 use Rattle.plan.specs.Readable.{Readable}

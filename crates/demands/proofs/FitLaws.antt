@@ -12,7 +12,7 @@ use Rattle.plan.specs.Limits.{most-steps}
 use Rattle.plan.specs.Valid.{steps}
 use Rattle.plan.proofs.PlanLaws.{passed-readable}
 use Rattle.reduction.specs.Reduction.{Reduction, meets}
-use Rattle.reduction.proofs.MinimalTheorem.{minimal-found}
+use Rattle.reduction.proofs.minimal.MinimalTheorem.{minimal-found}
 use Rattle.reduced.specs.Reduced.{reduction-checks}
 use Rattle.reduced.proofs.LodgedLaws.{lodged-plan, lodged-valid, roomy}
 use Rattle.elimination.specs.declared.single.Elimination.{Elimination}

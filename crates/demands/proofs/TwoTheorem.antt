@@ -16,7 +16,7 @@ use Rattle.reduction.specs.Reduction.{Reduction, kept, count, whole}
 use Rattle.reduction.specs.between.Order.{lower}
 use Rattle.reduction.proofs.ReductionLaws.{kept-whole, count-whole, kept-length}
 use Rattle.reduction.proofs.LowerLaws.{lower-true, true-lower}
-use Rattle.reduction.proofs.EliminationTheorem.{elimination-in-words, greedy-in-words}
+use Rattle.reduction.proofs.trials.EliminationTheorem.{elimination-in-words, greedy-in-words}
 use Rattle.mask.specs.Mask.{mask-bits}
 use Rattle.mask.proofs.MaskTheorem.{up-is-flag, ones-are-kept}
 use Rattle.tally.specs.declared.Tally.{Tally}

@@ -15,8 +15,8 @@ use Rattle.plan.specs.Valid.{steps}
 use Rattle.reduction.specs.Reduction.{Reduction, whole, valid, Before}
 use Rattle.reduction.specs.between.Elimination.{eliminated, eliminate}
 use Rattle.reduction.proofs.ReductionLaws.{kept-whole}
-use Rattle.reduction.proofs.TrialLaws.{unkept-fails}
-use Rattle.reduction.proofs.BeforeLaws.{before-first}
+use Rattle.reduction.proofs.trials.TrialLaws.{unkept-fails}
+use Rattle.reduction.proofs.minimal.BeforeLaws.{before-first}
 use Rattle.reduced.specs.between.Held.{mask, held, none-struck}
 use Rattle.reduced.proofs.HeldLaws.{all-held}
 use Rattle.trial.specs.between.Trial.{Makes-trial}

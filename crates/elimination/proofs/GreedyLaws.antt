@@ -11,7 +11,7 @@ use Rattle.plan.specs.Limits.{most-steps}
 use Rattle.plan.specs.Valid.{steps}
 use Rattle.reduction.specs.Reduction.{Reduction, valid}
 use Rattle.reduction.specs.between.Elimination.{best, rounds, greedy}
-use Rattle.reduction.proofs.BeforeLaws.{before-first}
+use Rattle.reduction.proofs.minimal.BeforeLaws.{before-first}
 use Rattle.elimination.specs.declared.greedy.Best.{Best}
 use Rattle.reduced.specs.between.Held.{mask, held, none-struck}
 use Rattle.trial.specs.between.Current.{Current}

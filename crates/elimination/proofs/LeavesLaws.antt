@@ -10,7 +10,7 @@ use Rattle.plan.specs.Valid.{steps}
 use Rattle.plan.specs.Readable.{Readable}
 use Rattle.reduction.specs.Reduction.{Reduction, valid, Valid-reduction}
 use Rattle.reduction.proofs.ReductionLaws.{kept-length}
-use Rattle.reduction.proofs.EliminationTheorem.{eliminate-shortens, greedy-shortens}
+use Rattle.reduction.proofs.trials.EliminationTheorem.{eliminate-shortens, greedy-shortens}
 use Rattle.reduced.specs.Reduced.{tally-left}
 use Rattle.reduced.specs.between.Held.{mask, held, Leaves}
 use Rattle.reduced.specs.between.Tallied.{tallied}

@@ -14,7 +14,7 @@ use Rattle.plan.specs.Valid.{steps}
 use Rattle.reduction.specs.Reduction.{Reduction, kept, Before}
 use Rattle.reduction.specs.between.Order.{lower}
 use Rattle.reduction.specs.between.Elimination.{trial, better, best}
-use Rattle.reduction.proofs.TrialLaws.{unkept-fails}
+use Rattle.reduction.proofs.trials.TrialLaws.{unkept-fails}
 use Rattle.elimination.specs.declared.greedy.Best.{Best}
 use Rattle.trial.specs.declared.Tried.{Tried}
 use Rattle.trial.specs.between.Walk.{Balanced}

@@ -11,7 +11,7 @@ use lib.ListN.{length, getD, length-map}
 use Rattle.sas.specs.Plan.{needed}
 use Rattle.reduction.specs.Reduction.{Reduction}
 use Rattle.reduction.specs.Landmark.{step, framed}
-use Rattle.reduction.proofs.FrameLaws.{framed-step, framed-end}
+use Rattle.reduction.proofs.marks.FrameLaws.{framed-step, framed-end}
 use Rattle.sheet.specs.declared.group.Group.{Group}
 use Rattle.sheet.specs.Decode.{initial, goal, action}
 use Rattle.sheet.specs.between.Group.{goal-group, needed-group, facts-in}

@@ -14,7 +14,7 @@ use Rattle.refusal.specs.Refusal.{told-refusal}
 use Rattle.refusal.specs.Check.{answer}
 use Rattle.refusal.proofs.CheckLaws.{answer-nothing}
 use Rattle.reduction.specs.Reduction.{Reduction}
-use Rattle.reduction.proofs.LandmarkTheorem.{landmarks-length}
+use Rattle.reduction.proofs.marks.LandmarkTheorem.{landmarks-length}
 use Rattle.tally.specs.declared.Tally.{Tally}
 use Rattle.mask.specs.Mask.{mask-length, mask-words}
 use Rattle.sheet.specs.Decode.{initial, goal}

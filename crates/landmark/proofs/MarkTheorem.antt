@@ -17,8 +17,8 @@ use Rattle.sas.proofs.WellFormedLaws.{Actions-formed}
 use Rattle.reduction.specs.Reduction.{keeps}
 use Rattle.reduction.specs.Landmark.{Landmark}
 use Rattle.reduction.specs.OlderRule.{Older-marked}
-use Rattle.reduction.proofs.LandmarkTheorem.{landmarks-length, flagged-just-marked}
-use Rattle.reduction.proofs.OlderTheorem.{older-still-marked}
+use Rattle.reduction.proofs.marks.LandmarkTheorem.{landmarks-length, flagged-just-marked}
+use Rattle.reduction.proofs.marks.OlderTheorem.{older-still-marked}
 use Rattle.sheet.specs.Decode.{domains, initial, goal, action, task}
 use Rattle.sheet.proofs.Accepted.{accepted-well-formed}
 use Rattle.mask.specs.Mask.{mask-bits, bit-up}

@@ -14,8 +14,8 @@ use Rattle.reduction.specs.Landmark.{step, Link}
 use Rattle.reduction.specs.between.Order.{Contains}
 use Rattle.reduction.specs.between.Landmarks.{support, supported, round}
 use Rattle.reduction.proofs.ReductionLaws.{kept-inside}
-use Rattle.reduction.proofs.LinkLaws.{either, before-or-at}
-use Rattle.reduction.proofs.RoundLaws.{raised-length, raised-more, Closed, supported-links, link-raised, round-why}
+use Rattle.reduction.proofs.marks.LinkLaws.{either, before-or-at}
+use Rattle.reduction.proofs.marks.RoundLaws.{raised-length, raised-more, Closed, supported-links, link-raised, round-why}
 use Rattle.landmark.specs.between.Passes.{pass-from, pass}
 
 module _ (q : List Action) (m : Reduction) where

@@ -19,11 +19,11 @@ use Rattle.reduction.specs.Landmark.{step}
 use Rattle.reduction.specs.between.Order.{Contains}
 use Rattle.reduction.specs.between.Landmarks.{rounds, ends-alone, landmarks}
 use Rattle.reduction.proofs.ReductionLaws.{kept-inside}
-use Rattle.reduction.proofs.HeldLaws.{each-step}
-use Rattle.reduction.proofs.FrameLaws.{framed-start, framed-step, framed-end, framed-past}
-use Rattle.reduction.proofs.LinkLaws.{either, before-or-at}
-use Rattle.reduction.proofs.RoundLaws.{up-more, up-why, same-flags}
-use Rattle.reduction.proofs.LandmarkTheorem.{step-flag, step-flags-length, ends-why, framed-length, flags, flags-length, flags-fit, start-up, end-up, last-closed}
+use Rattle.reduction.proofs.turns.HeldLaws.{each-step}
+use Rattle.reduction.proofs.marks.FrameLaws.{framed-start, framed-step, framed-end, framed-past}
+use Rattle.reduction.proofs.marks.LinkLaws.{either, before-or-at}
+use Rattle.reduction.proofs.marks.RoundLaws.{up-more, up-why, same-flags}
+use Rattle.reduction.proofs.marks.LandmarkTheorem.{step-flag, step-flags-length, ends-why, framed-length, flags, flags-length, flags-fit, start-up, end-up, last-closed}
 use Rattle.sheet.specs.declared.group.Group.{Group}
 use Rattle.sheet.specs.Limits.{limits}
 use Rattle.sheet.specs.Decode.{initial, goal, domains, action}

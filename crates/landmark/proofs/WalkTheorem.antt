@@ -17,7 +17,7 @@ use Rattle.reduction.specs.Reduction.{Reduction}
 use Rattle.reduction.specs.Landmark.{step}
 use Rattle.reduction.specs.between.Wanted.{has}
 use Rattle.reduction.specs.between.Landmarks.{passed, trace, support, raised, supported}
-use Rattle.reduction.proofs.LinkLaws.{before-or-at}
+use Rattle.reduction.proofs.marks.LinkLaws.{before-or-at}
 use Rattle.sheet.specs.Limits.{limits}
 use Rattle.sheet.specs.Decode.{domains}
 use Rattle.sheet.specs.between.Encode.{fact-word}

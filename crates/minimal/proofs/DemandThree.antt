@@ -17,9 +17,9 @@ use Rattle.sas.specs.Plan.{Plan}
 use Rattle.reduction.specs.Reduction.{meets, kept, count, valid}
 use Rattle.reduction.proofs.ValidLaws.{plan-valid}
 use Rattle.reduction.proofs.ReductionLaws.{kept-length, left-length, reduced-plan}
-use Rattle.reduction.proofs.LandmarksKept.{landmark-kept}
+use Rattle.reduction.proofs.marks.LandmarksKept.{landmark-kept}
 use Rattle.reduction.specs.Minimal.{Minimal-reduction}
-use Rattle.reduction.proofs.MinimalTheorem.{minimal-found}
+use Rattle.reduction.proofs.minimal.MinimalTheorem.{minimal-found}
 use Rattle.mask.specs.Mask.{mask-bits}
 use Rattle.mask.proofs.MaskTheorem.{front-and-rest}
 use Rattle.sheet.specs.Decode.{goal, initial, action, task}

@@ -18,8 +18,8 @@ use Rattle.refusal.proofs.CheckLaws.{answer-fires, answer-passes, answer-nothin
 use Rattle.reduction.specs.Reduction.{Reduction, whole, meets}
 use Rattle.reduction.specs.between.Sound.{Flags-kept}
 use Rattle.reduction.proofs.ReductionLaws.{kept-length, kept-whole}
-use Rattle.reduction.proofs.RoundLaws.{count-few}
-use Rattle.reduction.proofs.LandmarksKept.{landmarks-kept}
+use Rattle.reduction.proofs.marks.RoundLaws.{count-few}
+use Rattle.reduction.proofs.marks.LandmarksKept.{landmarks-kept}
 use Rattle.tally.specs.declared.Tally.{Tally}
 use Rattle.tally.proofs.TallyLaws.{same-tally}
 use Rattle.mask.specs.Mask.{mask-bits, mask-words, ones-of}

@@ -1,6 +1,6 @@
 -- Document 01's own rule for marks ("Marks", from source document 001, propositions 3 and 4), which document 02's rule
 -- replaces. No service goes by it: it stands here for the theorem that every step it marks is still marked
--- (`older-still-marked` of proofs/OlderTheorem). Steps stand at indices from 0. Assumes nothing.
+-- (`older-still-marked` of proofs/marks/OlderTheorem). Steps stand at indices from 0. Assumes nothing.
 use Prim.Native.Nat.{ℕ, _<_}
 use mathlib.Core.Path.{_≡_}
 use mathlib.Core.Logic.{_≢_}

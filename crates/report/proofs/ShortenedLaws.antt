@@ -15,7 +15,7 @@ use Rattle.sas.specs.Task.{State, Action}
 use Rattle.tally.specs.declared.Tally.{Tally}
 use Rattle.reduction.specs.Reduction.{Reduction, whole, meets}
 use Rattle.reduction.specs.between.Found.{found, minimal}
-use Rattle.reduction.proofs.MinimalTheorem.{found-minimal}
+use Rattle.reduction.proofs.minimal.MinimalTheorem.{found-minimal}
 use Rattle.sheet.specs.Decode.{initial, goal, action}
 use Rattle.plan.specs.Limits.{most-steps}
 use Rattle.plan.specs.Valid.{steps}

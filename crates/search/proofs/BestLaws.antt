@@ -17,11 +17,11 @@ use Rattle.reduction.specs.between.Order.{Contains}
 use Rattle.reduction.specs.between.Found.{minimal}
 use Rattle.reduction.specs.between.Search.{Visit, first-visit}
 use Rattle.reduction.specs.between.Cuts.{tests}
-use Rattle.reduction.proofs.MinimalTheorem.{minimal-found}
-use Rattle.reduction.proofs.TurnLaws.{search-turns}
-use Rattle.reduction.proofs.UseLaws.{tests-sound}
-use Rattle.reduction.proofs.CourseLaws.{course-begins}
-use Rattle.reduction.proofs.SearchTheorem.{search-finds}
+use Rattle.reduction.proofs.minimal.MinimalTheorem.{minimal-found}
+use Rattle.reduction.proofs.turns.TurnLaws.{search-turns}
+use Rattle.reduction.proofs.turns.UseLaws.{tests-sound}
+use Rattle.reduction.proofs.turns.CourseLaws.{course-begins}
+use Rattle.reduction.proofs.turns.SearchTheorem.{search-finds}
 use Rattle.tally.specs.declared.Tally.{Tally}
 use Rattle.sheet.specs.Decode.{domains, initial, goal, action}
 use Rattle.step.specs.State.{in-array}

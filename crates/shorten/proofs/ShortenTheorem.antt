@@ -9,7 +9,7 @@ use Rattle.sheet.specs.Decode.{task}
 use Rattle.plan.specs.Limits.{most-steps}
 use Rattle.plan.specs.Valid.{steps}
 use Rattle.plan.specs.Readable.{Readable}
-use Rattle.reduction.proofs.LandmarksKept.{landmark-kept}
+use Rattle.reduction.proofs.marks.LandmarksKept.{landmark-kept}
 use Rattle.plan.proofs.PlanLaws.{steps-formed}
 use Rattle.landmark.specs.Marks.{unmarked}
 use Rattle.minimal.specs.Minimised.{most-unmarked, minimal-of}

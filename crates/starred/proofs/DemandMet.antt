@@ -24,7 +24,7 @@ use Rattle.plan.specs.Readable.{Readable}
 use Rattle.plan.specs.Valid.{steps}
 use Rattle.plan.specs.Checked.{told-answer, told-tally}
 use Rattle.plan.proofs.PlanTheorem.{passes-exactly}
-use Rattle.reduction.proofs.MinimalTheorem.{minimal-once}
+use Rattle.reduction.proofs.minimal.MinimalTheorem.{minimal-once}
 use Rattle.minimal.specs.Minimised.{most-unmarked, minimal-of}
 use Rattle.minimal.specs.Statement.{Answered, Demand-three-of, Demand-three}
 use Rattle.minimal.proofs.DemandThree.{is-minimal}

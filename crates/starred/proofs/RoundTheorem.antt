@@ -12,8 +12,8 @@ use Rattle.reduction.specs.Reduction.{Reduction, keeps}
 use Rattle.reduction.specs.Landmark.{values-from, framed}
 use Rattle.reduction.specs.between.Wanted.{some-fact, same-fact, has}
 use Rattle.reduction.specs.between.Landmarks.{sets-other, passed, trace, raised, round-to, rounds}
-use Rattle.reduction.proofs.LinkLaws.{either}
-use Rattle.reduction.proofs.LandmarkTheorem.{flags, flagged-in-round, in-round-flagged}
+use Rattle.reduction.proofs.marks.LinkLaws.{either}
+use Rattle.reduction.proofs.marks.LandmarkTheorem.{flags, flagged-in-round, in-round-flagged}
 use Rattle.sheet.specs.Decode.{table, facts, initial, goal, action}
 use Rattle.plan.specs.Valid.{steps}
 use Rattle.starred.specs.Sheets.{sheet-p}

@@ -20,8 +20,8 @@ use Rattle.reduction.specs.between.Wanted.{some-fact, same-fact, has}
 use Rattle.reduction.specs.Landmark.{values-from, framed}
 use Rattle.reduction.specs.between.Landmarks.{sets-other, passed, trace, raised, round-to, rounds as mark-rounds, landmarks}
 use Rattle.reduction.specs.between.Found.{found, minimal}
-use Rattle.reduction.proofs.EliminationTheorem.{eliminate-shortens, greedy-shortens}
-use Rattle.reduction.proofs.MinimalTheorem.{minimal-found}
+use Rattle.reduction.proofs.trials.EliminationTheorem.{eliminate-shortens, greedy-shortens}
+use Rattle.reduction.proofs.minimal.MinimalTheorem.{minimal-found}
 use Rattle.mask.specs.Mask.{binary, words-of, mask-words}
 use Rattle.sheet.specs.Decode.{table, facts, initial, goal, action}
 use Rattle.sheet.specs.Causes.{bad-length, bad-edition, bad-counts, due, wrong-size, bad-pair, pair-place, bad-variable, variable-place, bad-fact, group-place, action-place, fact-place, cost-place, sheet-checks}

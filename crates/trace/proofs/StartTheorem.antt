@@ -18,8 +18,8 @@ use Rattle.reduction.specs.Reduction.{Reduction, keeps}
 use Rattle.reduction.specs.Landmark.{step, start-step}
 use Rattle.reduction.specs.between.Wanted.{has}
 use Rattle.reduction.specs.between.Landmarks.{sets-other, Trace, passed, trace}
-use Rattle.reduction.proofs.FrameLaws.{start-other, start-other-false}
-use Rattle.reduction.proofs.LinkLaws.{either, before-or-at, sets-writes, writes-sets}
+use Rattle.reduction.proofs.marks.FrameLaws.{start-other, start-other-false}
+use Rattle.reduction.proofs.marks.LinkLaws.{either, before-or-at, sets-writes, writes-sets}
 use Rattle.sheet.specs.Limits.{limits}
 use Rattle.sheet.specs.Decode.{domains, initial, task}
 use Rattle.sheet.specs.between.Encode.{fact-word}

@@ -18,7 +18,7 @@ use Rattle.sas.specs.between.WellFormed.{Known, Action-formed}
 use Rattle.reduction.specs.between.Wanted.{some-fact, same-fact, has}
 use Rattle.reduction.specs.between.Landmarks.{other-value, sets-other, Trace, passed}
 use Rattle.reduction.proofs.MemberLaws.{same-fact-true, same-fact-refl}
-use Rattle.reduction.proofs.LinkLaws.{either}
+use Rattle.reduction.proofs.marks.LinkLaws.{either}
 use Rattle.sheet.specs.Limits.{limits}
 use Rattle.sheet.specs.Decode.{domains}
 use Rattle.sheet.specs.between.Encode.{fact-word}

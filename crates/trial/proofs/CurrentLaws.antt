@@ -20,8 +20,8 @@ use Rattle.plan.proofs.FaultLaws.{steps-drop}
 use Rattle.reduction.specs.Reduction.{Reduction, Before}
 use Rattle.reduction.specs.between.Elimination.{trial}
 use Rattle.reduction.specs.Trials.{walk, after}
-use Rattle.reduction.proofs.TrialLaws.{From-before, trial-from-before, trial-succeeds, success-valid, walk-length}
-use Rattle.reduction.proofs.BeforeLaws.{Passes, before-next, walk-past}
+use Rattle.reduction.proofs.trials.TrialLaws.{From-before, trial-from-before, trial-succeeds, success-valid, walk-length}
+use Rattle.reduction.proofs.minimal.BeforeLaws.{Passes, before-next, walk-past}
 use Rattle.trial.specs.between.Trial.{Makes-trial}
 use Rattle.reduced.specs.between.Held.{mask}
 use Rattle.trial.specs.between.Current.{Current}

@@ -17,7 +17,7 @@ use Rattle.step.specs.between.Advance.{Advances}
 use Rattle.plan.specs.Valid.{steps}
 use Rattle.reduction.specs.Reduction.{Reduction}
 use Rattle.reduction.specs.Trials.{walk, after}
-use Rattle.reduction.proofs.TrialLaws.{walk-done, walk-struck, after-done, after-struck}
+use Rattle.reduction.proofs.trials.TrialLaws.{walk-done, walk-struck, after-done, after-struck}
 use Rattle.trial.specs.between.Walk.{flags-after, state-after, Fits, Balanced, Walks-rest, Does-or-strikes}
 use Rattle.trial.proofs.BalanceLaws.{strike-balanced, same-balanced, balanced-then, balanced-fits}
 

@@ -25,7 +25,7 @@ use Rattle.plan.specs.Readable.{Readable}
 use Rattle.plan.specs.Valid.{steps}
 use Rattle.plan.proofs.PlanLaws.{goal-rising, rest-formed}
 use Rattle.reduction.specs.Trials.{after}
-use Rattle.reduction.proofs.PartWalk.{Own-needs, part-walk, after-length}
+use Rattle.reduction.proofs.trials.PartWalk.{Own-needs, part-walk, after-length}
 use Rattle.reduction.specs.Reduction.{Reduction}
 use Rattle.trial.specs.between.Walk.{flags-after, state-after, Fits, Balanced, Walks-rest}
 use Rattle.trial.specs.between.Trial.{Makes-trial}

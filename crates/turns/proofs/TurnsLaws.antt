@@ -23,10 +23,10 @@ use Rattle.reduction.specs.between.Search.{Visit, Tests, struck, done, handed, 
 use Rattle.reduction.specs.between.Search.Turn.{strike, keep}
 use Rattle.reduction.specs.between.Cuts.{wanted-held, useful, tests}
 use Rattle.reduction.specs.between.Course.{On-course}
-use Rattle.reduction.proofs.TurnLaws.{turns, strike-met, strike-not-lower, keep-end, strike-barred, strike-goes-on, keep-stuck, keep-barred, keep-goes-on}
-use Rattle.reduction.proofs.CourseLaws.{Moves-to, moved, course-handed, course-ends, course-struck, course-done, course-runs}
+use Rattle.reduction.proofs.turns.TurnLaws.{turns, strike-met, strike-not-lower, keep-end, strike-barred, strike-goes-on, keep-stuck, keep-barred, keep-goes-on}
+use Rattle.reduction.proofs.turns.CourseLaws.{Moves-to, moved, course-handed, course-ends, course-struck, course-done, course-runs}
 use Rattle.reduction.proofs.ReductionLaws.{alike-behind}
-use Rattle.reduction.proofs.HeldLaws.{each-step}
+use Rattle.reduction.proofs.turns.HeldLaws.{each-step}
 use Rattle.tally.specs.Tally.{one-more, comparison}
 use Rattle.sheet.specs.Layout.{cost-word}
 use Rattle.sheet.specs.Decode.{domains, initial, goal, action, task}

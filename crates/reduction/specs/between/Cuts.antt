@@ -1,5 +1,5 @@
 -- The tests that the search of a minimal reduction is told: where a step may be struck and where it may be kept. Not to
--- be believed: proofs/CutLaws and proofs/UseLaws show that they are sound. Assumes nothing.
+-- be believed: proofs/turns/CutLaws and proofs/turns/UseLaws show that they are sound. Assumes nothing.
 use Prim.Native.Nat.{_+_}
 use mathlib.Core.Bool.{Bool, false, not, _&&_, _||_}
 use mathlib.Core.List.{List, [], _∷_}

@@ -1,5 +1,5 @@
--- The two eliminations, computed. That they are those of Trials are the theorems of proofs/TrialTheorem and
--- proofs/EliminationTheorem. Assumes nothing.
+-- The two eliminations, computed. That they are those of Trials are the theorems of proofs/trials/TrialTheorem and
+-- proofs/trials/EliminationTheorem. Assumes nothing.
 use Prim.Native.Nat.{ℕ, zero, suc}
 use mathlib.Core.Bool.{false, cond, _&&_}
 use mathlib.Core.Option.{Option, none, some, Option·getD}
@@ -14,7 +14,7 @@ use Rattle.reduction.specs.between.Order.{lower}
 -- "Trial at position i: strike step i, walk the rest from the state before i, and strike also each later step that
 -- can't be done. The trial succeeds when the goal holds after the whole walk": what it leaves, if it succeeds. The walk
 -- is made from the start: in a valid current list it strikes nothing before i and comes to i in the state before it
--- (`trial-in-words` of proofs/TrialTheorem).
+-- (`trial-in-words` of proofs/trials/TrialTheorem).
 unfoldable pub trial : State → Assignment → List Action → Reduction → ℕ → Option Reduction
 trial s goal p m i =
     let struck : Reduction = set m i false in
@@ -31,7 +31,7 @@ eliminate s goal p = eliminated s goal p (length p)
 
 -- of two successes, perhaps none, the one that leaves the lower list, and the first where they are equal. The trials of
 -- a round strike from one list, so the largest price struck is the lowest price left, and the most steps struck the
--- fewest left (`round-in-words` of proofs/TrialTheorem).
+-- fewest left (`round-in-words` of proofs/trials/TrialTheorem).
 unfoldable pub better : List Action → Option Reduction → Option Reduction → Option Reduction
 better p none y = y
 better p (some m) none = some m

@@ -13,7 +13,7 @@ begun-with b behind = Option·map (λ m. b ∷ m) behind
 
 -- computed for any test at the end: of the two valid reductions that win when the first step is struck and
 -- when it is kept, the lower, and the one that strikes it where they are equal. That it is the minimal reduction of
--- every list that is valid, and the only one, are `minimal-found` and `minimal-once` of proofs/MinimalTheorem.
+-- every list that is valid, and the only one, are `minimal-found` and `minimal-once` of proofs/minimal/MinimalTheorem.
 unfoldable pub found : (State → Bool) → State → List Action → Option Reduction
 found ends s [] = elim (ends s) [ true ↦ some [] | false ↦ none ]
 found ends s (a ∷ p) =

@@ -1,5 +1,5 @@
 -- The landmarks of a plan as flags, computed round by round: a walk along the positions tells for each fact which step
--- supports it. That they are the marked steps of `Landmark` is `flagged-just-marked` of proofs/LandmarkTheorem. Assumes
+-- supports it. That they are the marked steps of `Landmark` is `flagged-just-marked` of proofs/marks/LandmarkTheorem. Assumes
 -- nothing.
 use Prim.Native.Nat.{ℕ, zero, suc}
 use mathlib.Core.Bool.{Bool, true, false, cond, not, _&&_}

@@ -24,12 +24,12 @@ use Rattle.reduction.specs.between.Order.{Contains}
 use Rattle.reduction.specs.between.Sound.{Flags-kept}
 use Rattle.reduction.proofs.ValidLaws.{valid-end}
 use Rattle.reduction.proofs.ReductionLaws.{whole-valid, count-whole, strike-count, kept-inside}
-use Rattle.reduction.proofs.WinsLaws.{full-whole}
-use Rattle.reduction.proofs.BeforeLaws.{before-first, rest-valid, Passes, before-next}
-use Rattle.reduction.proofs.HeldLaws.{each-step}
-use Rattle.reduction.proofs.FrameLaws.{framed-start, framed-step, framed-end, framed-past, start-other-false, end-needs-goal}
-use Rattle.reduction.proofs.LinkLaws.{either, before-or-at}
-use Rattle.reduction.proofs.LandmarkTheorem.{flagged-just-marked}
+use Rattle.reduction.proofs.minimal.WinsLaws.{full-whole}
+use Rattle.reduction.proofs.minimal.BeforeLaws.{before-first, rest-valid, Passes, before-next}
+use Rattle.reduction.proofs.turns.HeldLaws.{each-step}
+use Rattle.reduction.proofs.marks.FrameLaws.{framed-start, framed-step, framed-end, framed-past, start-other-false, end-needs-goal}
+use Rattle.reduction.proofs.marks.LinkLaws.{either, before-or-at}
+use Rattle.reduction.proofs.marks.LandmarkTheorem.{flagged-just-marked}
 
 module _ {domains : List ℕ} (s : State) (goal : Assignment) (p : List Action) (formed : Actions-formed domains p) (m : Reduction)
     (v : Valid-reduction s goal p m) where

@@ -14,8 +14,8 @@ use Rattle.reduction.specs.Landmark.{step, framed, Link, Landmark}
 use Rattle.reduction.specs.Landmark.Marked.{start-marked, end-marked, linked}
 use Rattle.reduction.specs.OlderRule.{Sole-writer, Older-marked}
 use Rattle.reduction.specs.OlderRule.Older-marked.{for-goal, for-step}
-use Rattle.reduction.proofs.HeldLaws.{each-step}
-use Rattle.reduction.proofs.FrameLaws.{framed-start, framed-step, framed-end, start-other, goal-end-needs}
+use Rattle.reduction.proofs.turns.HeldLaws.{each-step}
+use Rattle.reduction.proofs.marks.FrameLaws.{framed-start, framed-step, framed-end, start-other, goal-end-needs}
 
 module _ {domains : List ℕ} (s : State) (goal : Assignment) (p : List Action) (formed : Actions-formed domains p) (sized : length s ≡ length domains) where
   -- the only writer of a fact before a position that needs it is linked through the start

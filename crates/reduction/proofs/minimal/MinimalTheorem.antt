@@ -20,7 +20,7 @@ use Rattle.reduction.proofs.ReductionLaws.{whole-valid, kept-length, ke
 use Rattle.reduction.proofs.LowerLaws.{lower-through}
 use Rattle.reduction.specs.Minimal.{First-difference, Wins, Minimal}
 use Rattle.reduction.specs.between.Found.{begun-with, found, minimal}
-use Rattle.reduction.proofs.WinsLaws.{not-lower-through, not-lower-wins, lower-wins, wins-not-lower, wins-behind, wins-once, full-whole}
+use Rattle.reduction.proofs.minimal.WinsLaws.{not-lower-through, not-lower-wins, lower-wins, wins-not-lower, wins-behind, wins-once, full-whole}
 
 -- whatever makes reductions valid, if they are all as long as the list, one at most is minimal
 pub minimal-once : {Valid : Reduction → Type 0} {p : List Action} {m n : Reduction} → ((r : Reduction) → Valid r → length r ≡ length p)

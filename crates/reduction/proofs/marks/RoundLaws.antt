@@ -17,7 +17,7 @@ use Rattle.reduction.specs.Landmark.{step, Link}
 use Rattle.reduction.specs.between.Order.{Contains}
 use Rattle.reduction.specs.between.Landmarks.{support, raised, supported, round-to, round, rounds}
 use Rattle.reduction.proofs.ReductionLaws.{strike-count, kept-inside}
-use Rattle.reduction.proofs.LinkLaws.{either, before-or-at, link-supports, support-links}
+use Rattle.reduction.proofs.marks.LinkLaws.{either, before-or-at, link-supports, support-links}
 
 -- one flag raised
 pub up-more : (m : Reduction) (i k : ℕ) → keeps m k → keeps (set m i true) k

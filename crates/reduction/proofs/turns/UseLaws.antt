@@ -28,11 +28,11 @@ use Rattle.reduction.specs.between.Sound.{Flags-kept, Visited, Cut, Lack
 use Rattle.reduction.specs.between.Cuts.{wanted-held, needed-in, useful, unless-flagged, tests}
 use Rattle.reduction.proofs.ValidLaws.{runs-valid, valid-end}
 use Rattle.reduction.proofs.MemberLaws.{or-neither, found, found-passes, member-has}
-use Rattle.reduction.proofs.HeldLaws.{run-length, apply-held, held-more}
-use Rattle.reduction.proofs.BeforeLaws.{completed-valid}
-use Rattle.reduction.proofs.WinsLaws.{not-lower-through}
-use Rattle.reduction.proofs.MinimalTheorem.{struck-valid, kept-valid, valid-struck, valid-kept}
-use Rattle.reduction.proofs.CutLaws.{both-cut, contains-not-lower, follows-rest, bound-cut, wanted-cut}
+use Rattle.reduction.proofs.turns.HeldLaws.{run-length, apply-held, held-more}
+use Rattle.reduction.proofs.minimal.BeforeLaws.{completed-valid}
+use Rattle.reduction.proofs.minimal.WinsLaws.{not-lower-through}
+use Rattle.reduction.proofs.minimal.MinimalTheorem.{struck-valid, kept-valid, valid-struck, valid-kept}
+use Rattle.reduction.proofs.turns.CutLaws.{both-cut, contains-not-lower, follows-rest, bound-cut, wanted-cut}
 
 -- the second state holds all that is needed before the steps p of what the first holds
 abbrev Supplies : Assignment → List Action → State → State → Type 0

@@ -16,7 +16,7 @@ use Rattle.reduction.specs.Landmark.In-round.{start-first, end-first, li
 use Rattle.reduction.specs.between.Order.{Contains}
 use Rattle.reduction.specs.between.Landmarks.{rounds, ends-alone, of-steps, landmarks}
 use Rattle.reduction.proofs.ReductionLaws.{kept-inside}
-use Rattle.reduction.proofs.RoundLaws.{Closed, links, round-more, round-why, round-has, rounds-length, rounds-settle, settled-closed}
+use Rattle.reduction.proofs.marks.RoundLaws.{Closed, links, round-more, round-why, round-has, rounds-length, rounds-settle, settled-closed}
 
 -- flags of which the last alone is up
 last-up : (n : ℕ) → keeps (replicate n false ++ (true ∷ [])) n

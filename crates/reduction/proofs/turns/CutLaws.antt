@@ -20,10 +20,10 @@ use Rattle.reduction.specs.between.Search.{Visit, both, bound}
 use Rattle.reduction.specs.between.Sound.{Flags-kept, Visited, Follows, Hopeless, Cut, Lacks}
 use Rattle.reduction.proofs.ReductionLaws.{kept-length, strike-cost, strike-count, contains-behind, alike-before, alike-behind}
 use Rattle.reduction.proofs.LowerLaws.{Lower}
-use Rattle.reduction.proofs.WinsLaws.{not-lower, not-lower-through}
-use Rattle.reduction.proofs.WantedLaws.{wanted-holds}
-use Rattle.reduction.proofs.BeforeLaws.{rest-valid}
-use Rattle.reduction.proofs.MinimalTheorem.{valid-struck}
+use Rattle.reduction.proofs.minimal.WinsLaws.{not-lower, not-lower-through}
+use Rattle.reduction.proofs.turns.WantedLaws.{wanted-holds}
+use Rattle.reduction.proofs.minimal.BeforeLaws.{rest-valid}
+use Rattle.reduction.proofs.minimal.MinimalTheorem.{valid-struck}
 
 -- two sound cuts of a choice are one
 pub both-cut : {ends : State → Bool} {s : State} {p : List Action} {flags : Reduction} {choice : Bool} (x y : Visit → Bool) → Cut ends s p flags choice x

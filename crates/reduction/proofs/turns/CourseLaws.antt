@@ -26,11 +26,11 @@ use Rattle.reduction.specs.between.Cuts.{wanted-held, tests}
 use Rattle.reduction.specs.between.Course.{held-after, held, On-course}
 use Rattle.reduction.proofs.ReductionLaws.{whole-valid, contains-behind, alike-behind}
 use Rattle.reduction.proofs.MemberLaws.{found, has-member, member-has, has-no-member}
-use Rattle.reduction.proofs.WantedLaws.{wanted-holds, wanted-before, first-wanted}
-use Rattle.reduction.proofs.HeldLaws.{run-length, each-step, apply-held, held-more, held-kept, held-struck, held-alike}
-use Rattle.reduction.proofs.BeforeLaws.{before-first, rest-valid, before-next}
-use Rattle.reduction.proofs.TurnLaws.{turns, strike-flagged, keep-goes-on}
-use Rattle.reduction.proofs.SearchTheorem.{struck-visited, done-visited}
+use Rattle.reduction.proofs.turns.WantedLaws.{wanted-holds, wanted-before, first-wanted}
+use Rattle.reduction.proofs.turns.HeldLaws.{run-length, each-step, apply-held, held-more, held-kept, held-struck, held-alike}
+use Rattle.reduction.proofs.minimal.BeforeLaws.{before-first, rest-valid, before-next}
+use Rattle.reduction.proofs.turns.TurnLaws.{turns, strike-flagged, keep-goes-on}
+use Rattle.reduction.proofs.turns.SearchTheorem.{struck-visited, done-visited}
 
 -- a visit moved on to an index and a state, with nothing decided between
 abbrev pub moved : Visit → ℕ → State → Visit

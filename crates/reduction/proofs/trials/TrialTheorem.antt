@@ -19,9 +19,9 @@ use Rattle.reduction.specs.between.Elimination.{trial, best}
 use Rattle.reduction.specs.Trials.{Trial-leaves, Trial-fails, cost-struck, steps-struck, Takes}
 use Rattle.reduction.proofs.ReductionLaws.{kept-length, kept-inside}
 use Rattle.reduction.proofs.LowerLaws.{Lower, lower-true, lower-false}
-use Rattle.reduction.proofs.StruckLaws.{struck-steps, struck-cost, contains-struck}
-use Rattle.reduction.proofs.TrialLaws.{Succeeds, trial-succeeds, succeeds-trial, From-before, trial-from-before, success-length, walk-contains}
-use Rattle.reduction.proofs.GreedyChoice.{Chosen, best-none, best-chosen}
+use Rattle.reduction.proofs.trials.StruckLaws.{struck-steps, struck-cost, contains-struck}
+use Rattle.reduction.proofs.trials.TrialLaws.{Succeeds, trial-succeeds, succeeds-trial, From-before, trial-from-before, success-length, walk-contains}
+use Rattle.reduction.proofs.trials.GreedyChoice.{Chosen, best-none, best-chosen}
 
 module _ (s : State) (goal : Assignment) (p : List Action) (m : Reduction) (v : Valid-reduction s goal p m) where
   from-before : (i : ℕ) → keeps m i → From-before s p m i

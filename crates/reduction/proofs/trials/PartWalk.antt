@@ -11,7 +11,7 @@ use Rattle.sas.proofs.ActionLaws.{apply-length}
 use Rattle.sas.proofs.PartLaws.{part-applicable, part-apply}
 use Rattle.reduction.specs.Reduction.{Reduction}
 use Rattle.reduction.specs.Trials.{walk, after}
-use Rattle.reduction.proofs.TrialLaws.{walk-done, walk-struck, after-done, after-struck}
+use Rattle.reduction.proofs.trials.TrialLaws.{walk-done, walk-struck, after-done, after-struck}
 
 -- the facts that these actions need are of the first n variables
 abbrev pub Own-needs : ℕ → List Action → Type 0

@@ -16,7 +16,7 @@ use Rattle.reduction.specs.between.Elimination.{better}
 use Rattle.reduction.specs.between.Found.{begun-with}
 use Rattle.reduction.proofs.ReductionLaws.{kept-behind}
 use Rattle.reduction.proofs.LowerLaws.{Lower, lower-true, true-lower, lower-through, lower-once}
-use Rattle.reduction.proofs.WinsLaws.{not-lower-through}
+use Rattle.reduction.proofs.minimal.WinsLaws.{not-lower-through}
 
 -- the lower of the best reduction and another, the best where that is not lower
 abbrev pub lower-of : List Action → Reduction → Reduction → Reduction

@@ -21,13 +21,13 @@ use Rattle.reduction.specs.between.Search.{Visit, Tests, struck, done, h
 use Rattle.reduction.specs.between.Search.Turn.{strike, keep}
 use Rattle.reduction.specs.between.Sound.{Visited, Hopeless, Sound}
 use Rattle.reduction.proofs.ReductionLaws.{kept-whole, alike-behind}
-use Rattle.reduction.proofs.WinsLaws.{lowest-whole, wins-not-lower, wins-behind}
-use Rattle.reduction.proofs.BeforeLaws.{before-first, before-struck, before-kept, completed-valid}
-use Rattle.reduction.proofs.MinimalTheorem.{struck-valid, valid-struck, kept-valid, found-met, found-unmet, found-done, found-stuck, found-minimal, valid-found, minimal-found}
-use Rattle.reduction.proofs.UpdateLaws.{not-lower-of, alike, update, update-decided, update-twice}
-use Rattle.reduction.proofs.TurnLaws.{turns, search-turns, strike-met, strike-unmet, strike-not-lower, keep-end}
-use Rattle.reduction.proofs.TurnLaws.{strike-flagged, strike-barred, strike-goes-on, keep-stuck, keep-barred, keep-goes-on}
-use Rattle.reduction.proofs.CutLaws.{follows-rest}
+use Rattle.reduction.proofs.minimal.WinsLaws.{lowest-whole, wins-not-lower, wins-behind}
+use Rattle.reduction.proofs.minimal.BeforeLaws.{before-first, before-struck, before-kept, completed-valid}
+use Rattle.reduction.proofs.minimal.MinimalTheorem.{struck-valid, valid-struck, kept-valid, found-met, found-unmet, found-done, found-stuck, found-minimal, valid-found, minimal-found}
+use Rattle.reduction.proofs.turns.UpdateLaws.{not-lower-of, alike, update, update-decided, update-twice}
+use Rattle.reduction.proofs.turns.TurnLaws.{turns, search-turns, strike-met, strike-unmet, strike-not-lower, keep-end}
+use Rattle.reduction.proofs.turns.TurnLaws.{strike-flagged, strike-barred, strike-goes-on, keep-stuck, keep-barred, keep-goes-on}
+use Rattle.reduction.proofs.turns.CutLaws.{follows-rest}
 
 -- the step of a visit, the steps behind it, and what was decided before it
 abbrev here : List Action → Visit → Action

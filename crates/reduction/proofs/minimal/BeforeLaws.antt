@@ -17,7 +17,7 @@ use Rattle.reduction.specs.Landmark.{step}
 use Rattle.reduction.specs.Trials.{walk, after}
 use Rattle.reduction.proofs.ValidLaws.{valid-first, valid-behind}
 use Rattle.reduction.proofs.ReductionLaws.{kept-split, kept-behind}
-use Rattle.reduction.proofs.TrialLaws.{walk-done, walk-struck, after-done, after-struck}
+use Rattle.reduction.proofs.trials.TrialLaws.{walk-done, walk-struck, after-done, after-struck}
 
 pub before-first : (s : State) (p : List Action) (m : Reduction) → Before s p m 0 s
 unfolding kept

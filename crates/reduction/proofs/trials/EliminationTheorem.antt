@@ -16,9 +16,9 @@ use Rattle.reduction.specs.Reduction.{Reduction, count, whole, valid, Va
 use Rattle.reduction.specs.Trials.{Elimination-leaves, strikes-stand, does-step, all-tried, Greedy-leaves, takes, without-success, Shortens}
 use Rattle.reduction.specs.between.Elimination.{trial, eliminated, eliminate, best, rounds, greedy}
 use Rattle.reduction.proofs.ReductionLaws.{whole-valid, kept-length, count-whole, left-length, left-cost}
-use Rattle.reduction.proofs.GreedyChoice.{best-none, best-chosen}
-use Rattle.reduction.proofs.TrialTheorem.{trial-in-words, failure-in-words, round-in-words, no-round-in-words}
-use Rattle.reduction.proofs.TrialLaws.{Succeeds, trial-succeeds, unkept-fails, success-length, success-valid, success-count}
+use Rattle.reduction.proofs.trials.GreedyChoice.{best-none, best-chosen}
+use Rattle.reduction.proofs.trials.TrialTheorem.{trial-in-words, failure-in-words, round-in-words, no-round-in-words}
+use Rattle.reduction.proofs.trials.TrialLaws.{Succeeds, trial-succeeds, unkept-fails, success-length, success-valid, success-count}
 
 -- what a success leaves of a reduction is a valid reduction
 success-reduction : {s : State} {goal : Assignment} {p : List Action} {m n : Reduction} {i : ℕ} → length m ≡ length p
