@@ -12,7 +12,7 @@ use Rattle.plan.specs.Valid.{steps}
 use Rattle.plan.specs.Readable.{Readable}
 use Rattle.reduction.specs.Reduction.{Reduction, valid, Valid-reduction}
 use Rattle.reduced.specs.Reduced.{tally-left}
-use Rattle.reduced.specs.between.Held.{mask, held, Leaves}
+use Rattle.reduced.specs.between.Held.{mask, flags-of, Leaves}
 use Rattle.reduced.specs.between.Tallied.{tallied}
 use Rattle.elimination.specs.declared.single.Elimination.{Elimination}
 use Rattle.elimination.specs.declared.single.Elimination.the-variants.{Plain, Greedy}
@@ -34,12 +34,12 @@ module _ (w l : List ℕ) (readable : Readable w l) (valid-list : valid (initial
   cheaper-taken Greater is = rw (cheaper-of, is)
 
   pub cheaper-flags : (first second : Reduction) (t u : Tally) (o order : Order) (flags : Reduction)
-      → first ≡ held l (left-by Plain w l) → second ≡ held l (left-by Greedy w l) → t ≡ tallied w l (mask l first) → u ≡ tallied w l (mask l second)
-      → order ≡ comparison u t → order ≡ o → flags ≡ held l (left-by (cheaper-by o) w l) → flags ≡ held l (cheaper-of w l)
+      → first ≡ flags-of l (left-by Plain w l) → second ≡ flags-of l (left-by Greedy w l) → t ≡ tallied w l (mask l first) → u ≡ tallied w l (mask l second)
+      → order ≡ comparison u t → order ≡ o → flags ≡ flags-of l (left-by (cheaper-by o) w l) → flags ≡ flags-of l (cheaper-of w l)
   cheaper-flags first second t u o order flags is-first is-second counted counted′ compared is flagged =
       let of-first = counted-left w l readable valid-list Plain first t is-first counted in
       let of-second = counted-left w l readable valid-list Greedy second u is-second counted′ in
-      flagged ∙ ap (held l) (sym (cheaper-taken o (rw (← of-first, ← of-second) (sym compared ∙ is))))
+      flagged ∙ ap (flags-of l) (sym (cheaper-taken o (rw (← of-first, ← of-second) (sym compared ∙ is))))
 
   -- so it leaves what one of the two does
   pub cheaper-is : (by : Elimination) × (cheaper-of w l ≡ left-by by w l)
@@ -48,10 +48,10 @@ module _ (w l : List ℕ) (readable : Readable w l) (valid-list : valid (initial
       order : Order
       order = comparison (tally-left w l (left-by Greedy w l)) (tally-left w l (left-by Plain w l))
 
-  pub cheaper-leaves : (flags : Reduction) → flags ≡ held l (cheaper-of w l) → Leaves l (cheaper-of w l) flags
+  pub cheaper-leaves : (flags : Reduction) → flags ≡ flags-of l (cheaper-of w l) → Leaves l (cheaper-of w l) flags
   cheaper-leaves flags is =
       let (by, taken) = cheaper-is in
-      subst (λ m. Leaves l m flags) (sym taken) (left-leaves w l readable valid-list by flags (is ∙ ap (held l) taken))
+      subst (λ m. Leaves l m flags) (sym taken) (left-leaves w l readable valid-list by flags (is ∙ ap (flags-of l) taken))
 
   pub cheaper-valid : Valid-reduction (initial w) (goal w) (steps w l) (cheaper-of w l)
   cheaper-valid =

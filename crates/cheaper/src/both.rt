@@ -18,7 +18,7 @@ ghost use Rattle.reduction.specs.Reduction.{valid};
 ghost use Rattle.sheet.specs.Decode.{goal, initial};
 ghost use Rattle.plan.specs.Valid.{steps};
 ghost use Rattle.plan.specs.Readable.{Readable};
-ghost use Rattle.reduced.specs.between.Held.{held};
+ghost use Rattle.reduced.specs.between.Held.{flags-of};
 ghost use Rattle.cheaper.specs.Cheaper.{Reduces-both, cheaper-of, cheaper-part};
 
 // Both tallies, elimination's first, or a refusal, with its tallies zero.
@@ -61,7 +61,7 @@ pub fn cheaper(words: &[u32], plan: &[u32], first: &mut [u32], second: &mut [u32
 pub fn flags_of_cheaper(words: &[u32], plan: &[u32]) -> [bool; Plan::STEPS]
     requires { ⌜ Readable (now words) (now plan) ⌝ }
     requires { ⌜ valid (initial (now words)) (goal (now words)) (steps (now words) (now plan)) ≡ true ⌝ }
-    ensures { λ r. ⌜ r ≡ held (now (plan .entry)) (cheaper-of (now (words .entry)) (now (plan .entry))) ⌝ }
+    ensures { λ r. ⌜ r ≡ flags-of (now (plan .entry)) (cheaper-of (now (words .entry)) (now (plan .entry))) ⌝ }
 {
     let n = plan.len();
     let eliminated = flags_left(words, plan, Elimination::Plain);

@@ -29,7 +29,7 @@ use Rattle.plan.specs.declared.check.Answer.the-variants.{Valid, Refused}
 use Rattle.plan.specs.Checked.{told-answer}
 use Rattle.plan.proofs.PlanLaws.{passed-readable}
 use Rattle.reduced.specs.Reduced.{tally-left}
-use Rattle.reduced.specs.between.Held.{mask, held, Leaves}
+use Rattle.reduced.specs.between.Held.{mask, flags-of, Leaves}
 use Rattle.reduced.specs.between.Kept.{Keeps, Finishes}
 use Rattle.reduced.proofs.LodgedLaws.{lodged-plan, lodged-valid, roomy}
 use Rattle.reduced.proofs.TalliedLaws.{kept-steps}
@@ -110,7 +110,7 @@ module _ (w l before : List ℕ) (lodged : Tally) (others : ℕ) (further : Goes
       same-tally _ _ (ap cost done)
       (sym (kept-length (minimal-of w (cheaper-list w l)) (cheaper-list w l) minimal-fits) ∙ ap length (sym left) ∙ kept-length (claimed-by Irreducible w l) l fits)
 
-  module _ (flags : Reduction) (flagged : flags ≡ held l (cheaper-of w l)) where
+  module _ (flags : Reduction) (flagged : flags ≡ flags-of l (cheaper-of w l)) where
     pub flags-leave : Leaves l (cheaper-of w l) flags
     flags-leave = cheaper-leaves w l readable valid-list flags flagged
 

@@ -17,7 +17,7 @@ use Rattle.reduction.specs.between.Elimination.{eliminated, eliminate}
 use Rattle.reduction.proofs.ReductionLaws.{kept-whole}
 use Rattle.reduction.proofs.trials.TrialLaws.{unkept-fails}
 use Rattle.reduction.proofs.minimal.BeforeLaws.{before-first}
-use Rattle.reduced.specs.between.Held.{mask, held, none-struck}
+use Rattle.reduced.specs.between.Held.{mask, flags-of, none-struck}
 use Rattle.reduced.proofs.HeldLaws.{all-held}
 use Rattle.trial.specs.between.Trial.{Makes-trial}
 use Rattle.trial.specs.between.Current.{Current}
@@ -26,7 +26,7 @@ use Rattle.elimination.specs.between.Turn.{Eliminates}
 
 -- nothing struck: the flags of a plan that is valid
 module _ (w l : List ℕ) (flags : Reduction) (few : length l ≤ most-steps) (is : flags ≡ none-struck (length l)) where
-  whole-held : flags ≡ held l (whole l)
+  whole-held : flags ≡ flags-of l (whole l)
   whole-held = all-held l flags few is
 
   pub all-mask : mask l flags ≡ whole (steps w l)
@@ -91,7 +91,7 @@ eliminating-more w l i flags after values next so here turn =
     record { within = omega arith; current = turn .current; so-far = turn .struck ∙ rw (so .so-far, add-one); before = turn .before }
 
 pub eliminating-end : (w l : List ℕ) (i : ℕ) (flags : Reduction) (values : List ℕ) → Eliminating w l i flags values → length l ≤ i
-    → flags ≡ held l (eliminate (initial w) (goal w) (steps w l))
+    → flags ≡ flags-of l (eliminate (initial w) (goal w) (steps w l))
 unfolding eliminate
 eliminating-end w l i flags values so past =
     let all : length (steps w l) ≡ i = length-map l (action w) ∙ omega (arith, so .within) in

@@ -13,7 +13,7 @@ use Rattle.reduction.specs.Reduction.{Reduction, valid}
 use Rattle.reduction.specs.between.Elimination.{best, rounds, greedy}
 use Rattle.reduction.proofs.minimal.BeforeLaws.{before-first}
 use Rattle.elimination.specs.declared.greedy.Best.{Best}
-use Rattle.reduced.specs.between.Held.{mask, held, none-struck}
+use Rattle.reduced.specs.between.Held.{mask, flags-of, none-struck}
 use Rattle.trial.specs.between.Current.{Current}
 use Rattle.elimination.specs.between.Round.{Picks, Looks}
 use Rattle.elimination.proofs.EliminateLaws.{all-current, all-mask}
@@ -60,16 +60,16 @@ module _ (w l : List ℕ) (n : ℕ) (flags : Reduction) (so : Rounding w l n fla
       record { within = omega arith; current = picks .current found; leads = sym next ∙ rw one-left at (so .leads) }
 
   -- a round without
-  pub rounding-ends : r .found ≡ false → flags ≡ held l (greedy (initial w) (goal w) (steps w l))
+  pub rounding-ends : r .found ≡ false → flags ≡ flags-of l (greedy (initial w) (goal w) (steps w l))
   unfolding rounds
   rounding-ends nothing =
       let chosen : best (initial w) (goal w) (steps w l) (mask l flags) (length (steps w l)) ≡ none = rw positions (picks .nothing-found nothing) in
       let last : rounds (initial w) (goal w) (steps w l) (suc (length l - (n + 1))) (mask l flags) ≡ mask l flags = rw (chosen, rounds) in
-      so .current .none-past ∙ ap (held l) (sym last ∙ rw one-left at (so .leads))
+      so .current .none-past ∙ ap (flags-of l) (sym last ∙ rw one-left at (so .leads))
 
 -- as many rounds as steps
-pub rounding-over : (w l : List ℕ) (n : ℕ) (flags : Reduction) → Rounding w l n flags → length l ≤ n → flags ≡ held l (greedy (initial w) (goal w) (steps w l))
+pub rounding-over : (w l : List ℕ) (n : ℕ) (flags : Reduction) → Rounding w l n flags → length l ≤ n → flags ≡ flags-of l (greedy (initial w) (goal w) (steps w l))
 unfolding rounds
 rounding-over w l n flags so past =
     let none-left : length l - n ≡ zero = omega arith in
-    so .current .none-past ∙ ap (held l) (rw none-left at (so .leads))
+    so .current .none-past ∙ ap (flags-of l) (rw none-left at (so .leads))

@@ -12,7 +12,7 @@ use Rattle.reduction.specs.Reduction.{Reduction, valid, Valid-reduction}
 use Rattle.reduction.proofs.ReductionLaws.{kept-length}
 use Rattle.reduction.proofs.trials.EliminationTheorem.{eliminate-shortens, greedy-shortens}
 use Rattle.reduced.specs.Reduced.{tally-left}
-use Rattle.reduced.specs.between.Held.{mask, held, Leaves}
+use Rattle.reduced.specs.between.Held.{mask, flags-of, Leaves}
 use Rattle.reduced.specs.between.Tallied.{tallied}
 use Rattle.reduced.proofs.HeldLaws.{leaves}
 use Rattle.reduced.proofs.TalliedLaws.{plainly}
@@ -28,11 +28,11 @@ module _ (w l : List ℕ) (readable : Readable w l) (valid-list : valid (initial
   pub left-fits : (by : Elimination) → length (left-by by w l) ≡ length (steps w l)
   left-fits by = left-valid by .fits
 
-  pub left-leaves : (by : Elimination) (flags : Reduction) → flags ≡ held l (left-by by w l) → Leaves l (left-by by w l) flags
+  pub left-leaves : (by : Elimination) (flags : Reduction) → flags ≡ flags-of l (left-by by w l) → Leaves l (left-by by w l) flags
   left-leaves by flags is = leaves w l (left-by by w l) (left-by by w l) flags (left-fits by) refl is
 
   -- the tally that is counted of what an elimination leaves
-  pub counted-left : (by : Elimination) (flags : Reduction) (t : Tally) → flags ≡ held l (left-by by w l) → t ≡ tallied w l (mask l flags)
+  pub counted-left : (by : Elimination) (flags : Reduction) (t : Tally) → flags ≡ flags-of l (left-by by w l) → t ≡ tallied w l (mask l flags)
       → t ≡ tally-left w l (left-by by w l)
   counted-left by flags t is counted =
       let left : Leaves l (left-by by w l) flags = left-leaves by flags is in

@@ -10,7 +10,7 @@ ghost use Rattle.reduction.specs.Reduction.{valid};
 ghost use Rattle.sheet.specs.Decode.{goal, initial as initial-of};
 ghost use Rattle.plan.specs.Valid.{steps};
 ghost use Rattle.plan.specs.Readable.{Readable};
-ghost use Rattle.reduced.specs.between.Held.{held};
+ghost use Rattle.reduced.specs.between.Held.{flags-of};
 ghost use Rattle.elimination.specs.Eliminations.{elimination-of};
 
 // The flags that elimination leaves of a valid plan: on success all strikes of a trial stand, otherwise its step is
@@ -18,7 +18,7 @@ ghost use Rattle.elimination.specs.Eliminations.{elimination-of};
 pub(crate) fn eliminate(words: &[u32], plan: &[u32]) -> [bool; Plan::STEPS]
     requires { ⌜ Readable (now words) (now plan) ⌝ }
     requires { ⌜ valid (initial-of (now words)) (goal (now words)) (steps (now words) (now plan)) ≡ true ⌝ }
-    ensures { λ r. ⌜ r ≡ held (now (plan .entry)) (elimination-of (now (words .entry)) (now (plan .entry))) ⌝ }
+    ensures { λ r. ⌜ r ≡ flags-of (now (plan .entry)) (elimination-of (now (words .entry)) (now (plan .entry))) ⌝ }
 {
     let mut flags = all_kept(plan.len());
     let mut values = initial(words);

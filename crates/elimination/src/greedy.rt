@@ -13,7 +13,7 @@ ghost use lib.ListN.{length};
 ghost use Rattle.reduction.specs.Reduction.{valid};
 ghost use Rattle.sheet.specs.Decode.{goal, initial as initial-of};
 ghost use Rattle.plan.specs.Valid.{steps};
-ghost use Rattle.reduced.specs.between.Held.{mask, held};
+ghost use Rattle.reduced.specs.between.Held.{mask, flags-of};
 ghost use Rattle.elimination.specs.Eliminations.{greedy-elimination-of};
 ghost use Rattle.trial.specs.between.Current.{Current};
 ghost use Rattle.elimination.specs.between.Round.{Picks, better-of};
@@ -85,7 +85,7 @@ fn round(words: &[u32], plan: &[u32], flags: [bool; Plan::STEPS]) -> Best
 pub(crate) fn greedy(words: &[u32], plan: &[u32]) -> [bool; Plan::STEPS]
     requires { ⌜ Readable (now words) (now plan) ⌝ }
     requires { ⌜ valid (initial-of (now words)) (goal (now words)) (steps (now words) (now plan)) ≡ true ⌝ }
-    ensures { λ r. ⌜ r ≡ held (now (plan .entry)) (greedy-elimination-of (now (words .entry)) (now (plan .entry))) ⌝ }
+    ensures { λ r. ⌜ r ≡ flags-of (now (plan .entry)) (greedy-elimination-of (now (words .entry)) (now (plan .entry))) ⌝ }
 {
     let mut flags = all_kept(plan.len());
     let mut rounds = 0;

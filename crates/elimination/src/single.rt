@@ -13,7 +13,7 @@ ghost use Rattle.reduction.specs.Reduction.{valid};
 ghost use Rattle.sheet.specs.Decode.{goal, initial};
 ghost use Rattle.plan.specs.Valid.{steps};
 ghost use Rattle.plan.specs.Readable.{Readable};
-ghost use Rattle.reduced.specs.between.Held.{held};
+ghost use Rattle.reduced.specs.between.Held.{flags-of};
 ghost use Rattle.reduced.specs.Reduced.{Reduces};
 ghost use Rattle.elimination.specs.Eliminations.{left-by};
 
@@ -27,7 +27,7 @@ pub enum Elimination {
 pub fn flags_left(words: &[u32], plan: &[u32], by: Elimination) -> [bool; Plan::STEPS]
     requires { ⌜ Readable (now words) (now plan) ⌝ }
     requires { ⌜ valid (initial (now words)) (goal (now words)) (steps (now words) (now plan)) ≡ true ⌝ }
-    ensures { λ r. ⌜ r ≡ held (now (plan .entry)) (left-by by (now (words .entry)) (now (plan .entry))) ⌝ }
+    ensures { λ r. ⌜ r ≡ flags-of (now (plan .entry)) (left-by by (now (words .entry)) (now (plan .entry))) ⌝ }
 {
     match by {
         Elimination::Plain => eliminate(words, plan),

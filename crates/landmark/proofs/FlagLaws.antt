@@ -10,7 +10,7 @@ use lib.ListN.{length}
 use Rattle.reduction.specs.Reduction.{Reduction, keeps}
 use Rattle.plan.specs.Limits.{most-steps}
 use Rattle.plan.specs.Readable.{Readable}
-use Rattle.reduced.specs.between.Held.{held}
+use Rattle.reduced.specs.between.Held.{flags-of}
 use Rattle.landmark.specs.Marks.{marks}
 use Rattle.landmark.specs.between.Passes.{framed-list, pass, ends-up, steps-held}
 use Rattle.landmark.proofs.PassTheorem.{Passing, start-flagged, passing-start, passing-more, passed-all, passed-settled}
@@ -44,11 +44,11 @@ module _ (w l : List ℕ) (n : ℕ) where
 
     -- it changed nothing
     pub searching-settled : (steps : Reduction) (b : Bool) → (b ≡ true → next ≡ flags) → b ≡ true → steps ≡ steps-held n flags → Readable w l
-        → steps ≡ held l (marks w l)
+        → steps ≡ flags-of l (marks w l)
     searching-settled steps b same up is readable =
         is ∙ rw (along .counted) (passed-settled w l readable r flags (along .passing readable) (sym (next-is readable) ∙ same up))
 
   -- there were as many passes as steps
-  pub searching-done : (r : ℕ) (flags steps : Reduction) → Searching w l n r flags → n ≤ r → steps ≡ steps-held n flags → Readable w l → steps ≡ held l (marks w l)
+  pub searching-done : (r : ℕ) (flags steps : Reduction) → Searching w l n r flags → n ≤ r → steps ≡ steps-held n flags → Readable w l → steps ≡ flags-of l (marks w l)
   searching-done r flags steps along done is readable =
       is ∙ rw (along .counted) (passed-all w l readable r flags (along .passing readable) (omega (arith, along .counted, along .reached)))

@@ -26,17 +26,17 @@ use Rattle.plan.specs.Readable.{Readable}
 use Rattle.plan.specs.Checked.{lodged-checks, plan-checks, told-answer, Checks}
 use Rattle.plan.specs.between.Lodged.{Checks-lodged}
 use Rattle.plan.proofs.PlanLaws.{passed-readable}
-use Rattle.reduced.specs.between.Held.{mask, held, Leaves}
+use Rattle.reduced.specs.between.Held.{mask, flags-of, Leaves}
 use Rattle.reduced.proofs.HeldLaws.{leaves}
 use Rattle.landmark.specs.Marks.{marks, Masks}
 use Rattle.landmark.specs.between.Flagged.{Marks, Marks-lodged}
 
 -- a list over the limit can't be read
-pub too-long : (w l : List ℕ) (flags : Reduction) → most-steps < length l → Readable w l → flags ≡ held l (marks w l)
+pub too-long : (w l : List ℕ) (flags : Reduction) → most-steps < length l → Readable w l → flags ≡ flags-of l (marks w l)
 too-long w l flags long readable = absurd (omega (arith, readable .few))
 
 -- the flags of a list that can be read hold its marks
-pub marks-leave : (w l : List ℕ) (flags : Reduction) → flags ≡ held l (marks w l) → Leaves l (marks w l) flags
+pub marks-leave : (w l : List ℕ) (flags : Reduction) → flags ≡ flags-of l (marks w l) → Leaves l (marks w l) flags
 unfolding marks
 marks-leave w l flags is = leaves w l (marks w l) (marks w l) flags (landmarks-length (initial w) (goal w) (steps w l)) refl is
 
@@ -52,7 +52,7 @@ module _ (w l : List ℕ) (v : Verdict) (given : Answer) (state : List ℕ) (che
       }
 
   -- and one that passes is marked
-  pub lodged-marked : (t : Tally) (flags : Reduction) → given ≡ Valid t → (Readable w l → flags ≡ held l (marks w l)) → Marks-lodged w l v (Valid t) flags
+  pub lodged-marked : (t : Tally) (flags : Reduction) → given ≡ Valid t → (Readable w l → flags ≡ flags-of l (marks w l)) → Marks-lodged w l v (Valid t) flags
   lodged-marked t flags is flagged =
       record {
         checked = λ besides asked.

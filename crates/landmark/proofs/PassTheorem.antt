@@ -37,11 +37,11 @@ use Rattle.plan.specs.Limits.{most-steps}
 use Rattle.plan.specs.Valid.{steps}
 use Rattle.plan.specs.Readable.{Readable}
 use Rattle.plan.proofs.PlanLaws.{goal-rising, steps-formed}
-use Rattle.reduced.specs.between.Held.{held}
+use Rattle.reduced.specs.between.Held.{flags-of}
 use Rattle.fact_table.specs.between.Tables.{most-facts}
 use Rattle.landmark.specs.Marks.{marks}
 use Rattle.trace.specs.between.Traces.{trace-start, started}
-use Rattle.landmark.specs.between.Rows.{most-positions, row-start, noted}
+use Rattle.landmark.specs.between.Rows.{most-positions, row-start, supports-noted}
 use Rattle.landmark.specs.between.Passes.{framed-list, Walk, walk-tables, walked, closed, pass, ends-up, steps-held}
 use Rattle.trace.proofs.StartTheorem.{start-sized, start-reads}
 use Rattle.landmark.proofs.WalkTheorem.{Told, Rows-told, more-noted, told-along, closed-passes}
@@ -118,7 +118,7 @@ module _ (w l : List ℕ) (readable : Readable w l) where
     pub pass-made : (starts traces latest rows rows′ rows″ : List ℕ) (g : Group) (next : Reduction) → length rows ≡ row-start most-positions
         → starts ≡ started (in-array (initial w)) (limits .variables)
         → walk-tables traces latest rows′ ≡ walked m 1 p (walk-tables (replicate (trace-start most-facts) 0) starts rows)
-        → g ≡ goal-group w → rows″ ≡ noted traces (row-start (length l + 1)) (facts-in w g) rows′ → next ≡ closed rows″ q (suc (suc (length l))) m
+        → g ≡ goal-group w → rows″ ≡ supports-noted traces (row-start (length l + 1)) (facts-in w g) rows′ → next ≡ closed rows″ q (suc (suc (length l))) m
         → next ≡ pass q m
     pass-made starts traces latest rows rows′ rows″ g next sized begins walks group notes closes =
         let t : Walk = walk-tables traces latest rows′ in
@@ -128,8 +128,8 @@ module _ (w l : List ℕ) (readable : Readable w l) where
         let told : Told w accepted q m few-needs known-needs (suc (length p)) t = rw (walks, begins, ← behind) along in
         let place : length l + 1 ≡ suc (length p) = omega (arith, p-length) in
         let facts : facts-in w g ≡ needed (step q (suc (length p))) = ap (facts-in w) group ∙ goal-facts w ∙ sym end-needs in
-        let last-row : rows″ ≡ noted traces (row-start (suc (length p))) (needed (step q (suc (length p)))) rows′
-        = notes ∙ ap (λ x. noted traces (row-start x) (facts-in w g) rows′) place ∙ ap (λ e. noted traces (row-start (suc (length p))) e rows′) facts in
+        let last-row : rows″ ≡ supports-noted traces (row-start (suc (length p))) (needed (step q (suc (length p)))) rows′
+        = notes ∙ ap (λ x. supports-noted traces (row-start x) (facts-in w g) rows′) place ∙ ap (λ e. supports-noted traces (row-start (suc (length p))) e rows′) facts in
         let told-all : Rows-told w accepted q m few-needs known-needs (suc (suc (length p))) rows″
         = rw last-row (more-noted w accepted q m few-needs known-needs (suc (length p)) t (omega (arith, p-length, readable .few)) told) in
         let positions : suc (suc (length l)) ≡ length q = omega (arith, framed-length (initial w) (goal w) p, p-length) in
@@ -191,7 +191,7 @@ module _ (w l : List ℕ) (readable : Readable w l) where
         let inside : i < length p = rw long at (kept-inside (take (length p) (drop 1 a)) i up) in
         step-flag (length p) b i inside ∙ more (suc i) (sym (step-flag (length p) a i inside) ∙ up)
 
-    all-found : steps-held (length l) m ≡ held l (marks w l)
+    all-found : steps-held (length l) m ≡ flags-of l (marks w l)
     unfolding marks landmarks
     all-found =
         let same : found ≡ due
@@ -214,11 +214,11 @@ module _ (w l : List ℕ) (readable : Readable w l) where
 
   module _ (r : ℕ) (m : Reduction) (passing : Passing r m) where
     -- after as many passes as there are steps
-    pub passed-all : r ≡ length l → steps-held (length l) m ≡ held l (marks w l)
+    pub passed-all : r ≡ length l → steps-held (length l) m ≡ flags-of l (marks w l)
     passed-all all = all-found m (passing .sized) (passing .within) (rw (all, ← p-length) at (passing .reached))
 
     -- and as soon as one changes nothing
-    pub passed-settled : pass q m ≡ m → steps-held (length l) m ≡ held l (marks w l)
+    pub passed-settled : pass q m ≡ m → steps-held (length l) m ≡ flags-of l (marks w l)
     passed-settled settled =
         all-found m (passing .sized) (passing .within)
         (settled-reaches m (passing .sized) settled (λ k up. passing .reached k (first-stay r k up)) (length p))

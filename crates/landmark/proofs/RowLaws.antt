@@ -14,29 +14,29 @@ use Rattle.sheet.specs.between.Group.{facts-in, first-fact, rest-of}
 use Rattle.sheet.proofs.EncodeLaws.{word-of-fact}
 use Rattle.sheet.proofs.GroupLaws.{group-over, group-next}
 use Rattle.trace.specs.between.Traces.{trace-start}
-use Rattle.landmark.specs.between.Rows.{noted, row-raised}
+use Rattle.landmark.specs.between.Rows.{supports-noted, row-raised}
 
 -- past the last place nothing is noted
-noted-none : (t : List ℕ) (i : ℕ) (e : Assignment) (rows : List ℕ) → length rows ≤ i → noted t i e rows ≡ rows
-unfolding noted
+noted-none : (t : List ℕ) (i : ℕ) (e : Assignment) (rows : List ℕ) → length rows ≤ i → supports-noted t i e rows ≡ rows
+unfolding supports-noted
 noted-none t i [] rows past = refl
 noted-none t i (f ∷ e) rows past = rw (set-out rows i _ past) (noted-none t (i + 1) e rows (omega arith))
 
 module _ (t w rows : List ℕ) (i : ℕ) (g : Group) where
   -- from the group's end on nothing is noted
-  pub noted-over : g .end ≤ g .at → noted t i (facts-in w g) rows ≡ rows
-  unfolding noted
+  pub noted-over : g .end ≤ g .at → supports-noted t i (facts-in w g) rows ≡ rows
+  unfolding supports-noted
   noted-over h = rw (group-over w g h)
 
   -- before it, the support y of the fact x here is noted first
   module _ (h : g .at < g .end) (x y : ℕ) (read : x ≡ first-fact w g) (support : y ≡ getD t (trace-start x + 1) 0) where
-    pub noted-next : noted t i (facts-in w g) rows ≡ noted t (i + 1) (facts-in w (rest-of g)) (set rows i y)
-    unfolding noted
+    pub noted-next : supports-noted t i (facts-in w g) rows ≡ supports-noted t (i + 1) (facts-in w (rest-of g)) (set rows i y)
+    unfolding supports-noted
     noted-next =
         rw (support, group-next w g h, ← read)
-        (ap (λ j. noted t (i + 1) (facts-in w (rest-of g)) (set rows i (getD t (trace-start j + 1) 0))) (word-of-fact x))
+        (ap (λ j. supports-noted t (i + 1) (facts-in w (rest-of g)) (set rows i (getD t (trace-start j + 1) 0))) (word-of-fact x))
 
-    pub noted-past : length (set rows i y) ≤ i → noted t i (facts-in w g) rows ≡ noted t i (facts-in w (rest-of g)) (set rows i y)
+    pub noted-past : length (set rows i y) ≤ i → supports-noted t i (facts-in w g) rows ≡ supports-noted t i (facts-in w (rest-of g)) (set rows i y)
     noted-past past =
         noted-next
         ∙ noted-none t (i + 1) (facts-in w (rest-of g)) (set rows i y) (omega arith)

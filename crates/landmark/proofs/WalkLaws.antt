@@ -18,7 +18,7 @@ use Rattle.plan.specs.Limits.{most-steps}
 use Rattle.plan.specs.Valid.{steps}
 use Rattle.plan.proofs.FaultLaws.{drop-next}
 use Rattle.trace.specs.between.Traces.{tables, wrote-each}
-use Rattle.landmark.specs.between.Rows.{row-start, noted}
+use Rattle.landmark.specs.between.Rows.{row-start, supports-noted}
 use Rattle.landmark.specs.between.Passes.{walk-tables, walked-step, walked}
 
 -- where the walk stands before index i
@@ -37,7 +37,7 @@ module _ (w l : List ℕ) (m : Reduction) (traces₀ latest₀ rows₀ : List �
   module _ (i : ℕ) (traces latest rows : List ℕ) (along : Walking w l m traces₀ latest₀ rows₀ i traces latest rows) where
     -- one step more
     pub walking-more : i < length l → (facts : ActionFacts) (marked : Bool) (traces′ latest′ rows′ : List ℕ) → facts .precondition ≡ needed-group w (getD l i 0)
-        → facts .effects ≡ effects-of w (getD l i 0) → rows′ ≡ noted traces (row-start (i + 1)) (facts-in w (facts .precondition)) rows → marked ≡ getD m (i + 1) false
+        → facts .effects ≡ effects-of w (getD l i 0) → rows′ ≡ supports-noted traces (row-start (i + 1)) (facts-in w (facts .precondition)) rows → marked ≡ getD m (i + 1) false
         → tables traces′ latest′ ≡ wrote-each (i + 1) marked (written-in w (facts .effects)) (tables traces latest) → length traces′ ≡ length traces
         → length latest′ ≡ length latest → length rows′ ≡ length rows → Walking w l m traces₀ latest₀ rows₀ (i + 1) traces′ latest′ rows′
     unfolding walked walked-step
@@ -56,7 +56,7 @@ module _ (w l : List ℕ) (m : Reduction) (traces₀ latest₀ rows₀ : List �
         behind : tables traces′ latest′ ≡ wrote-each (i + 1) (getD m (i + 1) false) (written (action w (getD l i 0))) (tables traces latest)
         behind = wrote-all ∙ rw (is, writes, effects-written w (getD l i 0))
 
-        row : rows′ ≡ noted traces (row-start (i + 1)) (needed (action w (getD l i 0))) rows
+        row : rows′ ≡ supports-noted traces (row-start (i + 1)) (needed (action w (getD l i 0))) rows
         row = notes ∙ rw (needs, needed-facts w (getD l i 0))
 
     -- the walk is over

@@ -23,7 +23,7 @@ use Rattle.sheet.specs.Decode.{domains}
 use Rattle.sheet.specs.between.Encode.{fact-word}
 use Rattle.sheet.specs.Causes.{Accepted}
 use Rattle.trace.specs.between.Traces.{trace-start, Tables, tables}
-use Rattle.landmark.specs.between.Rows.{most-positions, row-start, noted, row-raised}
+use Rattle.landmark.specs.between.Rows.{most-positions, row-start, supports-noted, row-raised}
 use Rattle.landmark.specs.between.Passes.{Walk, walked-step, walked, closed, pass-from}
 use Rattle.trace.proofs.TraceTheorem.{read, Sized, step-sized, step-read}
 
@@ -54,14 +54,14 @@ row-raises rows i [] at n told = refl
 row-raises rows i (f ∷ e) at n (here, rest) = rw here (row-raises rows (i + 1) e at (set n (at f) true) rest)
 
 module _ (traces : List ℕ) where
-  noted-length : (i : ℕ) (e : Assignment) (rows : List ℕ) → length (noted traces i e rows) ≡ length rows
-  unfolding noted
+  noted-length : (i : ℕ) (e : Assignment) (rows : List ℕ) → length (supports-noted traces i e rows) ≡ length rows
+  unfolding supports-noted
   noted-length i [] rows = refl
   noted-length i (f ∷ e) rows = noted-length (i + 1) e _ ∙ length-set rows i (getD traces (trace-start (fact-word f) + 1) 0)
 
   -- places before a row stay
-  noted-before : (i : ℕ) (e : Assignment) (rows : List ℕ) (x : ℕ) → x < i → getD (noted traces i e rows) x 0 ≡ getD rows x 0
-  unfolding noted
+  noted-before : (i : ℕ) (e : Assignment) (rows : List ℕ) (x : ℕ) → x < i → getD (supports-noted traces i e rows) x 0 ≡ getD rows x 0
+  unfolding supports-noted
   noted-before i [] rows x h = refl
   noted-before i (f ∷ e) rows x h =
       noted-before (i + 1) e (set rows i (getD traces (trace-start (fact-word f) + 1) 0)) x (omega arith)
@@ -69,19 +69,19 @@ module _ (traces : List ℕ) where
 
   -- and so do rows
   row-stays : (i : ℕ) (e : Assignment) (rows : List ℕ) (y : ℕ) (d : Assignment) (at : Fact → ℕ) → y + length d ≤ i → Noted-row rows y d at
-      → Noted-row (noted traces i e rows) y d at
+      → Noted-row (supports-noted traces i e rows) y d at
   row-stays i e rows y [] at h told = tt
   row-stays i e rows y (f ∷ d) at h (here, rest) =
       (noted-before i e rows y (omega arith) ∙ here, row-stays i e rows (y + 1) d at (omega arith) rest)
 
   -- a row has what the table tells
   row-noted : (i : ℕ) (e : Assignment) (rows : List ℕ) (at : Fact → ℕ) → i + length e ≤ length rows
-      → ((f : Fact) → List·Memᴰ f e → getD traces (trace-start (fact-word f) + 1) 0 ≡ at f) → Noted-row (noted traces i e rows) i e at
-  unfolding noted
+      → ((f : Fact) → List·Memᴰ f e → getD traces (trace-start (fact-word f) + 1) 0 ≡ at f) → Noted-row (supports-noted traces i e rows) i e at
+  unfolding supports-noted
   row-noted i [] rows at room tells = tt
   row-noted i (f ∷ e) rows at room tells =
       let x : ℕ = getD traces (trace-start (fact-word f) + 1) 0 in
-      let here : getD (noted traces (i + 1) e (set rows i x)) i 0 ≡ at f
+      let here : getD (supports-noted traces (i + 1) e (set rows i x)) i 0 ≡ at f
       = noted-before (i + 1) e (set rows i x) i (omega arith) ∙ getD-set-same rows i x 0 (omega arith) ∙ tells f (List·Memᴰ·head refl) in
       (here, row-noted (i + 1) e (set rows i x) at (omega (arith, length-set rows i x)) (λ g m. tells g (List·Memᴰ·tail m)))
 
@@ -99,7 +99,7 @@ module _ (w : List ℕ) (accepted : Accepted w) (q : List Action) (m : Reduction
     pub rows-told : Rows-told j (t .rows)
 
   -- one row more
-  pub more-noted : (j : ℕ) (t : Walk) → j < most-positions → Told j t → Rows-told (suc j) (noted (t .traces) (row-start j) (needed (step q j)) (t .rows))
+  pub more-noted : (j : ℕ) (t : Walk) → j < most-positions → Told j t → Rows-told (suc j) (supports-noted (t .traces) (row-start j) (needed (step q j)) (t .rows))
   more-noted j t inside told x h =
       ⊎-elim
       (λ before. row-stays (t .traces) (row-start j) (needed (step q j)) (t .rows) (row-start x) (needed (step q x)) (support q m x) (omega (arith, few x)) (told .rows-told x before))

@@ -15,7 +15,7 @@ ghost use lib.ListN.{length};
 ghost use Rattle.reduction.specs.Reduction.{keeps};
 ghost use Rattle.plan.specs.Limits.{most-steps};
 ghost use Rattle.plan.specs.Readable.{Readable};
-ghost use Rattle.reduced.specs.between.Held.{held};
+ghost use Rattle.reduced.specs.between.Held.{flags-of};
 ghost use Rattle.landmark.specs.Marks.{marks};
 ghost use Rattle.landmark.specs.between.Passes.{framed-list, pass, ends-up, steps-held};
 
@@ -86,7 +86,7 @@ fn of_steps(flags: &[bool; POSITIONS], n: usize) -> [bool; Plan::STEPS]
 // as there are steps are enough; the first that changes nothing is the last.
 pub(crate) fn landmarks(words: &[u32], plan: &[u32]) -> [bool; Plan::STEPS]
     ensures { λ r. ⌜ (Readable (now (words .entry)) (now (plan .entry))
-        → r ≡ held (now (plan .entry)) (marks (now (words .entry)) (now (plan .entry)))) ⌝ }
+        → r ≡ flags-of (now (plan .entry)) (marks (now (words .entry)) (now (plan .entry)))) ⌝ }
 {
     let n = plan.len();
     if Plan::STEPS < n {

@@ -13,7 +13,7 @@ ghost use mathlib.Core.Bool.{cond, false};
 ghost use lib.ListN.{getD};
 ghost use Prim.Native.Nat.{_≤_};
 ghost use Rattle.sheet.specs.between.Group.{facts-in};
-ghost use Rattle.landmark.specs.between.Rows.{most-positions, row-start, noted, row-raised};
+ghost use Rattle.landmark.specs.between.Rows.{most-positions, row-start, supports-noted, row-raised};
 
 // The positions of the longest plan: its steps, the start step at position 0 and the end step behind the last.
 pub(crate) const POSITIONS: usize = Plan::STEPS + 2;
@@ -26,7 +26,7 @@ pub(crate) const ROWS: usize = POSITIONS * ROW;
 // places are alike, so that the place counts no further there, and fits whatever the group.
 pub(crate) fn note(words: &[u32], traces: &[u8], rows: &mut [u8], at: usize, group: Group)
     requires { ⌜ at ≤ most-positions ⌝ }
-    ensures { λ _. ⌜ now (rows .exit) ≡ noted (now (traces .entry)) (row-start at)
+    ensures { λ _. ⌜ now (rows .exit) ≡ supports-noted (now (traces .entry)) (row-start at)
         (facts-in (now (words .entry)) group) (now (rows .entry)) ⌝ }
 {
     let mut to = at * ROW;

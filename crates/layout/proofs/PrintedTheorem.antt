@@ -14,7 +14,7 @@ use Rattle.sheet.specs.Layout.{actions}
 use Rattle.sheet.specs.Decode.{table}
 use Rattle.records.specs.declared.frame.Frame.{Frame}
 use Rattle.records.specs.declared.frame.Frame.the-variants.{Broken, Long, Whole}
-use Rattle.records.specs.Form.{word-bytes, unpacked, input-form}
+use Rattle.records.specs.RecordForm.{word-bytes, unpacked, input-form}
 use Rattle.records.specs.Bytes.{all-bytes, Word-sized}
 use Rattle.records.proofs.BytesTheorem.{bytes-read-back, all-bytes-length}
 use Rattle.ascii.specs.Bytes.{ends-line}

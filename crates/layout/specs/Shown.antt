@@ -8,7 +8,7 @@ use Rattle.sheet.specs.Limits.{limits}
 use Rattle.sheet.specs.Layout.{actions}
 use Rattle.records.specs.declared.frame.Frame.{Frame}
 use Rattle.records.specs.declared.frame.Frame.the-variants.{Broken, Long, Whole}
-use Rattle.records.specs.Form.{word-bytes, unpacked, input-form}
+use Rattle.records.specs.RecordForm.{word-bytes, unpacked, input-form}
 use Rattle.text.specs.Limits.{most}
 use Rattle.word_rows.specs.Rows.{rows}
 use Rattle.layout.specs.Layout.{record-text}

@@ -12,7 +12,7 @@ use word_rows::put_rows;
 ghost use Prim.Native.Nat.{_*_, _≤_};
 ghost use lib.ListN.{length};
 ghost use Rattle.lines.specs.Prints.{Prints};
-ghost use Rattle.records.specs.Form.{word-bytes};
+ghost use Rattle.records.specs.RecordForm.{word-bytes};
 ghost use Rattle.text.specs.Limits.{most};
 ghost use Rattle.layout.specs.Shown.{text-whole, text-framed, text-of, shown};
 

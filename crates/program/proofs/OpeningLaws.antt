@@ -13,7 +13,7 @@ use Rattle.sheet.proofs.TableLaws.{table-length, table-more, table-take, table-
 use Rattle.records.specs.declared.frame.Frame.{Frame}
 use Rattle.records.specs.declared.frame.Frame.the-variants.{Broken, Long, Whole}
 use Rattle.program.specs.declared.opened.Opened.the-variants as opened
-use Rattle.records.specs.Form.{word-at, unpacked, plan-words, further-words, input-form}
+use Rattle.records.specs.RecordForm.{word-at, unpacked, plan-words, further-words, input-form}
 use Rattle.records.specs.between.Needed.{most-words}
 use Rattle.program.specs.Long.{long-refusal}
 use Rattle.program.specs.Opening.{Opening, Refused, Lodged, opening}

@@ -8,7 +8,7 @@ use lib.ListN.{length, take, getD}
 use lib.Seq.{take-suc}
 use Rattle.lines.specs.Prints.{Prints}
 use Rattle.lines.proofs.PrintLaws.{prints-nothing, prints-both}
-use Rattle.records.specs.Form.{word-bytes}
+use Rattle.records.specs.RecordForm.{word-bytes}
 use Rattle.records.specs.Bytes.{bytes-of, all-bytes}
 
 bytes-last : (xs : List ℕ) (x : ℕ) → all-bytes (xs ++ (x ∷ [])) ≡ all-bytes xs ++ bytes-of word-bytes x

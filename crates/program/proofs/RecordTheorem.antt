@@ -13,7 +13,7 @@ use Rattle.sheet.proofs.TableLaws.{table-at, table-take, table-part, table-noth
 use Rattle.sheet.proofs.Parts.{Measured, accepted-measured}
 use Rattle.plan.specs.Readable.{Readable}
 use Rattle.records.specs.declared.frame.Frame.the-variants.{Whole}
-use Rattle.records.specs.Form.{word-bytes, word-at, length-at, task-length, outside, input-form, unpacked, plan-words}
+use Rattle.records.specs.RecordForm.{word-bytes, word-at, length-at, task-length, outside, input-form, unpacked, plan-words}
 use Rattle.records.specs.Bytes.{input-of, Word-sized, word}
 use Rattle.program.specs.Opening.{Lodged, opening}
 use Rattle.records.proofs.BytesTheorem.{bytes-read-back, all-bytes-length, sized-append}

@@ -9,7 +9,7 @@ use lib.Seq.{take-all}
 use Rattle.refusal.specs.Refusal.{Told}
 use Rattle.records.specs.declared.frame.Frame.{Frame}
 use Rattle.records.specs.declared.frame.Frame.the-variants.{Broken, Long, Whole}
-use Rattle.records.specs.Form.{record-form}
+use Rattle.records.specs.RecordForm.{record-form}
 use Rattle.records.specs.between.Needed.{bytes-to-read}
 use Rattle.program.specs.Long.{long-refusal}
 use Rattle.program.specs.Opening.{Refused, opening}

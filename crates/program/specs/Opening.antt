@@ -5,7 +5,7 @@ use mathlib.Core.List.{List}
 use Rattle.refusal.specs.declared.Refusal.the-variants.{Length}
 use Rattle.refusal.specs.Refusal.{Told, told-refusal}
 use Rattle.records.specs.declared.frame.Frame.the-variants.{Broken, Long, Whole}
-use Rattle.records.specs.Form.{unpacked, plan-words, further-words, input-form}
+use Rattle.records.specs.RecordForm.{unpacked, plan-words, further-words, input-form}
 use Rattle.program.specs.Long.{long-refusal}
 
 pub data Opening : Type 0 where

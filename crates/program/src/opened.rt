@@ -8,7 +8,7 @@ use refusal::Refusal;
 ghost use mathlib.Core.Path.{_≡_};
 ghost use Prim.Native.Nat.{_+_, _≤_};
 ghost use lib.ListN.{length};
-ghost use Rattle.records.specs.Form.{unpacked};
+ghost use Rattle.records.specs.RecordForm.{unpacked};
 ghost use Rattle.records.specs.between.Needed.{most-words};
 ghost use Rattle.program.specs.Opening.{opening};
 ghost use Rattle.program.specs.between.Found.{opening-of};

@@ -1,7 +1,7 @@
 // Words as bytes.
 use lines::put_text;
 use records::word::BYTE;
-ghost use Rattle.records.specs.Form.{word-bytes};
+ghost use Rattle.records.specs.RecordForm.{word-bytes};
 ghost use Rattle.records.specs.Bytes.{bytes-of, all-bytes};
 ghost use Rattle.lines.specs.Prints.{Prints};
 

@@ -8,7 +8,7 @@ use lib.ListN.{length, take, length-append}
 use lib.Seq.{take-at, drop-at}
 use lib.Dec.{lit<}
 use Rattle.sheet.specs.Decode.{table}
-use Rattle.records.specs.Form.{word-bytes, byte-values, little-endian, word-at, unpacked}
+use Rattle.records.specs.RecordForm.{word-bytes, byte-values, little-endian, word-at, unpacked}
 use Rattle.records.specs.Bytes.{bytes-of, all-bytes, Word-sized, nothing, word}
 
 -- a number by its n lowest bytes

@@ -16,7 +16,7 @@ use Rattle.records.specs.declared.frame.Ending.the-variants as ending
 use Rattle.records.specs.declared.frame.Frame.{Frame}
 use Rattle.records.specs.declared.frame.Frame.the-variants.{Broken, Long, Whole}
 use Rattle.sheet.specs.Layout.{header}
-use Rattle.records.specs.Form.{word-bytes, word-at, task-length, outside, plan-length, plan-start, header-bytes, record-ending, as-record, record-form, as-input, input-form}
+use Rattle.records.specs.RecordForm.{word-bytes, word-at, task-length, outside, plan-length, plan-start, header-bytes, record-ending, as-record, record-form, as-input, input-form}
 use Rattle.records.specs.between.Needed.{needed-for, bytes-to-read, most-bytes}
 
 -- a number that is not outside the limits

@@ -10,7 +10,7 @@ use lib.Seq.{take-all, length-take-le}
 use lib.Dec.{ltb}
 use borrow.Author.Tests.{ltb-true, ltb-false}
 use Rattle.plan.specs.Limits.{most-steps}
-use Rattle.records.specs.Form.{word-at, length-at, task-length, plan-length, plan-start, record-end, header-bytes, outside, record-form}
+use Rattle.records.specs.RecordForm.{word-at, length-at, task-length, plan-length, plan-start, record-end, header-bytes, outside, record-form}
 use Rattle.records.specs.between.Needed.{bytes-to-read}
 use Rattle.records.proofs.InputWordLaws.{word-stays}
 use Rattle.records.proofs.FormLaws.{form-outside, form-long, form-whole, reads-header, reads-outside, reads-start, reads-long, reads-end}

@@ -10,7 +10,7 @@ use lib.Seq.{take-nil, drop-cons, take-append-le, drop-append-le}
 use lib.Dec.{ltb}
 use borrow.Author.Tests.{ltb-true, ltb-false}
 use Rattle.sheet.proofs.TableLaws.{table-same}
-use Rattle.records.specs.Form.{word-bytes, byte-values, little-endian, word-at, unpacked}
+use Rattle.records.specs.RecordForm.{word-bytes, byte-values, little-endian, word-at, unpacked}
 
 -- the bytes from index i on: the first of them, which past the end is 0, and those from index j on
 next-byte : (bytes : List ℕ) (i j n : ℕ) → j ≡ i + 1 → little-endian (take (suc n) (drop i bytes)) ≡ getD bytes i 0 + byte-values * little-endian (take n (drop j bytes))

@@ -2,7 +2,7 @@
 use Prim.Native.Nat.{ℕ, zero, suc, _/_, _%_, _^_, _<_}
 use mathlib.Core.List.{List, [], _∷_, _++_}
 use lib.ListN.{length}
-use Rattle.records.specs.Form.{word-bytes, byte-values}
+use Rattle.records.specs.RecordForm.{word-bytes, byte-values}
 
 -- the n lowest bytes of a number
 unfoldable pub bytes-of : ℕ → ℕ → List ℕ

@@ -10,8 +10,8 @@ use sheet::layout::PAIRS_AT;
 use sheet::limits::Sheet;
 ghost use mathlib.Core.Path.{_≡_};
 ghost use Prim.Native.Nat.{_<_, _≤_, _^_};
-ghost use Rattle.records.specs.Form.{outside as outside-limits, task-length, record-ending};
-ghost use Rattle.records.specs.Form.{record-form, input-form};
+ghost use Rattle.records.specs.RecordForm.{outside as outside-limits, task-length, record-ending};
+ghost use Rattle.records.specs.RecordForm.{record-form, input-form};
 ghost use Rattle.records.specs.between.Needed.{bytes-to-read, most-bytes};
 
 // How many bytes beyond a record are read where nothing may follow it, to see that nothing does.

@@ -2,7 +2,7 @@
 use crate::word::word_at;
 ghost use mathlib.Core.Path.{_≡_};
 ghost use lib.ListN.{length};
-ghost use Rattle.records.specs.Form.{unpacked};
+ghost use Rattle.records.specs.RecordForm.{unpacked};
 
 // Fills `words` with the first words of the bytes.
 pub fn unpack(bytes: &[u8], words: &mut [u32])

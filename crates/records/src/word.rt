@@ -2,7 +2,7 @@
 use access::byte;
 ghost use mathlib.Core.Path.{_≡_};
 ghost use Prim.Native.Nat.{_<_, _^_};
-ghost use Rattle.records.specs.Form.{word-at};
+ghost use Rattle.records.specs.RecordForm.{word-at};
 
 // How many bytes a word has, and how many values a byte.
 pub const WORD: usize = 4;

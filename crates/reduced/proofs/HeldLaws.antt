@@ -10,7 +10,7 @@ use Rattle.sheet.specs.Decode.{action}
 use Rattle.plan.specs.Valid.{steps}
 use Rattle.plan.specs.Limits.{most-steps}
 use Rattle.reduction.specs.Reduction.{Reduction, whole}
-use Rattle.reduced.specs.between.Held.{mask, held, none-struck, Leaves}
+use Rattle.reduced.specs.between.Held.{mask, flags-of, none-struck, Leaves}
 
 -- of `most` flags the first i are up
 abbrev pub raised : ℕ → ℕ → List Bool
@@ -27,11 +27,11 @@ pub all-raised : (n : ℕ) → raised most-steps (min n most-steps) ≡ none-str
 all-raised n = let left : most-steps - min n most-steps ≡ most-steps - n = omega arith in rw left
 
 -- of a list within the limit they hold the whole of it
-pub all-held : (l : List ℕ) (flags : Reduction) → length l ≤ most-steps → flags ≡ none-struck (length l) → flags ≡ held l (whole l)
+pub all-held : (l : List ℕ) (flags : Reduction) → length l ≤ most-steps → flags ≡ none-struck (length l) → flags ≡ flags-of l (whole l)
 all-held l flags few is = let all : min (length l) most-steps ≡ length l = omega arith in is ∙ rw all
 
 -- the flags that hold a reduction of the steps
-pub leaves : (w l : List ℕ) (m left flags : Reduction) → length left ≡ length (steps w l) → left ≡ m → flags ≡ held l left → Leaves l m flags
+pub leaves : (w l : List ℕ) (m left flags : Reduction) → length left ≡ length (steps w l) → left ≡ m → flags ≡ flags-of l left → Leaves l m flags
 leaves w l m left flags fits same is =
     let as-long : length left ≡ length l = fits ∙ length-map l (action w) in
     let front : mask l flags ≡ left = rw is (take-at left _ (length l) as-long) in

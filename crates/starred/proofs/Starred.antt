@@ -37,7 +37,7 @@ use Rattle.landmark.proofs.MarkTheorem.{marks-theorem}
 use Rattle.minimal.specs.Minimised.{unmarked-checks, minimal-checks}
 use Rattle.minimal.specs.Statement.{Is-marked}
 use Rattle.starred.specs.Sheets.{sheet-p, gate-alone, two-writers, one-for-both}
-use Rattle.starred.specs.Rows.{Way, Each, Just-at, struck-by, checks-of, By-rule, Keeps-at, Loses, Holds, Row-holds, list-1, rows}
+use Rattle.starred.specs.Rows.{Way, Each, Just-at, struck-by, checks-of, By-rule, Keeps-at, Loses, Holds, Row-holds, list-1, starred-rows}
 use Rattle.starred.specs.Rows.Way.{elimination, greedily, minimally}
 use Rattle.starred.specs.Rows.Saying.{valid-at, refused-at}
 use Rattle.starred.proofs.RowLaws.{_also_, positions-from, kept-just}
@@ -74,7 +74,7 @@ module _ (w l : List ℕ) where
       record { answers = answers; by-rule = way-by-rule way v; just = kept-just (struck-by w l way); tally = tally; mask = mask }
 
 -- what document 01 says of each list holds
-pub starred : Each Row-holds rows
+pub starred : Each Row-holds starred-rows
 unfolding answer sheet-checks bad-length bad-edition bad-counts due wrong-size bad-pair pair-place bad-variable variable-place bad-fact group-place action-place fact-place cost-place first first-of first-of-next table facts initial goal action fault unknown-place list-checks read-checks valid-checks lodged-checks room-checks unmarked-checks minimal-checks holds first-failing satisfies applicable assign apply written needed result run cost kept count valid-for lower walk after trial eliminated eliminate better best rounds greedy found minimal some-fact same-fact has values-from framed sets-other passed trace raised round-to mark-rounds landmarks marks positions-from binary words-of mask-words
 starred =
     (refl, valid-truly sheet-p list-1 refl refl)

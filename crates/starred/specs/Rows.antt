@@ -137,8 +137,8 @@ abbrev pub said-of : List ℕ → List ℕ → Saying → Row
 said-of w l c = record { sheet = w; list = l; says = c }
 
 -- the worked lists 1 to 9, in order
-abbrev pub rows : List Row
-rows =
+abbrev pub starred-rows : List Row
+starred-rows =
     -- 1: "valid, price 23; only step 5 marked"
     said-of sheet-p list-1 (valid-at 23 6)
     ∷ said-of sheet-p list-1 (marked-at (5 ∷ []) (in-first-word 16))

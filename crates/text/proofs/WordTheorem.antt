@@ -7,7 +7,7 @@ use mathlib.Core.List.{List, [], _∷_}
 use lib.ListN.{length}
 use lib.Dec.{ltb}
 use borrow.Author.Tests.{ltb-true}
-use Rattle.records.specs.Form.{unpacked}
+use Rattle.records.specs.RecordForm.{unpacked}
 use Rattle.ascii.specs.Bytes.{all-digits, decimal-from}
 use Rattle.text.specs.Text.{Field, word-from, word-of, Reading, Words, NoWord, NoRoom, Long, in-front, read, reading}
 use Rattle.records.specs.Bytes.{all-bytes, Word-sized, nothing, word}

@@ -17,7 +17,7 @@ use Rattle.refusal.proofs.CheckLaws.{none-fires, answer-fires}
 use Rattle.refusal.proofs.PlaceLaws.{when-nowhere}
 use Rattle.sheet.specs.Limits.{limits}
 use Rattle.form.specs.Form.{most-bytes}
-use Rattle.records.specs.Form.{word-bytes}
+use Rattle.records.specs.RecordForm.{word-bytes}
 use Rattle.records.proofs.BytesTheorem.{all-bytes-length}
 use Rattle.translation.specs.Translation.{text-sheet, task-checks, translation-checks}
 use Rattle.translate.specs.Translate.{only-refuses, translated}

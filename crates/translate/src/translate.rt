@@ -11,7 +11,7 @@ use translation::translate::translate;
 ghost use Prim.Native.Nat.{_*_, _≤_};
 ghost use lib.ListN.{length, take};
 ghost use Rattle.sheet.specs.Limits.{limits};
-ghost use Rattle.records.specs.Form.{word-bytes};
+ghost use Rattle.records.specs.RecordForm.{word-bytes};
 ghost use Rattle.program.specs.between.Room.{line-room};
 ghost use Rattle.translate.specs.Answer.{Gives};
 ghost use Rattle.translate.specs.Translate.{translated, translated-input};

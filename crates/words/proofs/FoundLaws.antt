@@ -8,7 +8,7 @@ use Rattle.refusal.specs.declared.Refusal.{Refusal}
 use Rattle.refusal.specs.Refusal.{told-refusal}
 use Rattle.program.specs.declared.opened.Opened.{Opened}
 use Rattle.program.specs.declared.opened.Opened.the-variants as opened
-use Rattle.records.specs.Form.{unpacked}
+use Rattle.records.specs.RecordForm.{unpacked}
 use Rattle.program.specs.Opening.{Refused, Lodged, opening}
 use Rattle.program.specs.between.Found.{opening-of}
 use Rattle.records.specs.between.Needed.{most-words}

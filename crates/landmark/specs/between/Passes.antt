@@ -13,7 +13,7 @@ use Rattle.sheet.specs.Decode.{initial, goal}
 use Rattle.plan.specs.Limits.{most-steps}
 use Rattle.plan.specs.Valid.{steps}
 use Rattle.trace.specs.between.Traces.{Tables, tables, wrote-each}
-use Rattle.landmark.specs.between.Rows.{most-positions, row-start, noted, row-raised}
+use Rattle.landmark.specs.between.Rows.{most-positions, row-start, supports-noted, row-raised}
 
 -- the list l of the sheet w with its start step and its end step
 abbrev pub framed-list : List ℕ → List ℕ → List Action
@@ -32,7 +32,7 @@ walk-tables traces latest rows = record { traces = traces; latest = latest; rows
 unfoldable pub walked-step : Reduction → ℕ → Action → Walk → Walk
 walked-step m j a t =
     let behind : Tables = wrote-each j (getD m j false) (written a) (tables (t .traces) (t .latest)) in
-    walk-tables (behind .traces) (behind .latest) (noted (t .traces) (row-start j) (needed a) (t .rows))
+    walk-tables (behind .traces) (behind .latest) (supports-noted (t .traces) (row-start j) (needed a) (t .rows))
 
 -- behind the steps p, of which the first is at position j and m has the marked positions
 unfoldable pub walked : Reduction → ℕ → List Action → Walk → Walk

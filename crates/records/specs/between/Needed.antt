@@ -5,7 +5,7 @@ use Rattle.sheet.specs.Limits.{limits}
 use Rattle.plan.specs.Limits.{most-steps}
 use Rattle.records.specs.declared.frame.Ending.{Ending}
 use Rattle.records.specs.declared.frame.Ending.the-variants.{Untold, Unfit, Long, Ends}
-use Rattle.records.specs.Form.{word-bytes, record-ending}
+use Rattle.records.specs.RecordForm.{word-bytes, record-ending}
 
 -- how many bytes in all must have been read to tell the form, by where the record ends as far as those read so far show:
 -- as many as tell more; none more where it ends nowhere; else the record, and so many bytes beyond it: one for an input

@@ -13,8 +13,8 @@ abbrev pub mask : List ℕ → Reduction → Reduction
 mask l flags = take (length l) flags
 
 -- the flags that a reduction of the plan l is
-abbrev pub held : List ℕ → Reduction → Reduction
-held l m = m ++ replicate (most-steps - length l) false
+abbrev pub flags-of : List ℕ → Reduction → Reduction
+flags-of l m = m ++ replicate (most-steps - length l) false
 
 -- the flags of a plan of n steps of which none is struck: n of them are up, or all where there are fewer
 abbrev pub none-struck : ℕ → Reduction

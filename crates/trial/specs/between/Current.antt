@@ -9,11 +9,11 @@ use Rattle.sheet.specs.Decode.{initial, goal}
 use Rattle.plan.specs.Limits.{most-steps}
 use Rattle.plan.specs.Valid.{steps}
 use Rattle.reduction.specs.Reduction.{Reduction, kept, valid}
-use Rattle.reduced.specs.between.Held.{mask, held}
+use Rattle.reduced.specs.between.Held.{mask, flags-of}
 
 -- flags that are a valid reduction of the plan l
 pub record Current (w l : List ℕ) (flags : Reduction) : Type 0 where
   pub few : length l ≤ most-steps
   pub long : length flags ≡ most-steps
-  pub none-past : flags ≡ held l (mask l flags)
+  pub none-past : flags ≡ flags-of l (mask l flags)
   pub valid-left : valid (initial w) (goal w) (kept (mask l flags) (steps w l)) ≡ true

@@ -6,14 +6,14 @@ use borrow.Author.Needs.{needs}
 use lib.ListN.{length}
 use Rattle.sheet.specs.between.Group.{facts-in}
 use Rattle.sheet.proofs.GroupLaws.{rest-shorter}
-use Rattle.landmark.specs.between.Rows.{noted}
+use Rattle.landmark.specs.between.Rows.{supports-noted}
 use Rattle.landmark.proofs.RowLaws.{noted-over, noted-next, noted-past}
 use Rattle.landmark.proofs.rows.note.Statement.{statement}
 use Rattle.landmark.proofs.rows.note.Tie as tie
 
 abbrev Inv-loop : tie.InvT-loop
 Inv-loop words traces rows₀ at to₀ rest₀ rows to rest =
-    (noted traces to (facts-in words rest) rows ≡ noted traces to₀ (facts-in words rest₀) rows₀) × (length rows ≡ length rows₀)
+    (supports-noted traces to (facts-in words rest) rows ≡ supports-noted traces to₀ (facts-in words rest₀) rows₀) × (length rows ≡ length rows₀)
 
 abbrev μ-loop : tie.MeasureT-loop
 μ-loop words traces rows₀ at to₀ rest₀ rows to rest = rest .end - rest .at

@@ -4,7 +4,7 @@ use mathlib.Core.Path.{_≡_, sym, _∙_}
 use mathlib.Core.Bool.{false}
 use borrow.Author.Needs.{needs}
 use lib.ListN.{length}
-use Rattle.records.specs.Form.{task-length, outside, header-bytes}
+use Rattle.records.specs.RecordForm.{task-length, outside, header-bytes}
 use Rattle.records.proofs.FormLaws.{ending-header, ending-outside, ending-cut, ending-long, ending-found}
 use Rattle.records.proofs.framing.find_end.Statement.{statement}
 use Rattle.records.proofs.framing.find_end.Tie as tie

@@ -9,7 +9,7 @@ use lib.ListN.{length}
 use lib.Seq.{sets}
 use Rattle.sheet.specs.Decode.{table}
 use Rattle.sheet.proofs.TableLaws.{stores-over, stores-next, stores-whole}
-use Rattle.records.specs.Form.{word-at, unpacked}
+use Rattle.records.specs.RecordForm.{word-at, unpacked}
 use Rattle.records.proofs.unpack.unpack.Statement.{statement}
 use Rattle.records.proofs.unpack.unpack.Tie as tie
 

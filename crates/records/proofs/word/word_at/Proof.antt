@@ -2,7 +2,7 @@
 use Prim.Native.Nat.{_*_}
 use native.Mathlib.Omega.{arith}
 use mathlib.Core.Path.{refl}
-use Rattle.records.specs.Form.{word-bytes}
+use Rattle.records.specs.RecordForm.{word-bytes}
 use Rattle.records.proofs.InputWordLaws.{word-of-bytes}
 use borrow.Author.Needs.{needs}
 use Rattle.records.proofs.word.word_at.Statement.{statement}
