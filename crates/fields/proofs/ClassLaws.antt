@@ -13,7 +13,7 @@ use Rattle.ascii.specs.Bytes.{space, line-end, ends-line, ascii-zero, ascii-nin
 use Rattle.fields.specs.declared.class.Class.{Class}
 use Rattle.fields.specs.declared.class.Class.the-variants.{Digit, Minus, Space, LineEnd, Other}
 use Rattle.fields.proofs.class.Class.{the-type}
-use Rattle.fields.specs.Fields.{minus-sign, ends-word, class-of}
+use Rattle.fields.specs.between.Fields.{minus-sign, ends-word, class-of}
 use Rattle.fields.specs.declared.word.Behind.the-variants as behind
 use Rattle.fields.specs.between.Reading.{behind-byte}
 

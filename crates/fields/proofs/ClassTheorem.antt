@@ -9,7 +9,7 @@ use borrow.Author.Tests.{eqb-true}
 use Rattle.ascii.specs.Bytes.{space, ascii-digit, split, all-digits}
 use Rattle.ascii.proofs.SplitLaws.{split-at, split-in}
 use Rattle.fields.specs.declared.class.Class.the-variants.{Digit, Minus, Space}
-use Rattle.fields.specs.Fields.{minus-sign, ends-word, class-of, words-of, same, minus-one, word-reads, all-read, line-reads}
+use Rattle.fields.specs.between.Fields.{minus-sign, ends-word, class-of, words-of, same, minus-one, word-reads, all-read, line-reads}
 use Rattle.fields.proofs.ClassLaws.{class-minus, class-space}
 use Rattle.fields.proofs.WordLaws.{number-digits}
 
@@ -44,7 +44,7 @@ minus-one-in-word b m = first (List·Memᴰ·cases-cons m)
     first (inr n) = second (List·Memᴰ·cases-cons n)
 
 -- two runs that are the same are equal
-same-equal : (xs ys : List ℕ) → same xs ys ≡ true → xs ≡ ys
+pub same-equal : (xs ys : List ℕ) → same xs ys ≡ true → xs ≡ ys
 unfolding same
 same-equal [] [] e = refl
 same-equal [] (y ∷ ys) e = absurd (false≢true e)

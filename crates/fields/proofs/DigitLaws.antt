@@ -8,8 +8,8 @@ use lib.ListN.{length, drop, getD, drop-of-length-le}
 use lib.Dec.{leb}
 use borrow.Author.Tests.{leb-true, leb-false}
 use Rattle.ascii.specs.Bytes.{ascii-zero, ascii-nine, ascii-digit, decimal-from}
-use Rattle.fields.specs.Numbers.{most-number}
-use Rattle.fields.specs.Fields.{number}
+use Rattle.fields.specs.between.Numbers.{most-number}
+use Rattle.fields.specs.between.Fields.{number}
 use Rattle.fields.specs.declared.word.Behind.{Behind}
 use Rattle.fields.specs.declared.word.Behind.the-variants.{Neither}
 use Rattle.fields.specs.between.Reading.{grown, number-from, leading-digits, Digits-left, behind-byte, Reads-digits}

@@ -3,8 +3,8 @@ use mathlib.Core.Path.{_≡_, refl}
 use mathlib.Core.Bool.{true, false}
 use mathlib.Core.List.{[], _∷_}
 use Rattle.ascii.specs.Bytes.{ascii, split, all-digits, decimal-from}
-use Rattle.fields.specs.Numbers.{most-number, any-value}
-use Rattle.fields.specs.Fields.{same, is-number, number, word-reads, word-number, all-read, line-reads, line-numbers}
+use Rattle.fields.specs.between.Numbers.{most-number, any-value}
+use Rattle.fields.specs.between.Fields.{same, is-number, number, word-reads, word-number, all-read, line-reads, line-numbers}
 
 -- lines of numbers, −1 among them, and a number above every limit of a sheet
 pub numbers-read : ((line-reads (ascii "0") ≡ true) × (line-numbers (ascii "0") ≡ 0 ∷ []))

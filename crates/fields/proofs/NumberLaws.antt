@@ -13,8 +13,8 @@ use types.Run.{OneOf, miss}
 use denote.Enum.Declared.{tagOf}
 use Rattle.ascii.specs.Bytes.{Split, ends-line, line-end, runs, split}
 use Rattle.ascii.proofs.SplitLaws.{split-at, split-in}
-use Rattle.fields.specs.Numbers.{any-value}
-use Rattle.fields.specs.Fields.{ends-word, lines-of, words-of, same, is-number, number, minus-one, word-reads, word-number, all-read, line-reads, plain}
+use Rattle.fields.specs.between.Numbers.{any-value}
+use Rattle.fields.specs.between.Fields.{ends-word, lines-of, words-of, same, is-number, number, minus-one, word-reads, word-number, all-read, line-reads, plain}
 use Rattle.fields.specs.declared.word.Behind.{Behind}
 use Rattle.fields.specs.declared.word.Behind.the-variants.{Space, LineEnd, Neither}
 use Rattle.fields.specs.declared.word.Word.{Word}

@@ -10,8 +10,8 @@ use lib.Dec.{leb}
 use borrow.Author.Tests.{ne-eqb, leb-true, leb-false}
 use Rattle.ascii.specs.Bytes.{ends-line, ascii-zero, ascii-digit, split, all-digits, decimal-from}
 use Rattle.ascii.proofs.SplitLaws.{split-at, split-in}
-use Rattle.fields.specs.Numbers.{any-value}
-use Rattle.fields.specs.Fields.{minus-sign, ends-word, same, is-number, number, minus-one, word-reads, word-number}
+use Rattle.fields.specs.between.Numbers.{any-value}
+use Rattle.fields.specs.between.Fields.{minus-sign, ends-word, same, is-number, number, minus-one, word-reads, word-number}
 use Rattle.fields.specs.declared.word.Behind.{Behind}
 use Rattle.fields.specs.declared.word.Behind.the-variants.{Neither}
 use Rattle.fields.specs.declared.word.Word.{Word}

@@ -1,7 +1,7 @@
 // The five classes of bytes.
 ghost use mathlib.Core.Path.{_≡_};
 ghost use Rattle.ascii.specs.Bytes.{ascii-digit};
-ghost use Rattle.fields.specs.Fields.{class-of};
+ghost use Rattle.fields.specs.between.Fields.{class-of};
 
 pub(crate) enum Class {
     Digit,

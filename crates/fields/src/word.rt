@@ -9,8 +9,8 @@ ghost use mathlib.Core.Path.{_≡_};
 ghost use mathlib.Core.Bool.{true};
 ghost use Prim.Native.Nat.{_≤_};
 ghost use Rattle.ascii.specs.Bytes.{ascii-digit};
-ghost use Rattle.fields.specs.Numbers.{most-number};
-ghost use Rattle.fields.specs.Fields.{is-number, word-reads};
+ghost use Rattle.fields.specs.between.Numbers.{most-number};
+ghost use Rattle.fields.specs.between.Fields.{is-number, word-reads};
 ghost use Rattle.fields.specs.declared.word.Behind.the-variants.{Neither};
 ghost use Rattle.fields.specs.between.Reading.{grown, behind-byte, Reads-digits, Reads-word};
 

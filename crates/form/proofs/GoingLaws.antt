@@ -11,9 +11,9 @@ use Rattle.refusal.specs.declared.place.Place.{Place}
 use Rattle.refusal.specs.declared.place.Place.the-variants.{Nowhere, At}
 use Rattle.refusal.specs.Place.{when, or-else}
 use Rattle.ascii.specs.Bytes.{Split, runs}
-use Rattle.fields.specs.Fields.{lines-of}
+use Rattle.fields.specs.between.Fields.{lines-of}
 use Rattle.form.specs.declared.reader.Reader.{Reader}
-use Rattle.form.specs.Form.{Due, Entry, Walk, read-first, stop, walk, walk-from, whole, fits, further, bars, first-barred, kept, kept-of}
+use Rattle.form.specs.between.Form.{Due, Entry, Walk, read-first, stop, walk, walk-from, whole, fits, further, bars, first-barred, kept, kept-of}
 use Rattle.form.specs.between.Reading.{outcome, barred-at, going-on}
 use Rattle.form.specs.between.Reading.Outcome.{Broken, Whole}
 

@@ -10,15 +10,15 @@ use lib.Dec.{eqb}
 use borrow.Author.Tests.{eqb-true, eq-eqb}
 use Rattle.ascii.specs.Bytes.{ends-line, runs, split}
 use Rattle.ascii.proofs.SplitLaws.{split-at, split-in, split-last, split-more}
-use Rattle.fields.specs.Fields.{lines-of, same}
+use Rattle.fields.specs.between.Fields.{lines-of, same}
 use Rattle.fields.specs.between.Reading.{has-line-end, begins-line}
 use Rattle.form.specs.declared.reader.Reader.{Reader}
-use Rattle.form.specs.Form.{keyword, name, fits, further, bars, kept}
+use Rattle.form.specs.between.Form.{keyword, name, fits, further, bars, kept}
 use Rattle.form.specs.between.Reading.{barred-at, Within, Reads}
 use Rattle.form.proofs.GoingLaws.{Cut, going-missing, going-broken, going-next}
 use Rattle.form.proofs.StopLaws.{first-or-none, stopped-reader, past-reader, stops}
 
-same-self : (k : List ℕ) → same k k ≡ true
+pub same-self : (k : List ℕ) → same k k ≡ true
 unfolding same
 same-self [] = refl
 same-self (c ∷ k) = rw (eq-eqb c c refl) (same-self k)

@@ -5,7 +5,7 @@ use mathlib.Core.Path.{_≡_, sym, _∙_, ap}
 use mathlib.Core.List.{List, [], _∷_, _++_, append-assoc}
 use lib.ListN.{getD}
 use Rattle.form.specs.declared.reader.Reader.{Reader}
-use Rattle.form.specs.Form.{Row, Count, Counted, Due, numbers, counts, times, after-count}
+use Rattle.form.specs.between.Form.{Row, Count, Counted, Due, numbers, counts, times, after-count}
 use Rattle.form.specs.between.Reading.{going-on, Within, Reads, after-first, Reads-row}
 use Rattle.form.proofs.GoingLaws.{going-stopped}
 

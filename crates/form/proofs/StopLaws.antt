@@ -9,7 +9,7 @@ use Rattle.refusal.specs.declared.place.Place.{Place}
 use Rattle.refusal.specs.declared.place.Place.the-variants.{Nowhere, At}
 use Rattle.refusal.specs.Place.{when, or-else}
 use Rattle.form.specs.declared.reader.Reader.{Reader}
-use Rattle.form.specs.Form.{Row, Due, numbers}
+use Rattle.form.specs.between.Form.{Row, Due, numbers}
 use Rattle.form.specs.between.Reading.{barred-at, going-on, Within, Reads, Reads-row}
 use Rattle.form.specs.between.Reading.Outcome.{Broken}
 use Rattle.form.proofs.GoingLaws.{going-stopped}

@@ -7,7 +7,7 @@ ghost use mathlib.Core.Bool.{false};
 ghost use mathlib.Core.List.{List, [], _∷_};
 ghost use Prim.Native.Nat.{ℕ};
 ghost use Rattle.fields.specs.between.Reading.{has-line-end};
-ghost use Rattle.form.specs.Form.{keyword as due-keyword, name as due-name, times};
+ghost use Rattle.form.specs.between.Form.{keyword as due-keyword, name as due-name, times};
 ghost use Rattle.form.specs.between.Reading.{Within, Reads};
 
 // Reads a keyword.

@@ -1,18 +1,18 @@
 -- The round trip: the words of a text in which words are laid out, as lines of words and of comment, are those words. By the laws of the fields left, digit by digit,
 -- word by word and line by line. Assumes nothing.
-use Prim.Native.Nat.{ℕ, zero, suc, _+_, _-_, _*_, _/_, _%_, _^_, _≤_, _<_}
+use Prim.Native.Nat.{ℕ, suc, _+_, _-_, _^_, _≤_, _<_}
 use native.Mathlib.Omega.{arith}
-use native.Mathlib.Nat.{mod-lt, div-add-mod}
 use mathlib.Core.Path.{_≡_, refl, _∙_, ap}
 use mathlib.Core.Bool.{Bool, true, false, _&&_, and-eq-true-iff}
 use mathlib.Core.Option.{some}
 use mathlib.Core.List.{List, [], _∷_, _++_, append-assoc}
 use lib.ListN.{length, length-append}
-use lib.Dec.{ltb, leb, lit<}
-use borrow.Author.Tests.{lt-ltb, ltb-true, ltb-false, le-leb, leb-true, ne-eqb}
+use lib.Dec.{leb}
+use borrow.Author.Tests.{lt-ltb, leb-true, ne-eqb}
 use Rattle.ascii.specs.Bytes.{space, line-end}
-use Rattle.lines.specs.Lines.{digit-sign, numeral-within, numeral, spaced}
-use Rattle.ascii.specs.Bytes.{ascii-zero, ascii-nine, ascii-digit, all-digits, decimal-from, split}
+use Rattle.lines.specs.Lines.{numeral, spaced}
+use Rattle.lines.proofs.NumeralTheorem.{numeral-stands}
+use Rattle.ascii.specs.Bytes.{ascii-zero, ascii-nine, ascii-digit, all-digits, split}
 use Rattle.text.specs.Text.{comment-sign, word-from, word-of, fields, not-empty, fields-from, Words, in-front, read, reading}
 use Rattle.text.specs.between.Reading.{ends-field, after-blank, after-comment, field-left, after-field, read-field, all-in-front}
 use Rattle.records.specs.Bytes.{Word-sized, nothing, word}
@@ -24,56 +24,6 @@ use Rattle.text.proofs.ReaderLaws.{read-next, all-in-front-words}
 -- two tests that both hold
 both : (s t : Bool) → (s && t) ≡ true → (s ≡ true) × (t ≡ true)
 both s t e = and-eq-true-iff s t .0 e
-
--- a last digit
-decimal-last : (v : ℕ) (ds : List ℕ) (b : ℕ) → decimal-from v (ds ++ (b ∷ [])) ≡ 10 * decimal-from v ds + (b - ascii-zero)
-unfolding decimal-from
-decimal-last v [] b = refl
-decimal-last v (d ∷ ds) b = decimal-last (10 * v + (d - ascii-zero)) ds b
-
-all-digits-last : (ds : List ℕ) (b : ℕ) → all-digits ds ≡ true → ascii-digit b ≡ true → all-digits (ds ++ (b ∷ [])) ≡ true
-unfolding all-digits
-all-digits-last [] b first last = rw last
-all-digits-last (d ∷ ds) b first last = let (here, there) = both (ascii-digit d) (all-digits ds) first in rw (here, all-digits-last ds b there last)
-
--- digits that stand for a number
-record Stands-for (x : ℕ) (ds : List ℕ) : Type 0 where
-  pub all : all-digits ds ≡ true
-  pub value : decimal-from 0 ds ≡ x
-  pub some-digit : 0 < length ds
-
-sign-digit : (d : ℕ) → d < 10 → ascii-digit (digit-sign d) ≡ true
-sign-digit d small =
-    let low : ascii-zero ≤ digit-sign d = omega arith in
-    let high : digit-sign d ≤ ascii-nine = omega arith in
-    rw (le-leb ascii-zero (digit-sign d) low, le-leb (digit-sign d) ascii-nine high)
-
--- one digit, and a digit more
-one-digit : (x : ℕ) → x < 10 → Stands-for x (digit-sign x ∷ [])
-unfolding all-digits decimal-from
-one-digit x small = record { all = rw (sign-digit x small); value = omega arith; some-digit = omega arith }
-
-digit-more : (x : ℕ) (ds : List ℕ) → Stands-for (x / 10) ds → Stands-for x (ds ++ (digit-sign (x % 10) ∷ []))
-digit-more x ds before =
-    record {
-      all = all-digits-last ds (digit-sign (x % 10)) (before .all) (sign-digit (x % 10) (mod-lt x (lit< tt)));
-      value = decimal-last 0 ds (digit-sign (x % 10)) ∙ ap (λ v. 10 * v + (digit-sign (x % 10) - ascii-zero)) (before .value) ∙ omega (arith, div-add-mod x 10);
-      some-digit = rw length-append (omega arith);
-    }
-
--- so a numeral stands for its number
-within-stands : (n x : ℕ) → x < n → Stands-for x (numeral-within n x)
-unfolding numeral-within
-within-stands zero x low = absurd (omega arith)
-within-stands (suc n) x low = by-case (within-stands n (x / 10)) (ltb x 10) refl
-  where
-    by-case : (x / 10 < n → Stands-for (x / 10) (numeral-within n (x / 10))) → (b : Bool) → ltb x 10 ≡ b → Stands-for x (numeral-within (suc n) x)
-    by-case before true e = rw (numeral-within, e) (one-digit x (ltb-true x 10 e))
-    by-case before false e = rw (numeral-within, e) (digit-more x (numeral-within n (x / 10)) (before (omega (arith, ltb-false x 10 e, div-add-mod x 10))))
-
-numeral-stands : (x : ℕ) → Stands-for x (numeral x)
-unfolding numeral
-numeral-stands x = within-stands (suc x) x (omega arith)
 
 -- a word's numeral is read as the word
 numeral-word : (x : ℕ) → x < 2 ^ 32 → word-of (numeral x) ≡ some x

@@ -25,11 +25,11 @@ power-above zero = omega arith
 power-above (suc n) = omega (arith, power-above n, pow-suc 10 n)
 
 -- a number below 10, and one above
-within-one : (n x : ℕ) → x < 10 → numeral-within (suc n) x ≡ digit-sign x ∷ []
+pub within-one : (n x : ℕ) → x < 10 → numeral-within (suc n) x ≡ digit-sign x ∷ []
 unfolding numeral-within
 within-one n x h = rw (numeral-within, lt-ltb x 10 h)
 
-within-more : (n x : ℕ) → 10 ≤ x → numeral-within (suc n) x ≡ numeral-within n (x / 10) ++ (digit-sign (x % 10) ∷ [])
+pub within-more : (n x : ℕ) → 10 ≤ x → numeral-within (suc n) x ≡ numeral-within n (x / 10) ++ (digit-sign (x % 10) ∷ [])
 unfolding numeral-within
 within-more n x h = rw (numeral-within, le-ltb x 10 h)
 

@@ -6,10 +6,10 @@ use mathlib.Core.List.{List, [], _∷_, flatten}
 use Rattle.sas.specs.Task.{Fact, Task}
 use Rattle.sheet.specs.Decode.{table}
 use Rattle.sheet.specs.between.Encode.{first-edition, encode, sheet-of, parts, action-part, body, pairs-of}
-use Rattle.fields.specs.Numbers.{any-value}
-use Rattle.meaning.specs.Sections.{meaning, ranges, state, goal, actions-from, action-at, facts-at, fact-at}
-use Rattle.meaning.specs.Order.{ordered, ordered-action, put-in, insert}
-use Rattle.meaning.specs.Writable.{writable, variables-fit, actions-fit, action-fits, fit-in, known, has}
+use Rattle.fields.specs.between.Numbers.{any-value}
+use Rattle.meaning.specs.between.Sections.{meaning, ranges, state, goal, actions-from, action-at, facts-at, fact-at}
+use Rattle.meaning.specs.between.Order.{ordered, ordered-action, put-in, insert}
+use Rattle.meaning.specs.between.Writable.{writable, variables-fit, actions-fit, action-fits, fit-in, known, has}
 
 -- Two variables, of 2 and 3 values, both 0 at the start; the goal `wanted` at 1 and variable 0 at `value`; and two operators. The first has the prevail
 -- condition `held` at 0, takes variable 0 from 0 to 1, and costs `cost`; the second takes variable 1 from any value to 2, and costs 5.

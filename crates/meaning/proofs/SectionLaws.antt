@@ -12,8 +12,8 @@ use Rattle.refusal.proofs.PlaceLaws.{one-fewer, none-left}
 use Rattle.sas.specs.Task.{State}
 use Rattle.sheet.specs.Limits.{limits}
 use Rattle.sheet.specs.Decode.{table}
-use Rattle.meaning.specs.Sections.{number-at, metric, variables, range-of, ranges, state, cost-at, action-at}
-use Rattle.meaning.specs.Writable.{variables-fit}
+use Rattle.meaning.specs.between.Sections.{number-at, metric, variables, range-of, ranges, state, cost-at, action-at}
+use Rattle.meaning.specs.between.Writable.{variables-fit}
 use Rattle.meaning.specs.between.Gathered.{Small}
 use Rattle.meaning.proofs.GatherLaws.{and-first, and-second, ranges-length, ranges-at}
 

@@ -3,8 +3,8 @@
 use access::word;
 ghost use mathlib.Core.Path.{_≡_};
 ghost use Prim.Native.Nat.{_+_, _<_, _≤_, _^_};
-ghost use Rattle.meaning.specs.Sections.{number-at, variables as variables-of, goal-at, operators-at};
-ghost use Rattle.meaning.specs.Sections.{effects-at, cost-at, action-at};
+ghost use Rattle.meaning.specs.between.Sections.{number-at, variables as variables-of, goal-at, operators-at};
+ghost use Rattle.meaning.specs.between.Sections.{effects-at, cost-at, action-at};
 ghost use Rattle.meaning.specs.between.Gathered.{far, fact-lines, effect-lines, Near};
 
 // How many numbers a fact has, and how many an effect: its conditions, the variable, the old value and the new one.

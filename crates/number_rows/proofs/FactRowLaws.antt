@@ -10,8 +10,8 @@ use lib.Seq.{sets}
 use lib.Dec.{eqb}
 use borrow.Author.Tests.{ne-eqb}
 use Rattle.refusal.specs.Place.{when, or-else}
-use Rattle.fields.specs.Numbers.{any-value}
-use Rattle.fields.specs.Fields.{is-number, plain, all-plain}
+use Rattle.fields.specs.between.Numbers.{any-value}
+use Rattle.fields.specs.between.Fields.{is-number, plain, all-plain}
 use Rattle.fields.specs.declared.word.Word.{Word}
 use Rattle.fields.specs.declared.word.Behind.the-variants.{Space, LineEnd}
 use Rattle.fields.specs.between.Reading.{Reads-word, Lacks-numbers}
@@ -19,7 +19,7 @@ use Rattle.fields.proofs.LineLaws.{fails-either}
 use Rattle.fields.proofs.NumberLaws.{numbers-next, numbers-last, no-numbers-next, no-numbers-ended, no-numbers-on, word-ahead, word-inside}
 use Rattle.fields.proofs.NumberLaws.{number-kind, sign-kind, number-plain, space-is-there, line-end-is-there}
 use Rattle.form.specs.declared.reader.Reader.{Reader}
-use Rattle.form.specs.Form.{Fact, PassedFact, numbers, numbers-fit, row-keeps, row-bars, after-row}
+use Rattle.form.specs.between.Form.{Fact, PassedFact, numbers, numbers-fit, row-keeps, row-bars, after-row}
 use Rattle.form.specs.between.Reading.{barred-at, Within, Reads, Reads-row, after-first, Room}
 use Rattle.number_rows.specs.between.Rows.{fact-row}
 use Rattle.form.proofs.StopLaws.{first-or-none, stopped-reader, past-reader}

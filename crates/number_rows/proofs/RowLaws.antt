@@ -11,15 +11,15 @@ use lib.Seq.{sets, sets-eq, length-take-le, take-at, take-append-add, getD-appen
 use lib.Dec.{eqb, ltb}
 use borrow.Author.Tests.{ne-eqb, lt-ltb, le-ltb}
 use Rattle.refusal.specs.Place.{when, or-else}
-use Rattle.fields.specs.Numbers.{any-value}
-use Rattle.fields.specs.Fields.{is-number, word-reads, all-plain}
+use Rattle.fields.specs.between.Numbers.{any-value}
+use Rattle.fields.specs.between.Fields.{is-number, word-reads, all-plain}
 use Rattle.fields.specs.declared.word.Word.{Word}
 use Rattle.fields.specs.declared.word.Behind.the-variants.{LineEnd}
 use Rattle.fields.specs.between.Reading.{Reads-word, Has-numbers, Lacks-numbers}
 use Rattle.fields.proofs.LineLaws.{fails-either}
 use Rattle.fields.proofs.NumberLaws.{numbers-last, no-numbers-last, no-numbers-on, word-ahead, word-inside, any-kind, no-other-kind, number-kind, sign-kind, number-plain, line-end-is-there}
 use Rattle.form.specs.declared.reader.Reader.{Reader}
-use Rattle.form.specs.Form.{Row, Metric, Layer, Value, Count, Axioms, numbers, numbers-fit, fits, further, after-row, bars, row-bars, kept, row-keeps, first-number}
+use Rattle.form.specs.between.Form.{Row, Metric, Layer, Value, Count, Axioms, numbers, numbers-fit, fits, further, after-row, bars, row-bars, kept, row-keeps, first-number}
 use Rattle.form.specs.between.Reading.{barred-at, going-on, Within, Reads, after-first, Reads-row, Room}
 use Rattle.number_rows.specs.between.Rows.{Plain-row}
 use Rattle.form.proofs.GoingLaws.{going-broken, going-next}

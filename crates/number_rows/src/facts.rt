@@ -6,7 +6,7 @@ use form::reader::Reader;
 use form::reader::kept_count;
 ghost use mathlib.Core.Path.{_≡_};
 ghost use mathlib.Core.List.{[], _∷_};
-ghost use Rattle.form.specs.Form.{numbers, times};
+ghost use Rattle.form.specs.between.Form.{numbers, times};
 ghost use Rattle.form.specs.between.Reading.{Within, Room, Reads};
 ghost use Rattle.number_rows.specs.between.Rows.{fact-row};
 

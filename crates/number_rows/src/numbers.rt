@@ -9,7 +9,7 @@ use form::reader::Reader;
 use form::reader::kept_count;
 ghost use mathlib.Core.List.{List, [], _∷_};
 ghost use Prim.Native.Nat.{ℕ};
-ghost use Rattle.form.specs.Form.{Row, Metric, Layer, Value, Count, Axioms, numbers, times};
+ghost use Rattle.form.specs.between.Form.{Row, Metric, Layer, Value, Count, Axioms, numbers, times};
 ghost use Rattle.form.specs.between.Reading.{Within, Room, Reads, Reads-row};
 ghost use Rattle.number_rows.specs.between.Rows.{Plain-row};
 

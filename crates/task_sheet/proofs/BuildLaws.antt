@@ -14,9 +14,9 @@ use Rattle.sheet.specs.Limits.{limits}
 use Rattle.sheet.specs.between.Encode.{first-edition, parts, encode}
 use Rattle.task_sheet.specs.declared.build.Built.{Built}
 use Rattle.task_sheet.specs.declared.action.Written.{Written}
-use Rattle.meaning.specs.Sections.{number-at, variables, ranges, state, operators-at, meaning}
-use Rattle.meaning.specs.Order.{ordered-action, ordered}
-use Rattle.meaning.specs.Writable.{variables-fit, group-fits, actions-fit, writable}
+use Rattle.meaning.specs.between.Sections.{number-at, variables, ranges, state, operators-at, meaning}
+use Rattle.meaning.specs.between.Order.{ordered-action, ordered}
+use Rattle.meaning.specs.between.Writable.{variables-fit, group-fits, actions-fit, writable}
 use Rattle.sheet_writer.specs.between.Laid.{first-word, laid}
 use Rattle.task_sheet.specs.between.Parts.{facts-fit, Lays}
 use Rattle.task_sheet.specs.between.Built.{Builds}

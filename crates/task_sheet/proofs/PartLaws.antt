@@ -16,9 +16,9 @@ use Rattle.access.proofs.StoreLaws.{stores-joined}
 use Rattle.meaning.specs.declared.numbers.Lines.{Lines}
 use Rattle.meaning.specs.declared.group.Gathered.{Gathered}
 use Rattle.task_sheet.specs.declared.action.Written.{Written}
-use Rattle.meaning.specs.Sections.{ranges, goal-at, goal, prevail, old-values, new-values, action-at}
-use Rattle.meaning.specs.Order.{put-in, ordered-action}
-use Rattle.meaning.specs.Writable.{fit-in, group-fits, action-fits}
+use Rattle.meaning.specs.between.Sections.{ranges, goal-at, goal, prevail, old-values, new-values, action-at}
+use Rattle.meaning.specs.between.Order.{put-in, ordered-action}
+use Rattle.meaning.specs.between.Writable.{fit-in, group-fits, action-fits}
 use Rattle.sheet_writer.specs.between.Held.{Holds, Writes-held}
 use Rattle.meaning.specs.between.Gathered.{fact-lines, effect-lines, line-facts, Gathers}
 use Rattle.sheet_writer.specs.between.Laid.{part-most}

@@ -15,9 +15,9 @@ use Rattle.sheet.specs.Decode.{table}
 use Rattle.sheet.specs.between.Encode.{fact-words, first-edition, action-part, parts}
 use Rattle.sheet.proofs.TableLaws.{table-length}
 use Rattle.task_sheet.specs.declared.action.Written.{Written}
-use Rattle.meaning.specs.Sections.{number-at, variables, range-of, ranges, state, goal, operators-at, operator-end, action-at, actions-from, meaning}
-use Rattle.meaning.specs.Order.{in-order, ordered-action, ordered}
-use Rattle.meaning.specs.Writable.{action-fits, actions-fit}
+use Rattle.meaning.specs.between.Sections.{number-at, variables, range-of, ranges, state, goal, operators-at, operator-end, action-at, actions-from, meaning}
+use Rattle.meaning.specs.between.Order.{in-order, ordered-action, ordered}
+use Rattle.meaning.specs.between.Writable.{action-fits, actions-fit}
 use Rattle.sheet_writer.specs.between.Laid.{first-word, part-most}
 use Rattle.task_sheet.specs.between.Parts.{Writes, Writes-group, action-parts, facts-fit, Lays}
 use Rattle.meaning.proofs.GatherLaws.{ranges-length}

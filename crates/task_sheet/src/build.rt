@@ -9,8 +9,8 @@ use sheet::limits::Sheet;
 use sheet_writer::layout::write_header;
 ghost use mathlib.Core.Path.{_≡_};
 ghost use mathlib.Core.Bool.{false};
-ghost use Rattle.meaning.specs.Sections.{ranges, state};
-ghost use Rattle.meaning.specs.Writable.{variables-fit};
+ghost use Rattle.meaning.specs.between.Sections.{ranges, state};
+ghost use Rattle.meaning.specs.between.Writable.{variables-fit};
 ghost use Rattle.task_sheet.specs.between.Built.{Builds};
 
 // Whether a sheet can say the task, and how many words it has.

@@ -10,8 +10,8 @@ use lib.Dec.{eqb, ltb}
 use borrow.Author.Tests.{ne-eqb, eq-eqb, eqb-true, eqb-false}
 use Rattle.refusal.specs.Place.{when, or-else}
 use Rattle.access.proofs.StoreLaws.{stores-joined}
-use Rattle.fields.specs.Numbers.{any-value}
-use Rattle.fields.specs.Fields.{is-number, word-reads, plain, all-plain, plain-but-old, line-reads, line-numbers}
+use Rattle.fields.specs.between.Numbers.{any-value}
+use Rattle.fields.specs.between.Fields.{is-number, word-reads, plain, all-plain, plain-but-old, line-reads, line-numbers}
 use Rattle.fields.specs.declared.word.Word.{Word}
 use Rattle.fields.specs.declared.word.Behind.the-variants.{Space, LineEnd}
 use Rattle.fields.specs.between.Reading.{Reads-word, Has-numbers, Lacks-numbers}
@@ -20,7 +20,7 @@ use Rattle.fields.proofs.NumberLaws.{numbers-next, numbers-last, no-numbers-nex
 use Rattle.fields.proofs.NumberLaws.{any-kind, no-other-kind, number-kind, sign-kind, number-plain, space-is-there, line-end-is-there}
 use Rattle.form.specs.declared.reader.Reader.{Reader}
 use Rattle.text_effects.specs.declared.effects.Run.{Run}
-use Rattle.form.specs.Form.{Effect, Head, numbers, numbers-fit}
+use Rattle.form.specs.between.Form.{Effect, Head, numbers, numbers-fit}
 use Rattle.form.specs.between.Reading.{barred-at, Within, Reads, Room}
 use Rattle.text_effects.specs.between.Runs.{Has-run, Asks-run, Reads-run, Has-change, Reads-change}
 use Rattle.form.proofs.StopLaws.{first-or-none, stopped-reader, past-reader}

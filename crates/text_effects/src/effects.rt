@@ -8,7 +8,7 @@ ghost use mathlib.Core.Path.{_≡_};
 ghost use mathlib.Core.List.{[], _∷_};
 ghost use Prim.Native.Nat.{_≤_, _<_, _^_};
 ghost use lib.ListN.{length};
-ghost use Rattle.form.specs.Form.{Effect, Head, numbers, times};
+ghost use Rattle.form.specs.between.Form.{Effect, Head, numbers, times};
 ghost use Rattle.form.specs.between.Reading.{Within, Room, Reads};
 ghost use Rattle.text_effects.specs.between.Runs.{Reads-run, Reads-change};
 

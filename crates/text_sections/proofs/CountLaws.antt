@@ -5,8 +5,8 @@ use mathlib.Core.Bool.{Bool, true, false}
 use mathlib.Core.List.{List, [], _∷_}
 use Rattle.text_sections.specs.declared.sections.Block.the-variants as block
 use Rattle.form.specs.declared.reader.Reader.{Reader}
-use Rattle.form.specs.Form.{Row, Value, Count, Counted, Variables, Values, Groups, GroupFacts, Facts, Operators, Effects, Axioms, Conditions}
-use Rattle.form.specs.Form.{name, numbers, Effect, numbers-fit, row-keeps, row-bars, times, axiom-lines, after-variables, after-count}
+use Rattle.form.specs.between.Form.{Row, Value, Count, Counted, Variables, Values, Groups, GroupFacts, Facts, Operators, Effects, Axioms, Conditions}
+use Rattle.form.specs.between.Form.{name, numbers, Effect, numbers-fit, row-keeps, row-bars, times, axiom-lines, after-variables, after-count}
 use Rattle.form.specs.between.Reading.{Within, Reads-row}
 use Rattle.number_rows.specs.between.Rows.{Plain-row}
 use Rattle.number_rows.proofs.RowLaws.{plain-value}

@@ -10,9 +10,9 @@ use lib.Seq.{drop-cons}
 use borrow.Author.Tests.{lt-ltb, le-ltb}
 use Rattle.ascii.specs.Bytes.{ends-line, split}
 use Rattle.ascii.proofs.SplitLaws.{split-at, split-in}
-use Rattle.fields.specs.Fields.{lines-of}
+use Rattle.fields.specs.between.Fields.{lines-of}
 use Rattle.form.specs.declared.reader.Reader.{Reader}
-use Rattle.form.specs.Form.{text-lines, stop, walk, whole, nothing-left, walked, unsupported-line, numbers-of, first-barred, kept-of}
+use Rattle.form.specs.between.Form.{text-lines, stop, walk, whole, nothing-left, walked, unsupported-line, numbers-of, first-barred, kept-of}
 use Rattle.form.specs.between.Reading.{outcome, barred-at, going-on, Within, Reads}
 use Rattle.text_sections.specs.between.Outcome.{text-outcome, found-in}
 use Rattle.form.specs.between.Reading.Outcome.{Broken, Whole}

@@ -13,9 +13,9 @@ use number_rows::numbers::read_values;
 use text_effects::effects::read_effects;
 use text_effects::effects::read_head;
 ghost use mathlib.Core.List.{[], _∷_};
-ghost use Rattle.form.specs.Form.{Counted, Values, Effects, Axioms, counts, times, variable-lines, group-lines};
-ghost use Rattle.form.specs.Form.{operator-lines, axiom-lines, state-lines, goal-lines, front-lines};
-ghost use Rattle.form.specs.Form.{after-variables};
+ghost use Rattle.form.specs.between.Form.{Counted, Values, Effects, Axioms, counts, times, variable-lines, group-lines};
+ghost use Rattle.form.specs.between.Form.{operator-lines, axiom-lines, state-lines, goal-lines, front-lines};
+ghost use Rattle.form.specs.between.Form.{after-variables};
 ghost use Rattle.form.specs.between.Reading.{Within, Room, Reads};
 ghost use Rattle.text_sections.specs.between.Sections.{Counts-facts, Counts-blocks, block-lines};
 

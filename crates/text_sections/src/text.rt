@@ -6,7 +6,7 @@ use form::reader::Reader;
 use number_rows::numbers::read_plain;
 ghost use mathlib.Core.Path.{_≡_};
 ghost use lib.ListN.{length};
-ghost use Rattle.form.specs.Form.{text-lines};
+ghost use Rattle.form.specs.between.Form.{text-lines};
 ghost use Rattle.form.specs.between.Reading.{Within, Room, Reads};
 ghost use Rattle.text_sections.specs.between.Outcome.{outcome-of, found-in};
 

@@ -16,7 +16,7 @@ use Rattle.refusal.specs.Check.{answer}
 use Rattle.refusal.proofs.CheckLaws.{none-fires, answer-fires}
 use Rattle.refusal.proofs.PlaceLaws.{when-nowhere}
 use Rattle.sheet.specs.Limits.{limits}
-use Rattle.form.specs.Form.{most-bytes}
+use Rattle.planner.specs.Text.{most-bytes}
 use Rattle.records.specs.RecordForm.{word-bytes}
 use Rattle.records.proofs.BytesTheorem.{all-bytes-length}
 use Rattle.translation.specs.Translation.{text-sheet, task-checks, translation-checks}

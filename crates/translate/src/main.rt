@@ -14,7 +14,7 @@ use sheet::limits::Sheet;
 ghost use mathlib.Core.Path.{_≡_};
 ghost use Prim.Native.Nat.{_+_};
 ghost use lib.ListN.{length};
-ghost use Rattle.form.specs.Form.{most-bytes};
+ghost use Rattle.planner.specs.Text.{most-bytes};
 
 // Room for one byte more than a text may have, to see that it is no longer. The array is so long that only its length
 // is told to `main`.

@@ -15,52 +15,47 @@ use Rattle.refusal.specs.declared.Refusal.the-variants as refusal
 use Rattle.refusal.specs.Check.{answer}
 use Rattle.sas.specs.Task.{Task}
 use Rattle.sheet.specs.Limits.{limits}
-use Rattle.sheet.specs.Decode.{task}
-use Rattle.sheet.specs.Causes.{Accepted}
-use Rattle.sheet.specs.between.Encode.{first-edition, encode, Encodable}
-use Rattle.sheet.proofs.EncodeTheorem.{encode-decodes, encode-accepted}
-use Rattle.sheet.proofs.TableLaws.{table-length}
-use Rattle.form.specs.Form.{most-bytes, walked, whole, broken-line, unsupported-line, numbers-of}
+use Rattle.sheet.specs.between.Encode.{first-edition, encode}
+use Rattle.planner.specs.Text.{most-bytes}
+use Rattle.form.specs.between.Form.{walked, whole, broken-line, unsupported-line, numbers-of}
 use Rattle.form.specs.between.Reading.{Outcome, barred-at}
 use Rattle.form.specs.between.Reading.Outcome.{Broken, Whole}
 use Rattle.text_sections.specs.between.Outcome.{text-outcome, found-in}
 use Rattle.task_sheet.specs.declared.build.Built.{Built}
-use Rattle.meaning.specs.Sections.{variables, range-of, starting, ranges, state, meaning}
-use Rattle.meaning.specs.Order.{ordered}
-use Rattle.meaning.specs.Writable.{writable}
+use Rattle.meaning.specs.between.Sections.{meaning}
+use Rattle.meaning.specs.between.Order.{ordered}
+use Rattle.meaning.specs.between.Writable.{writable}
 use Rattle.task_sheet.specs.between.Built.{Builds}
 use Rattle.sheet_writer.proofs.SheetLaws.{front-stored}
-use Rattle.meaning.proofs.OrderTheorem.{writable-fits, writable-encodable}
+use Rattle.meaning.proofs.OrderTheorem.{writable-fits}
 use Rattle.translation.specs.declared.translate.Translated.{Translated}
 use Rattle.translation.specs.declared.translate.Translated.the-variants.{Refused, Written}
-use Rattle.translation.specs.Translation.{task-checks, translation-checks, In-order, Writes-sheet, Leaves, Translates}
+use Rattle.translation.specs.between.Checks.{task-checks, translation-checks, Writes-sheet, Leaves-task, Answers-checks}
 use Rattle.translation.specs.between.Written.{Writes-task}
-use Rattle.translation.proofs.OrderedLaws.{task-in-order}
 
 -- the checks of the task
 module _ (x : List ℕ) (room : ℕ) where
   abbrev words-needed : ℕ
   words-needed = length (encode first-edition (ordered (meaning x)))
 
-  told-unwritable : writable (meaning x) ≡ false → some (record { number = 15; place = 0 }) ≡ answer (task-checks x room)
+  pub told-unwritable : writable (meaning x) ≡ false → some (record { number = 15; place = 0 }) ≡ answer (task-checks x room)
   unfolding answer task-checks
   told-unwritable unfit = rw unfit
 
-  told-short : writable (meaning x) ≡ true → room < words-needed → some (record { number = 10; place = words-needed }) ≡ answer (task-checks x room)
+  pub told-short : writable (meaning x) ≡ true → room < words-needed → some (record { number = 10; place = words-needed }) ≡ answer (task-checks x room)
   unfolding answer task-checks
   told-short fits short = rw (fits, lt-ltb room words-needed short)
 
-  told-none : writable (meaning x) ≡ true → words-needed ≤ room → none ≡ answer (task-checks x room)
+  pub told-none : writable (meaning x) ≡ true → words-needed ≤ room → none ≡ answer (task-checks x room)
   unfolding answer task-checks
   told-none fits long = rw (fits, le-ltb room words-needed long)
 
 -- the sheet of a task that can be written, at the front of lent words
-module _ (T : Task) (complete : length (T .initial) ≡ length (T .domains)) (fits : writable T ≡ true) where
+module _ (T : Task) where
   sheet-written : (before after : List ℕ) (n : ℕ) → n ≡ length (encode first-edition (ordered T)) → n ≤ length before
       → after ≡ sets before 0 (encode first-edition (ordered T)) → Writes-sheet T before n after
   sheet-written before after n counted room stored =
       let s : List ℕ = encode first-edition (ordered T) in
-      let can : Encodable first-edition (ordered T) = writable-encodable T complete fits in
       let long : length s ≤ length before = rw counted at room in
       let front : take n after ≡ s = ap (take n) stored ∙ ap (λ k. take k (sets before 0 s)) counted ∙ front-stored s before long in
       let same : 0 + length s ≡ n = omega arith in
@@ -70,8 +65,6 @@ module _ (T : Task) (complete : length (T .initial) ≡ length (T .domains)) (fi
         room = room;
         sheet = front;
         counted = counted;
-        accepted = subst Accepted (sym front) (encode-accepted (ordered T) can);
-        means = subst (In-order T) (sym (ap task front ∙ encode-decodes (ordered T) can)) (task-in-order T fits);
         rest = behind;
       }
 
@@ -106,21 +99,21 @@ module _ (text : List ℕ) where
   outcome-broken e = rw e
 
   module _ (k : ℕ) where
-    told-long : ltb most-bytes (length text) ≡ true → some (record { number = 13; place = 0 }) ≡ answer (translation-checks text k)
+    pub told-long : ltb most-bytes (length text) ≡ true → some (record { number = 13; place = 0 }) ≡ answer (translation-checks text k)
     unfolding answer translation-checks
     told-long e = rw e
 
-    told-form : ltb most-bytes (length text) ≡ false → whole (walked text) ≡ false
+    pub told-form : ltb most-bytes (length text) ≡ false → whole (walked text) ≡ false
         → some (record { number = 13; place = length (walked text .read) + 1 }) ≡ answer (translation-checks text k)
     unfolding answer translation-checks broken-line
     told-form short e = rw (short, e)
 
-    told-barred : (n : ℕ) → ltb most-bytes (length text) ≡ false → whole (walked text) ≡ true → unsupported-line text ≡ At n
+    pub told-barred : (n : ℕ) → ltb most-bytes (length text) ≡ false → whole (walked text) ≡ true → unsupported-line text ≡ At n
         → some (record { number = 14; place = n }) ≡ answer (translation-checks text k)
     unfolding answer translation-checks broken-line
     told-barred n short e bars = rw (short, e, bars)
 
-    told-passed : ltb most-bytes (length text) ≡ false → whole (walked text) ≡ true → unsupported-line text ≡ Nowhere
+    pub told-passed : ltb most-bytes (length text) ≡ false → whole (walked text) ≡ true → unsupported-line text ≡ Nowhere
         → answer (task-checks (numbers-of text) k) ≡ answer (translation-checks text k)
     unfolding answer translation-checks broken-line
     told-passed short e bars = rw (short, e, bars)
@@ -183,11 +176,6 @@ module _ (room : ℕ) (half : most-bytes ≡ 2 * room) (text : List ℕ) where
     pub told-rest : (k : ℕ) → p ≡ Nowhere → answer (task-checks (numbers-of text) k) ≡ answer (translation-checks text k)
     told-rest k e = told-passed text k not-long has-form (sym read-barred ∙ e)
 
--- the task of a text has as many starting values as variables
-complete : (x : List ℕ) → length (meaning x .initial) ≡ length (meaning x .domains)
-unfolding meaning ranges state
-complete x = table-length (starting x) 0 (variables x) ∙ sym (table-length (range-of x) 0 (variables x))
-
 -- the ways to a return of the function that writes the sheet
 module _ {x sheet sheet′ : List ℕ} {b : Built} (builds : Builds x sheet sheet′ b) (before : List ℕ) where
   pub writes-unfit : b .fits ≡ false → Writes-task x before (Refused refusal.Unwritable) before
@@ -210,24 +198,24 @@ module _ {x sheet sheet′ : List ℕ} {b : Built} (builds : Builds x sheet shee
         let words : take (b .words) sheet′ ≡ encode first-edition (ordered (meaning x)) = builds .written fits small in
         record {
           answers = told-none x (length before) can (rw needed at fit);
-          leaves = sheet-written (meaning x) (complete x) can before after (b .words) needed fit (stored ∙ ap (sets before 0) words);
+          leaves = sheet-written (meaning x) before after (b .words) needed fit (stored ∙ ap (sets before 0) words);
         }
 
 -- the ways to a return of the service
 module _ (room : ℕ) (half : most-bytes ≡ 2 * room) (text before : List ℕ) where
-  pub translates-broken : (n : ℕ) → Broken n ≡ found-in room text → Translates text before (Refused (refusal.Form n)) before
+  pub translates-broken : (n : ℕ) → Broken n ≡ found-in room text → Answers-checks text before (Refused (refusal.Form n)) before
   translates-broken n found = record { answers = told-broken room half text n (length before) found; leaves = refl }
 
   module _ (xs : List ℕ) (barred : ℕ) (found : Whole xs (barred-at barred) ≡ found-in room text) where
-    pub translates-barred : (barred ≡ 0 → ⊥) → Translates text before (Refused (refusal.Unsupported barred)) before
+    pub translates-barred : (barred ≡ 0 → ⊥) → Answers-checks text before (Refused (refusal.Unsupported barred)) before
     translates-barred some-line =
         record { answers = told-unsupported room half text _ _ found barred (length before) (rw (ne-eqb barred 0 some-line)); leaves = refl }
 
-    pub translates-task : barred ≡ 0 → (r : Translated) (after : List ℕ) → Writes-task xs before r after → Translates text before r after
+    pub translates-task : barred ≡ 0 → (r : Translated) (after : List ℕ) → Writes-task xs before r after → Answers-checks text before r after
     translates-task no-line r after writes =
         let read : xs ≡ numbers-of text = read-numbers room half text _ _ found in
         let rest = told-rest room half text _ _ found (length before) (rw (eq-eqb barred 0 no-line)) in
         record {
           answers = writes .answers ∙ ap (λ y. answer (task-checks y (length before))) read ∙ rest;
-          leaves = subst (λ y. Leaves (meaning y) before r after) read (writes .leaves);
+          leaves = subst (λ y. Leaves-task (meaning y) before r after) read (writes .leaves);
         }

@@ -3,7 +3,7 @@
 use Prim.Native.Nat.{ℕ, _<_}
 use mathlib.Core.Path.{_≡_, refl}
 use mathlib.Core.Option.{none, some}
-use mathlib.Core.List.{List, [], _∷_, _++_, map, flatten}
+use mathlib.Core.List.{List, [], _∷_, _++_, flatten}
 use lib.ListN.{length}
 use borrow.Author.Tests.{lt-ltb}
 use Rattle.ascii.specs.Bytes.{ascii, split, all-digits, decimal-from}
@@ -11,13 +11,14 @@ use Rattle.refusal.specs.Refusal.{Told}
 use Rattle.refusal.specs.Check.{answer}
 use Rattle.sheet.specs.Decode.{table}
 use Rattle.sheet.specs.between.Encode.{action-part, parts, pairs-of, body, sheet-of, encode}
-use Rattle.fields.specs.Fields.{same, is-number, number, word-reads, word-number, all-read, all-plain, plain-but-old}
-use Rattle.form.specs.Form.{numbers-fit, fits, times, after-count, further, walk, nothing-left, whole, walked, broken-line, bars, first-barred}
-use Rattle.form.specs.Form.{most-bytes, unsupported-line, kept, kept-of, numbers-of}
-use Rattle.meaning.specs.Sections.{fact-at, facts-at, ranges, state, goal, action-at, actions-from, meaning}
-use Rattle.meaning.specs.Order.{insert, put-in, ordered-action, ordered}
-use Rattle.meaning.specs.Writable.{known, has, fit-in, variables-fit, action-fits, actions-fit, writable}
-use Rattle.translation.specs.Translation.{text-sheet, task-checks, translation-checks}
+use Rattle.fields.specs.between.Fields.{same, is-number, number, word-reads, word-number, all-read, all-plain, plain-but-old}
+use Rattle.form.specs.between.Form.{numbers-fit, fits, times, after-count, further, walk, nothing-left, whole, walked, broken-line, bars, first-barred}
+use Rattle.planner.specs.Text.{most-bytes}
+use Rattle.form.specs.between.Form.{unsupported-line, kept, kept-of, numbers-of}
+use Rattle.meaning.specs.between.Sections.{fact-at, facts-at, ranges, state, goal, action-at, actions-from, meaning}
+use Rattle.meaning.specs.between.Order.{insert, put-in, ordered-action, ordered}
+use Rattle.meaning.specs.between.Writable.{known, has, fit-in, variables-fit, action-fits, actions-fit, writable}
+use Rattle.translation.specs.between.Checks.{text-sheet, task-checks, translation-checks}
 
 -- a lock with one gate, up to the line of its one effect, that line, and the rest
 abbrev before : List ℕ
@@ -34,7 +35,7 @@ refused n place = record { number = n; place = place }
 
 pub good-text : (text-sheet (with-effect (ascii "0 0 0 1")) ≡ 1 ∷ 1 ∷ 1 ∷ 19 ∷ 12 ∷ 1 ∷ 13 ∷ 1 ∷ 14 ∷ 1 ∷ 15 ∷ 4 ∷ 2 ∷ 0 ∷ 1 ∷ 5 ∷ 1 ∷ 0 ∷ 1 ∷ [])
     × (answer (translation-checks (with-effect (ascii "0 0 0 1")) 19) ≡ none)
-unfolding answer translation-checks task-checks split all-digits decimal-from table action-part parts pairs-of body sheet-of encode same is-number number word-reads word-number all-read all-plain plain-but-old numbers-fit fits times after-count further walk nothing-left whole walked broken-line bars first-barred unsupported-line kept kept-of numbers-of fact-at facts-at ranges state goal action-at actions-from meaning insert put-in ordered-action ordered known has fit-in variables-fit action-fits actions-fit writable map flatten
+unfolding answer translation-checks task-checks split all-digits decimal-from table action-part parts pairs-of body sheet-of encode same is-number number word-reads word-number all-read all-plain plain-but-old numbers-fit fits times after-count further walk nothing-left whole walked broken-line bars first-barred unsupported-line kept kept-of numbers-of fact-at facts-at ranges state goal action-at actions-from meaning insert put-in ordered-action ordered known has fit-in variables-fit action-fits actions-fit writable flatten
 good-text = (refl, refl)
 
 -- by the line of the effect, in a buffer of so many words: a needless zero, a sign where none stands, an old value that may be −1, a condition, a value and a
@@ -46,14 +47,14 @@ pub texts-refused : (answer (translation-checks (with-effect (ascii "0 0 00 1"))
     × (answer (translation-checks (with-effect (ascii "0 0 0 2")) 19) ≡ some (refused 15 0))
     × (answer (translation-checks (with-effect (ascii "0 1 -1 0")) 19) ≡ some (refused 15 0))
     × (answer (translation-checks (with-effect (ascii "0 0 0 1")) 18) ≡ some (refused 10 19))
-unfolding answer translation-checks task-checks split all-digits decimal-from table action-part parts pairs-of body sheet-of encode same is-number number word-reads word-number all-read all-plain plain-but-old numbers-fit fits times after-count further walk nothing-left whole walked broken-line bars first-barred unsupported-line kept kept-of numbers-of fact-at facts-at ranges state goal action-at actions-from meaning insert put-in ordered-action ordered known has fit-in variables-fit action-fits actions-fit writable map flatten
+unfolding answer translation-checks task-checks split all-digits decimal-from table action-part parts pairs-of body sheet-of encode same is-number number word-reads word-number all-read all-plain plain-but-old numbers-fit fits times after-count further walk nothing-left whole walked broken-line bars first-barred unsupported-line kept kept-of numbers-of fact-at facts-at ranges state goal action-at actions-from meaning insert put-in ordered-action ordered known has fit-in variables-fit action-fits actions-fit writable flatten
 texts-refused = (refl, refl, refl, refl, refl, refl, refl)
 
 -- a line that is missing, and one too many
 pub texts-cut : (answer (translation-checks before 19) ≡ some (refused 13 32))
     × (answer (translation-checks (with-effect (ascii "0 0 0 1\n0 0 0 1")) 19) ≡ some (refused 13 33))
     × (answer (translation-checks [] 19) ≡ some (refused 13 1))
-unfolding answer translation-checks task-checks split all-digits decimal-from table action-part parts pairs-of body sheet-of encode same is-number number word-reads word-number all-read all-plain plain-but-old numbers-fit fits times after-count further walk nothing-left whole walked broken-line bars first-barred unsupported-line kept kept-of numbers-of fact-at facts-at ranges state goal action-at actions-from meaning insert put-in ordered-action ordered known has fit-in variables-fit action-fits actions-fit writable map flatten
+unfolding answer translation-checks task-checks split all-digits decimal-from table action-part parts pairs-of body sheet-of encode same is-number number word-reads word-number all-read all-plain plain-but-old numbers-fit fits times after-count further walk nothing-left whole walked broken-line bars first-barred unsupported-line kept kept-of numbers-of fact-at facts-at ranges state goal action-at actions-from meaning insert put-in ordered-action ordered known has fit-in variables-fit action-fits actions-fit writable flatten
 texts-cut = (refl, refl, refl)
 
 -- a text of more than 65,536 bytes

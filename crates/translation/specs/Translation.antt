@@ -1,95 +1,81 @@
--- A planner's text read into a sheet, as a service (document 02, C-11). Assumes nothing.
-use Prim.Native.Nat.{ℕ, _≤_}
+-- What is answered to a planner's text, read into a sheet (document 02, C-11). Which of these cases it is, and which
+-- text, line or sheet they speak of, is told by the text alone (`text-or-break`, `prints-once`, `breaks-once`,
+-- `no-text-breaks`, `sheet-once`). Assumes nothing.
+use Prim.Native.Nat.{ℕ, _+_, _≤_, _<_}
 use mathlib.Core.Path.{_≡_}
-use mathlib.Core.Bool.{not}
+use mathlib.Core.Bool.{cond, _&&_}
 use mathlib.Core.Option.{Option, none, some}
-use mathlib.Core.List.{List, [], _∷_, List·Memᴰ}
-use lib.ListN.{length, take, drop}
-use lib.Dec.{ltb}
-use Rattle.refusal.specs.Place.{when}
+use mathlib.Core.List.{List, [], _∷_, _++_}
+use lib.ListN.{length, drop}
+use lib.Dec.{eqb}
+use Rattle.refusal.specs.declared.place.Place.the-variants.{Nowhere, At}
 use Rattle.refusal.specs.Refusal.{Told, told-refusal}
-use Rattle.refusal.specs.Check.{Check, answer}
 use Rattle.sas.specs.Task.{Fact, Assignment, Action, Task}
-use Rattle.sas.specs.between.WellFormed.{Rising}
 use Rattle.sheet.specs.Decode.{task}
 use Rattle.sheet.specs.Causes.{Accepted}
-use Rattle.sheet.specs.between.Encode.{first-edition, encode}
-use Rattle.form.specs.Form.{most-bytes, broken-line, unsupported-line, numbers-of}
-use Rattle.meaning.specs.Sections.{meaning}
-use Rattle.meaning.specs.Order.{ordered}
-use Rattle.meaning.specs.Writable.{writable}
+use Rattle.planner.specs.Text.{Text, most-bytes}
+use Rattle.planner.specs.Meant.{meant, unsayable}
+use Rattle.planner.specs.Broken.{Prints, Breaks}
 use Rattle.translation.specs.declared.translate.Translated.{Translated}
 use Rattle.translation.specs.declared.translate.Translated.the-variants.{Refused, Written}
 
--- the task that a text means, and the words of its sheet, each group of facts in rising order
-abbrev pub text-task : List ℕ → Task
-text-task text = meaning (numbers-of text)
+-- how often a fact stands among facts
+unfoldable pub copies : Fact → Assignment → ℕ
+copies f [] = 0
+copies f (g ∷ q) = cond (eqb (f .variable) (g .variable) && eqb (f .value) (g .value)) 1 0 + copies f q
 
-abbrev pub text-sheet : List ℕ → List ℕ
-text-sheet text = encode first-edition (ordered (text-task text))
+-- the same facts, in any order
+abbrev pub Same-facts : Assignment → Assignment → Type 0
+Same-facts fs gs = (f : Fact) → copies f fs ≡ copies f gs
 
--- 15: the sheet would break a limit or a rule of document 01; then 10: it is longer than the room for it
-unfoldable pub task-checks : List ℕ → ℕ → List Check
-task-checks x room =
-    record { number = 15; fires = when (not (writable (meaning x))) 0 }
-    ∷ record {
-      number = 10;
-      fires = when (ltb room (length (encode first-edition (ordered (meaning x))))) (length (encode first-edition (ordered (meaning x))));
-    }
-    ∷ []
+-- the same actions in the same order, but for the order of the facts in a group
+pub data Same-actions : List Action → List Action → Type 0 where
+  no-action : Same-actions [] []
+  action : {a b : Action} {p q : List Action} → Same-facts (a .precondition) (b .precondition)
+      → Same-facts (a .effect) (b .effect) → a .cost ≡ b .cost → Same-actions p q → Same-actions (a ∷ p) (b ∷ q)
 
--- the checks of a text, in the order in which they run: 13 for a longer text and for one that breaks the form, 14 for
--- what a sheet can't say, then those of the task
-unfoldable pub translation-checks : List ℕ → ℕ → List Check
-translation-checks text room =
-    record { number = 13; fires = when (ltb most-bytes (length text)) 0 }
-    ∷ record { number = 13; fires = broken-line text }
-    ∷ record { number = 14; fires = unsupported-line text }
-    ∷ task-checks (numbers-of text) room
+-- the same task, but for that order
+pub record Same-task (T U : Task) : Type 0 where
+  pub domains : T .domains ≡ U .domains
+  pub initial : T .initial ≡ U .initial
+  pub goal : Same-facts (T .goal) (U .goal)
+  pub actions : Same-actions (T .actions) (U .actions)
 
--- what is answered: a refusal, if it is one
+-- the sheet of a text: it is accepted, so that the facts of each of its groups rise, and means the text's task
+pub record Sheet-of (t : Text) (w : List ℕ) : Type 0 where
+  pub accepted : Accepted w
+  pub means : Same-task (meant t) (task w)
+
+-- what is answered to a text, with room for so many words: a refusal or none, and then its sheet
+pub record Told-of (t : Text) (room : ℕ) (refusal : Option Told) (sheet : List ℕ) : Type 0 where
+  -- 14: a line that no sheet can say
+  pub unsaid : (n : ℕ) → unsayable t ≡ At n → refusal ≡ some (record { number = 14; place = n })
+  -- 15: "the sheet would break a limit or a rule of document 01"
+  pub no-sheet : unsayable t ≡ Nowhere → ((w : List ℕ) → Sheet-of t w → ⊥) → refusal ≡ some (record { number = 15; place = 0 })
+  -- then 10: its sheet has more words than there is room for
+  pub no-room : unsayable t ≡ Nowhere → (w : List ℕ) → Sheet-of t w → room < length w
+      → refusal ≡ some (record { number = 10; place = length w })
+  pub answered : unsayable t ≡ Nowhere → (w : List ℕ) → Sheet-of t w → length w ≤ room → (refusal ≡ none) × (sheet ≡ w)
+
+-- what is answered to bytes
+pub record Told-of-bytes (bytes : List ℕ) (room : ℕ) (refusal : Option Told) (sheet : List ℕ) : Type 0 where
+  -- 13: more bytes than a text may have, or a line that breaks the form
+  pub long : most-bytes < length bytes → refusal ≡ some (record { number = 13; place = 0 })
+  pub breaks : length bytes ≤ most-bytes → (n : ℕ) → Breaks bytes n → refusal ≡ some (record { number = 13; place = n })
+  pub reads : length bytes ≤ most-bytes → (t : Text) → Prints t bytes → Told-of t room refusal sheet
+
+-- what the service answers: a refusal, if it is one
 abbrev pub told-translated : Translated → Option Told
 told-translated (Refused r) = some (told-refusal r)
 told-translated (Written n) = none
 
--- a group of facts put in order: the same facts, of variables that are known and rise
-pub record Put-in-order (ranges : List ℕ) (facts ordered-facts : Assignment) : Type 0 where
-  pub kept : (f : Fact) → List·Memᴰ f facts → List·Memᴰ f ordered-facts
-  pub no-other : (f : Fact) → List·Memᴰ f ordered-facts → List·Memᴰ f facts
-  pub as-many : length ordered-facts ≡ length facts
-  pub rises : Rising ranges 0 ordered-facts
+-- the lent words behind a refusal, and with a sheet at their front
+abbrev pub Leaves : List ℕ → List ℕ → Translated → List ℕ → Type 0
+Leaves sheet before (Refused r) after = after ≡ before
+Leaves sheet before (Written n) after = (n ≡ length sheet) × (after ≡ sheet ++ drop n before)
 
--- actions in the same order, each group of their facts put in order, at the same cost
-pub data Actions-in-order (ranges : List ℕ) : List Action → List Action → Type 0 where
-  no-action : Actions-in-order ranges [] []
-  action : {a b : Action} {p q : List Action} → Put-in-order ranges (a .precondition) (b .precondition)
-      → Put-in-order ranges (a .effect) (b .effect) → b .cost ≡ a .cost → Actions-in-order ranges p q
-      → Actions-in-order ranges (a ∷ p) (b ∷ q)
-
--- a task with each group of facts put in order
-pub record In-order (T U : Task) : Type 0 where
-  pub domains : U .domains ≡ T .domains
-  pub initial : U .initial ≡ T .initial
-  pub goal : Put-in-order (T .domains) (T .goal) (U .goal)
-  pub actions : Actions-in-order (T .domains) (T .actions) (U .actions)
-
--- n words written at the front of `before`: an accepted sheet that means the task with each group put in order, and
--- every word past it stays
-pub record Writes-sheet (T : Task) (before : List ℕ) (n : ℕ) (after : List ℕ) : Type 0 where
-  pub room : n ≤ length before
-  pub sheet : take n after ≡ encode first-edition (ordered T)
-  pub counted : n ≡ length (encode first-edition (ordered T))
-  pub accepted : Accepted (take n after)
-  pub means : In-order T (task (take n after))
-  pub rest : drop n after ≡ drop n before
-
--- the lent words after it: on a refusal no word changes
-abbrev pub Leaves : Task → List ℕ → Translated → List ℕ → Type 0
-Leaves T before (Refused r) after = after ≡ before
-Leaves T before (Written n) after = Writes-sheet T before n after
-
--- the service, for every text and every lent output: the first check that fires is answered and no word changes, or
--- none fires and the sheet is written
-pub record Translates (text before : List ℕ) (r : Translated) (after : List ℕ) : Type 0 where
-  pub answers : told-translated r ≡ answer (translation-checks text (length before))
-  pub leaves : Leaves (text-task text) before r after
+-- the service, for every text and every lent output
+pub record Translates (bytes before : List ℕ) (r : Translated) (after : List ℕ) : Type 0 where
+  pub sheet : List ℕ
+  pub told : Told-of-bytes bytes (length before) (told-translated r) sheet
+  pub leaves : Leaves sheet before r after

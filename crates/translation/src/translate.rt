@@ -10,8 +10,9 @@ use text_sections::text::read_text;
 ghost use mathlib.Core.Path.{_≡_};
 ghost use Prim.Native.Nat.{_*_};
 ghost use lib.ListN.{length};
-ghost use Rattle.form.specs.Form.{most-bytes};
+ghost use Rattle.planner.specs.Text.{most-bytes};
 ghost use Rattle.translation.specs.Translation.{Translates};
+ghost use Rattle.translation.specs.between.Checks.{Answers-checks};
 ghost use Rattle.translation.specs.between.Written.{Writes-task};
 
 // A refusal, or how many words the sheet has.
@@ -45,9 +46,9 @@ fn write_task(x: &[u32], out: &mut [u32]) -> Translated
     Translated::Refused(Refusal::Unwritable)
 }
 
-// Reads a planner's text into a sheet at the front of `out`.
-pub fn translate(text: &[u8], out: &mut [u32]) -> Translated
-    ensures { λ r. ⌜ Translates (now (text .entry)) (now (out .entry)) r (now (out .exit)) ⌝ }
+// Answers by the checks of a text, in the order in which they run.
+fn run_checks(text: &[u8], out: &mut [u32]) -> Translated
+    ensures { λ r. ⌜ Answers-checks (now (text .entry)) (now (out .entry)) r (now (out .exit)) ⌝ }
 {
     let mut tape = number_room();
     let read = read_text(text, &mut tape);
@@ -60,4 +61,12 @@ pub fn translate(text: &[u8], out: &mut [u32]) -> Translated
             write_task(front(&tape, count), out)
         }
     }
+}
+
+// Reads a planner's text into a sheet at the front of `out`.
+pub fn translate(text: &[u8], out: &mut [u32]) -> Translated
+    ensures checks { λ r. ⌜ Answers-checks (now (text .entry)) (now (out .entry)) r (now (out .exit)) ⌝ }
+    ensures answer { λ r. ⌜ Translates (now (text .entry)) (now (out .entry)) r (now (out .exit)) ⌝ }
+{
+    run_checks(text, out)
 }

@@ -7,8 +7,8 @@ use mathlib.Core.List.{List, [], _∷_}
 use lib.ListN.{length, drop}
 use lib.Dec.{eqb}
 use Rattle.ascii.specs.Bytes.{ends-line, ascii-zero, ascii-digit, runs, split, decimal-from}
-use Rattle.fields.specs.Numbers.{most-number}
-use Rattle.fields.specs.Fields.{ends-word, lines-of, number, word-number, line-reads, line-numbers}
+use Rattle.fields.specs.between.Numbers.{most-number}
+use Rattle.fields.specs.between.Fields.{ends-word, lines-of, number, word-number, line-reads, line-numbers}
 use Rattle.fields.specs.declared.word.Behind.{Behind}
 use Rattle.fields.specs.declared.word.Behind.the-variants.{Space, LineEnd, Neither}
 use Rattle.fields.specs.declared.word.Word.{Word}

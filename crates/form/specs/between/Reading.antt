@@ -10,7 +10,7 @@ use Rattle.refusal.specs.declared.place.Place.{Place}
 use Rattle.refusal.specs.declared.place.Place.the-variants.{Nowhere, At}
 use Rattle.refusal.specs.Place.{or-else}
 use Rattle.form.specs.declared.reader.Reader.{Reader}
-use Rattle.form.specs.Form.{Row, Due, numbers, after-row, Walk, walk-from, whole, first-barred, kept-of}
+use Rattle.form.specs.between.Form.{Row, Due, numbers, after-row, Walk, walk-from, whole, first-barred, kept-of}
 
 -- what reading a text finds: the first line that is not what it must be; or the numbers, and the first line that no
 -- sheet can say

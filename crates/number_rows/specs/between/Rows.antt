@@ -6,8 +6,8 @@ use mathlib.Core.Bool.{Bool, true, false, _&&_}
 use mathlib.Core.List.{List, [], _∷_}
 use lib.ListN.{length}
 use lib.Dec.{eqb}
-use Rattle.fields.specs.Fields.{all-plain}
-use Rattle.form.specs.Form.{Row, Fact, PassedFact, numbers-fit, after-row, row-keeps, row-bars}
+use Rattle.fields.specs.between.Fields.{all-plain}
+use Rattle.form.specs.between.Form.{Row, Fact, PassedFact, numbers-fit, after-row, row-keeps, row-bars}
 use Rattle.form.specs.between.Reading.{after-first}
 
 -- a line of one number that is kept or not, and that every sheet can say

@@ -7,9 +7,9 @@ use mathlib.Core.List.{List}
 use lib.ListN.{length, take}
 use Rattle.sheet.specs.between.Encode.{first-edition, encode}
 use Rattle.task_sheet.specs.declared.build.Built.{Built}
-use Rattle.meaning.specs.Sections.{meaning}
-use Rattle.meaning.specs.Order.{ordered}
-use Rattle.meaning.specs.Writable.{writable}
+use Rattle.meaning.specs.between.Sections.{meaning}
+use Rattle.meaning.specs.between.Order.{ordered}
+use Rattle.meaning.specs.between.Writable.{writable}
 
 -- the sheet of the task that numbers mean, at the front of words, where a sheet can say it and there is room
 pub record Builds (x before after : List ℕ) (r : Built) : Type 0 where

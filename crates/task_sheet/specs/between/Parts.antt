@@ -9,8 +9,8 @@ use Rattle.sas.specs.Task.{Assignment, Action, Task}
 use Rattle.sheet.specs.Limits.{limits}
 use Rattle.sheet.specs.between.Encode.{fact-words, first-edition, action-part}
 use Rattle.task_sheet.specs.declared.action.Written.{Written}
-use Rattle.meaning.specs.Order.{put-in, ordered-action}
-use Rattle.meaning.specs.Writable.{fit-in, group-fits, actions-fit}
+use Rattle.meaning.specs.between.Order.{put-in, ordered-action}
+use Rattle.meaning.specs.between.Writable.{fit-in, group-fits, actions-fit}
 use Rattle.sheet_writer.specs.between.Laid.{laid}
 use Rattle.sheet_writer.specs.between.Held.{Holds}
 

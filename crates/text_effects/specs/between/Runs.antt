@@ -6,10 +6,10 @@ use mathlib.Core.Bool.{Bool, true, false}
 use mathlib.Core.List.{List, [], _∷_, _++_}
 use lib.ListN.{length, drop}
 use lib.Seq.{sets}
-use Rattle.fields.specs.Numbers.{any-value}
-use Rattle.fields.specs.Fields.{all-plain}
+use Rattle.fields.specs.between.Numbers.{any-value}
+use Rattle.fields.specs.between.Fields.{all-plain}
 use Rattle.fields.specs.between.Reading.{Has-numbers, Lacks-numbers}
-use Rattle.form.specs.Form.{Head, numbers-fit}
+use Rattle.form.specs.between.Form.{Head, numbers-fit}
 use Rattle.text_effects.specs.declared.effects.Run.{Run}
 
 -- n numbers that are read, each with a space behind it, from index `at` to index `to`, and put on the tape from index

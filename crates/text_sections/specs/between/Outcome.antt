@@ -4,7 +4,7 @@ use mathlib.Core.Bool.{cond}
 use mathlib.Core.List.{List}
 use lib.ListN.{length, take}
 use lib.Dec.{ltb}
-use Rattle.form.specs.Form.{whole, walked, numbers-of, unsupported-line}
+use Rattle.form.specs.between.Form.{whole, walked, numbers-of, unsupported-line}
 use Rattle.form.specs.between.Reading.{Outcome, barred-at}
 use Rattle.form.specs.between.Reading.Outcome.{Broken, Whole}
 use Rattle.text_sections.specs.declared.text.Form.{Form}

@@ -4,8 +4,8 @@ use Prim.Native.Nat.{ℕ}
 use mathlib.Core.Path.{_≡_}
 use mathlib.Core.Bool.{Bool}
 use mathlib.Core.List.{List, [], _∷_}
-use Rattle.form.specs.Form.{Count, Counted, Due, numbers, after-count, times}
-use Rattle.form.specs.Form.{variable-lines, group-lines, operator-lines, axiom-lines}
+use Rattle.form.specs.between.Form.{Count, Counted, Due, numbers, after-count, times}
+use Rattle.form.specs.between.Form.{variable-lines, group-lines, operator-lines, axiom-lines}
 use Rattle.number_rows.specs.between.Rows.{Plain-row, fact-row}
 use Rattle.text_sections.specs.declared.sections.Block.{Block}
 use Rattle.text_sections.specs.declared.sections.Block.the-variants.{Variable, Group, Operator, Axiom}

@@ -2,7 +2,7 @@
 -- measure is how many are left. Assumes nothing.
 use Prim.Native.Nat.{ℕ, _-_}
 use mathlib.Core.List.{List, [], _∷_}
-use Rattle.form.specs.Form.{name}
+use Rattle.form.specs.between.Form.{name}
 use Rattle.form.proofs.ReadsLaws.{Left, repeats-begin, repeats-more, repeats-stopped, repeats-over}
 use borrow.Author.Needs.{needs}
 use native.Mathlib.Omega.{arith}

@@ -4,7 +4,7 @@ use Prim.Native.Nat.{_-_}
 use lib.ListN.{length}
 use mathlib.Core.Path.{_≡_, refl, _∙_}
 use mathlib.Core.List.{[], _∷_}
-use Rattle.form.specs.Form.{numbers}
+use Rattle.form.specs.between.Form.{numbers}
 use Rattle.number_rows.specs.between.Rows.{fact-row}
 use Rattle.form.proofs.ReadsLaws.{Left, repeats-begin, repeats-more, repeats-stopped, repeats-over}
 use borrow.Author.Needs.{needs}

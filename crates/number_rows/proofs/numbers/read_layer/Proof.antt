@@ -1,7 +1,7 @@
 -- `read_layer` meets its contract: a law for each way to a return, by whether the line is one number. Assumes nothing.
 use native.Mathlib.Omega.{arith}
 use mathlib.Core.List.{[], _∷_}
-use Rattle.fields.specs.Fields.{word-reads}
+use Rattle.fields.specs.between.Fields.{word-reads}
 use Rattle.fields.specs.declared.word.Behind.the-variants.{LineEnd}
 use Rattle.fields.proofs.NumberLaws.{any-kind, word-ahead, word-inside, other-behind, line-end-is-there}
 use Rattle.form.proofs.ReadsLaws.{reads-as, reads-stopped}

@@ -1,7 +1,7 @@
 -- `read_plain` meets its contract: a law for each way to a return, by whether the line is one number. Assumes nothing.
 use native.Mathlib.Omega.{arith}
 use mathlib.Core.List.{[], _∷_}
-use Rattle.fields.specs.Fields.{is-number}
+use Rattle.fields.specs.between.Fields.{is-number}
 use Rattle.fields.specs.declared.word.Behind.the-variants.{LineEnd}
 use Rattle.fields.proofs.NumberLaws.{number-kind, word-ahead, word-inside, other-behind, line-end-is-there}
 use Rattle.form.proofs.ReadsLaws.{row-as}

@@ -4,7 +4,7 @@ use Prim.Native.Nat.{_-_}
 use lib.ListN.{length}
 use mathlib.Core.Path.{_≡_, refl, _∙_}
 use mathlib.Core.List.{[], _∷_}
-use Rattle.form.specs.Form.{numbers, Value}
+use Rattle.form.specs.between.Form.{numbers, Value}
 use Rattle.number_rows.proofs.RowLaws.{plain-value}
 use Rattle.form.proofs.ReadsLaws.{row-alone}
 use Rattle.form.proofs.ReadsLaws.{Left, repeats-begin, repeats-more, repeats-stopped, repeats-over}

@@ -3,7 +3,7 @@ use Prim.Native.Nat.{_+_}
 use native.Mathlib.Omega.{arith}
 use mathlib.Core.Path.{sym, _∙_, ap}
 use borrow.Author.Tests.{not-true, not-false}
-use Rattle.meaning.specs.Sections.{number-at}
+use Rattle.meaning.specs.between.Sections.{number-at}
 use Rattle.meaning.proofs.GatherLaws.{ranges-length}
 use Rattle.meaning.proofs.SectionLaws.{fit-small}
 use Rattle.task_sheet.proofs.BuildLaws.{builds-unfit, no-variables, many-variables, many-actions, variables-unfit, parts-unfit, words-over, sheet-built}

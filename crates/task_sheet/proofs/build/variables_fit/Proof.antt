@@ -3,8 +3,8 @@ use borrow.Author.Needs.{needs}
 use native.Mathlib.Omega.{arith}
 use Prim.Native.Nat.{_-_}
 use mathlib.Core.Path.{_≡_, sym, _∙_}
-use Rattle.meaning.specs.Sections.{ranges, state}
-use Rattle.meaning.specs.Writable.{variables-fit}
+use Rattle.meaning.specs.between.Sections.{ranges, state}
+use Rattle.meaning.specs.between.Writable.{variables-fit}
 use Rattle.meaning.proofs.SectionLaws.{fits-from, fits-whole, fits-over, fits-wide, fits-beyond, fits-next}
 use Rattle.task_sheet.proofs.build.variables_fit.Statement.{statement}
 use Rattle.task_sheet.proofs.build.variables_fit.Tie as tie

@@ -7,7 +7,7 @@ use lib.ListN.{length}
 use borrow.Author.Needs.{needs}
 use borrow.Author.Tests.{not-true, not-false}
 use Rattle.sheet.specs.Limits.{limits}
-use Rattle.meaning.specs.Sections.{ranges}
+use Rattle.meaning.specs.between.Sections.{ranges}
 use Rattle.meaning.specs.between.Gathered.{Small}
 use Rattle.sheet_writer.specs.between.Laid.{first-word}
 use Rattle.meaning.proofs.GatherLaws.{ranges-length}

@@ -8,12 +8,8 @@ use lib.Dec.{ltb, eqb}
 use Rattle.ascii.specs.Bytes.{ascii}
 use Rattle.refusal.specs.declared.place.Place.{Place}
 use Rattle.refusal.specs.declared.place.Place.the-variants.{Nowhere, At}
-use Rattle.fields.specs.Numbers.{any-value}
-use Rattle.fields.specs.Fields.{lines-of, same, line-reads, line-numbers, all-plain, plain-but-old}
-
--- the most bytes of a text
-abbrev pub most-bytes : ℕ
-most-bytes = 65536
+use Rattle.fields.specs.between.Numbers.{any-value}
+use Rattle.fields.specs.between.Fields.{lines-of, same, line-reads, line-numbers, all-plain, plain-but-old}
 
 -- what a number counts
 pub data Counted : Type 0 where

@@ -8,7 +8,7 @@ use lib.Dec.{ltb, leb, eqb}
 use Rattle.sas.specs.Task.{Fact, Assignment, State, Action, Task}
 use Rattle.sheet.specs.Limits.{limits}
 use Rattle.sheet.specs.between.Encode.{first-edition, encode}
-use Rattle.meaning.specs.Order.{insert, ordered}
+use Rattle.meaning.specs.between.Order.{insert, ordered}
 
 -- a fact of a variable that has a range, at a value in it
 unfoldable pub known : List ℕ → Fact → Bool

@@ -7,7 +7,7 @@ use lib.ListN.{length}
 use lib.Dec.{eqb}
 use Rattle.ascii.specs.Bytes.{ascii, space, ends-line, ascii-zero, ascii-digit, Split, runs, split, all-digits}
 use Rattle.ascii.specs.Bytes.{decimal-from}
-use Rattle.fields.specs.Numbers.{most-number, any-value}
+use Rattle.fields.specs.between.Numbers.{most-number, any-value}
 use Rattle.fields.specs.declared.class.Class.{Class}
 use Rattle.fields.specs.declared.class.Class.the-variants.{Digit, Minus, Space, LineEnd, Other}
 

@@ -10,7 +10,7 @@ use lib.ListN.{getD}
 use lib.Dec.{eqb}
 use Rattle.sas.specs.Task.{Assignment, State, Action, Task}
 use Rattle.sheet.specs.Decode.{table}
-use Rattle.fields.specs.Numbers.{any-value}
+use Rattle.fields.specs.between.Numbers.{any-value}
 
 abbrev pub number-at : List ℕ → ℕ → ℕ
 number-at x i = getD x i 0
