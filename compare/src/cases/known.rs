@@ -42,6 +42,10 @@ impl List {
                 let both = [kept(&known.eliminated)?, kept(&known.greedy)?];
                 Some(Answer::keeping_both(both))
             }
+            (Service::CheaperLeft, _) => {
+                let cheaper = self.cheaper()?;
+                Some(Answer::keeping(self.keeping(cheaper)))
+            }
             (Service::Exact, Some(many)) if many > MAX_UNMARKED => {
                 Some(Answer::refused(service, Cause::Unmarked.at(many)))
             }
