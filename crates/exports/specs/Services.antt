@@ -34,8 +34,8 @@ pub record Check-lent (t : Option Told) (w l state state′ out out′ : List �
 abbrev pub Checks-lent : List ℕ → List ℕ → List ℕ → List ℕ → List ℕ → List ℕ → Type 0
 Checks-lent w l = Check-lent (answer (plan-checks w l)) w l
 
--- the states along a list over lent words, of checks that answer t: they over `states`, one behind the other, the answer
--- and how many they are over `out`
+-- the states along a list over lent words, of checks that answer t: they over `states`, one behind the other, the
+-- answer and how many they are over `out`
 pub record Course-lent (t : Option Told) (w l states states′ out out′ : List ℕ) : Type 0 where
   pub states-left : states′ ≡ unless-refused t (sets states 0 (flatten (course w l))) states
   pub answered : out′ ≡ sets out 0 (answer-words t ++ (unless-refused t (length (course w l)) 0 ∷ []))

@@ -1,11 +1,11 @@
 // The services as a static library, for programs in other languages: C's names, slices and numbers alone. A slice is
 // passed as its pointer and then its length. Slices that are lent to be written overlap no other slice of the same
 // call: nothing checks that. What does not fit into a lent slice is dropped. Lent outputs, which a refusal leaves
-// untouched: `state` of `hollchiku_step`, `states`, `rows`, `output`, `first` and `second`, `words` of `hollchiku_read_words` and
-// `hollchiku_open`, and `text` of `hollchiku_text_of`. Return channels, which every call writes, on a refusal with
-// document 01's zeros: `out`, `mask`, `part`, and `state` of `hollchiku_check_plan`. So are `bytes`, which no call
-// refuses, and `text` of `hollchiku_license_lines` and `hollchiku_shorten_lines`, where a refusal has its line. A slice
-// that is lent to be read is only read. forms: the forms that programs read and print.
+// untouched: `state` of `hollchiku_step`, `states`, `rows`, `output`, `first` and `second`, `words` of
+// `hollchiku_read_words` and `hollchiku_open`, and `text` of `hollchiku_text_of`. Return channels, which every call
+// writes, on a refusal with document 01's zeros: `out`, `mask`, `part`, and `state` of `hollchiku_check_plan`. So are
+// `bytes`, which no call refuses, and `text` of `hollchiku_license_lines` and `hollchiku_shorten_lines`, where a
+// refusal has its line. A slice that is lent to be read is only read. forms: the forms that programs read and print.
 mod forms;
 
 use access::put_all;
@@ -129,9 +129,9 @@ pub extern "C" fn hollchiku_check_plan(
     write_answer(out, given);
 }
 
-// The states along a plan go to the front of `states`, one behind the other, each a value for each variable: the starting
-// values, and the state after each step, up to the first that can't be done. The number and the place of a refusal of
-// what is read, or 0 and 0, then how many states these are go to `out`.
+// The states along a plan go to the front of `states`, one behind the other, each a value for each variable: the
+// starting values, and the state after each step, up to the first that can't be done. The number and the place of a
+// refusal of what is read, or 0 and 0, then how many states these are go to `out`.
 #[no_mangle]
 pub extern "C" fn hollchiku_course(words: &[u32], plan: &[u32], states: &mut [u32], out: &mut [u64])
     ensures { λ _. ⌜ Courses-lent (now (words .entry)) (now (plan .entry))
@@ -144,9 +144,9 @@ pub extern "C" fn hollchiku_course(words: &[u32], plan: &[u32], states: &mut [u3
 }
 
 // The moves of a plan: a row of nine words for each step goes to the front of `rows`, one behind the other: its cost; 1
-// where its bit in `kept` is one, else 0, and the same of `marked`; the cost and the steps of all steps up to it, of those
-// kept among them, and of those struck. The number and the place of a refusal of what is read, or 0 and 0, then the cost
-// and the steps of all struck steps go to `out`.
+// where its bit in `kept` is one, else 0, and the same of `marked`; the cost and the number of all steps up to it, of
+// those kept among them, and of those struck. The number and the place of a refusal of what is read, or 0 and 0, then
+// the cost and the number of all struck steps go to `out`.
 #[no_mangle]
 pub extern "C" fn hollchiku_moves(
     words: &[u32],

@@ -1,5 +1,5 @@
--- What each step of a list costs, and what becomes of it by the mask of a reduction and by that of marks: a row of words
--- for each step, and the service that writes them. Assumes nothing.
+-- What each step of a list costs, and what becomes of it by the mask of a reduction and by that of marks: a row of
+-- words for each step, and the service that writes them. Assumes nothing.
 use Prim.Native.Nat.{ℕ, _+_}
 use mathlib.Core.Path.{_≡_}
 use mathlib.Core.Bool.{not}
