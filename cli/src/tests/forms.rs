@@ -2,7 +2,8 @@
 
 use super::round_trips::records;
 use crate::answer::{Claim, Tally};
-use crate::library::{self, Reduction};
+use crate::library::{self, Mask, Reduction};
+use crate::reply::NoAnswer;
 use crate::sheet::{part, FIRST_ACTION};
 
 /// The words of bytes.
@@ -22,11 +23,9 @@ fn parts_of(words: &[u32]) -> (Vec<u32>, Vec<u32>) {
 fn words_bytes_and_texts() {
     for record in records() {
         let words = words_of(&record);
-        assert_eq!(library::pack(&words), record);
-        assert_eq!(
-            library::read_words(&library::text_of(&record)),
-            Ok(words.clone())
-        );
+        assert_eq!(library::pack(&words), Ok(record.clone()));
+        let text = library::text_of(&record).expect("there is room for it");
+        assert_eq!(library::read_words(&text), Ok(words.clone()));
         assert_eq!(library::open(&record), Ok(parts_of(&words)));
     }
 }
@@ -39,18 +38,30 @@ fn lines() {
     for record in records() {
         let (sheet, list) = parts_of(&words_of(&record));
         if list.len() <= QUICK_MOVES {
-            let lines = String::from_utf8(library::license_lines(&sheet, &list));
-            assert_eq!(lines, Ok(licence(&sheet, &list)));
-            let lines = String::from_utf8(library::shorten_lines(&sheet, &list));
-            assert_eq!(lines, Ok(reduction(&sheet, &list)));
+            let lines = library::license_lines(&sheet, &list);
+            assert_eq!(lines, Ok(licence(&sheet, &list).into_bytes()));
+            let lines = library::shorten_lines(&sheet, &list);
+            assert_eq!(lines, Ok(reduction(&sheet, &list).into_bytes()));
         }
     }
+}
+
+fn refused(why: NoAnswer) -> String {
+    match why {
+        NoAnswer::Refused(refusal) => format!("refused {} {}\n", refusal.number, refusal.place),
+        NoAnswer::Unknown(words) => panic!("{words}"),
+    }
+}
+
+/// Whether a mask has the bit of a move, of which the lowest of the first word is the first move's.
+fn has(mask: &Mask, index: usize) -> bool {
+    mask[index / 64] >> (index % 64) & 1 == 1
 }
 
 /// The lines of a licence, from its numbers.
 fn licence(sheet: &[u32], list: &[u32]) -> String {
     match library::license(sheet, list) {
-        Err(refusal) => format!("refused {} {}\n", refusal.number, refusal.place),
+        Err(why) => refused(why),
         Ok((left, claim)) => {
             let claim = match claim {
                 Claim::Least => "least\n".to_string(),
@@ -65,7 +76,7 @@ fn licence(sheet: &[u32], list: &[u32]) -> String {
 /// The lines of the exact reduction.
 fn reduction(sheet: &[u32], list: &[u32]) -> String {
     match library::exact(sheet, list) {
-        Err(refusal) => format!("refused {} {}\n", refusal.number, refusal.place),
+        Err(why) => refused(why),
         Ok(left) => report(sheet, list, &left),
     }
 }
@@ -74,13 +85,10 @@ fn report(sheet: &[u32], list: &[u32], left: &Reduction) -> String {
     let told = |what: &str, tally: Tally| format!("{what} {} {}\n", tally.moves, tally.price);
     let lodged = library::check_list(sheet, list).expect("the list was answered");
     let marks = library::marks(sheet, list).expect("the list was answered");
-    let marked = marks.iter().filter(|it| **it).count();
-    let kept = list
-        .iter()
-        .zip(&left.kept)
-        .enumerate()
-        .filter(|(_, (_, kept))| **kept);
-    let rows = kept.map(|(index, (&action, _))| {
+    let marked = (0..list.len()).filter(|&it| has(&marks, it)).count();
+    let kept = list.iter().enumerate();
+    let kept = kept.filter(|(index, _)| has(&left.mask, *index));
+    let rows = kept.map(|(index, &action)| {
         let price = sheet[part(sheet, FIRST_ACTION + action as usize).at];
         format!("{} {action} {price}\n", index + 1)
     });
