@@ -120,8 +120,8 @@ pub fn moves(
     kept: &Mask,
     marked: &Mask,
 ) -> Result<(Vec<Move>, Tally), NoAnswer> {
-    let (mut rows, mut out) = (vec![0; reply::ROW * list.len()], [0; 4]);
-    hollchiku_moves(sheet, list, kept, marked, &mut rows, &mut out);
+    let (mut rows, mut out) = (vec![[0; reply::ROW]; list.len()], [0; 4]);
+    hollchiku_moves(sheet, list, kept, marked, rows.as_flattened_mut(), &mut out);
     let [number, place, price, moves] = out;
     reply::answered([number, place], reply::OF_READ)?;
     let saved = reply::tally([price, moves], list.len())?;

@@ -132,21 +132,13 @@ pub const ROW: usize = 9;
 
 /// The moves of a list, each by its row: its price, whether it is kept and whether it is marked, and
 /// the tallies up to it of all moves, of those kept and of those struck.
-pub fn moves(rows: &[u32]) -> Result<Vec<Move>, Unknown> {
-    let (rows, rest) = rows.as_chunks::<ROW>();
-    if !rest.is_empty() {
-        return unknown(
-            "a row that breaks off",
-            &rest.iter().map(|it| u64::from(*it)).collect::<Vec<u64>>(),
-        );
-    }
-    let most = rows.len();
+pub fn moves(rows: &[[u32; ROW]]) -> Result<Vec<Move>, Unknown> {
     let of_row = |row: &[u32; ROW]| {
         let &[price, is_kept, is_marked, _, _, left, moves, _, _] = row;
         Ok(Move {
             price,
             outcome: outcome([is_kept, is_marked].map(u64::from))?,
-            left: tally([left, moves].map(u64::from), most)?,
+            left: tally([left, moves].map(u64::from), rows.len())?,
         })
     };
     rows.iter().map(of_row).collect()
@@ -252,9 +244,8 @@ mod tests {
             outcome: Outcome::Kept,
             left: Tally { price: 5, moves: 1 },
         };
-        assert_eq!(moves(&row), Ok(vec![told]));
+        assert_eq!(moves(&[row]), Ok(vec![told]));
         assert_eq!(moves(&[]), Ok(Vec::new()));
-        assert!(means_nothing(moves(&row[..8])));
         let flags = [
             ([0, 0], Outcome::Struck),
             ([1, 0], Outcome::Kept),
@@ -269,7 +260,7 @@ mod tests {
         for at in [1, 2, 6] {
             let mut wrong = row;
             wrong[at] = u32::MAX;
-            assert!(means_nothing(moves(&wrong)), "{at}");
+            assert!(means_nothing(moves(&[wrong])), "{at}");
         }
     }
 }

@@ -10,8 +10,8 @@ use lib.ListN.{length, getD, take, length-take}
 use lib.Seq.{take-suc}
 use Rattle.tally.specs.declared.Tally.{Tally}
 use Rattle.tally.specs.Tally.{bounds, nothing, one-more, after}
-use Rattle.sheet.specs.Layout.{actions, cost-word}
-use Rattle.plan.specs.Readable.{Readable, Entries-known}
+use Rattle.sheet.specs.Layout.{cost-word}
+use Rattle.plan.specs.Readable.{Readable}
 use Rattle.plan.specs.Checked.{lodged-tally}
 use Rattle.plan.proofs.PlanLaws.{walked-tally}
 use Rattle.reduction.specs.Reduction.{Reduction, kept}
@@ -30,7 +30,7 @@ after-last w [] a t = refl
 after-last w (b ∷ p) a t = after-last w p a (one-more t (cost-word w b))
 
 -- one step more
-pub taken-last : (l : List ℕ) (i : ℕ) → i < length l → take (i + 1) l ≡ take i l ++ (getD l i 0 ∷ [])
+taken-last : (l : List ℕ) (i : ℕ) → i < length l → take (i + 1) l ≡ take i l ++ (getD l i 0 ∷ [])
 taken-last l i here = rw (add-one i) (take-suc l i 0 here)
 
 kept-up : (m : Reduction) (l : List ℕ) (i : ℕ) → i < length l → getD m i false ≡ true → kept m (take (suc i) l) ≡ kept m (take i l) ++ (getD l i 0 ∷ [])

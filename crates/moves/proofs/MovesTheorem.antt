@@ -1,27 +1,26 @@
 -- What the rows say of a reduction that a service has told by its mask: it is that reduction, and what is saved and what is left make what was lodged. By
 -- induction along the steps. Assumes nothing.
-use Prim.Native.Nat.{ℕ, zero, suc, _+_, _≤_, _<_}
+use Prim.Native.Nat.{ℕ, _+_, _≤_}
 use native.Mathlib.Omega.{arith}
-use mathlib.Core.Path.{_≡_, refl, sym, _∙_, ap}
+use mathlib.Core.Path.{_≡_, refl, sym, _∙_}
 use mathlib.Core.Bool.{true, false}
 use mathlib.Core.List.{List, [], _∷_}
-use lib.ListN.{length, getD}
+use lib.ListN.{length}
 use lib.Seq.{ext-getD}
 use Rattle.sas.specs.Plan.{cost}
-use Rattle.sheet.specs.Decode.{table}
 use Rattle.sheet.proofs.TableLaws.{table-length, table-at}
 use Rattle.plan.specs.Valid.{steps}
 use Rattle.plan.specs.Checked.{lodged-tally}
 use Rattle.reduction.specs.Reduction.{Reduction, kept}
 use Rattle.mask.specs.Mask.{mask-bits, mask-words, bit-up}
 use Rattle.mask.proofs.MaskTheorem.{up-is-flag}
-use Rattle.moves.specs.Moves.{told-by, struck-by, saved}
+use Rattle.moves.specs.Moves.{of-mask, struck-by, saved}
 
 -- a mask tells the reduction that it is made of
-pub told-back : (m : Reduction) (n : ℕ) → length m ≡ n → n ≤ mask-bits → told-by (mask-words m) n ≡ m
+pub told-back : (m : Reduction) (n : ℕ) → length m ≡ n → n ≤ mask-bits → of-mask (mask-words m) n ≡ m
 told-back m n fits few =
-    let long : length (told-by (mask-words m) n) ≡ n = table-length (bit-up (mask-words m)) 0 n in
-    ext-getD false (told-by (mask-words m) n) m (long ∙ sym fits)
+    let long : length (of-mask (mask-words m) n) ≡ n = table-length (bit-up (mask-words m)) 0 n in
+    ext-getD false (of-mask (mask-words m) n) m (long ∙ sym fits)
     (λ i here. table-at (bit-up (mask-words m)) 0 n i i false (omega (arith, long)) (omega arith) ∙ up-is-flag m (omega arith) i)
 
 -- what is kept and what is struck make the whole

@@ -1,11 +1,11 @@
 -- The words of a row as they are stored one after the other, the rows so far, and with them what the service answers. Assumes nothing.
-use Prim.Native.Nat.{ℕ, zero, suc, _+_, _-_, _*_, _≤_, _<_}
+use Prim.Native.Nat.{ℕ, suc, _+_, _-_, _*_, _≤_, _<_}
 use native.Mathlib.Omega.{arith}
-use mathlib.Core.Path.{_≡_, refl, sym, _∙_, ap, subst}
+use mathlib.Core.Path.{_≡_, refl, sym, _∙_, ap}
 use mathlib.Core.Bool.{Bool, false}
 use mathlib.Core.Option.{none}
-use mathlib.Core.List.{List, [], _∷_, _++_, flatten}
-use lib.ListN.{length, getD, set, take}
+use mathlib.Core.List.{List, _∷_, _++_, flatten}
+use lib.ListN.{length, getD, set}
 use lib.Seq.{sets, take-all}
 use Rattle.access.proofs.StoreLaws.{stores-joined}
 use Rattle.refusal.specs.declared.Verdict.{Verdict}
@@ -18,7 +18,6 @@ use Rattle.sheet.specs.Layout.{cost-word}
 use Rattle.sheet.specs.Decode.{action, table}
 use Rattle.sheet.proofs.TableLaws.{table-length, table-at, table-more}
 use Rattle.plan.specs.Limits.{most-steps}
-use Rattle.plan.specs.declared.check.Answer.{Answer}
 use Rattle.plan.specs.declared.check.Answer.the-variants.{Valid, Refused}
 use Rattle.plan.specs.Checked.{lodged-tally}
 use Rattle.plan.specs.Readable.{Readable}
@@ -27,12 +26,12 @@ use Rattle.reduction.specs.Reduction.{Reduction, kept}
 use Rattle.mask.specs.Mask.{digit, bit-up}
 use Rattle.lent.specs.Words.{tally-words}
 use Rattle.moves.specs.declared.tallies.Tallies.{Tallies}
-use Rattle.moves.specs.Moves.{told-by, struck-by, row, all-rows, moves-checks, Moves}
-use Rattle.moves.specs.between.Tallied.{none-yet, with-one, row-words, Writes-rows}
+use Rattle.moves.specs.Moves.{of-mask, struck-by, row, all-rows, moves-checks, Moves}
+use Rattle.moves.specs.between.Tallied.{row-length, none-yet, with-one, row-words, Writes-rows}
 use Rattle.moves.proofs.CountLaws.{Counting, counting-start, counting-more, lodged-plain, left-plain, struck-plain}
 
 -- nine words, stored one after the other
-pub row-written : (rows : List ℕ) (at c k m : ℕ) (t u v : Tally)
+row-written : (rows : List ℕ) (at c k m : ℕ) (t u v : Tally)
     → sets (sets (sets (set (set (set rows at c) (at + 1) k) (at + 2) m) (at + 3) (tally-words t)) (at + 5) (tally-words u)) (at + 7) (tally-words v)
     ≡ sets rows at (c ∷ k ∷ m ∷ (tally-words t ++ (tally-words u ++ tally-words v)))
 row-written rows at c k m t u v =
@@ -52,14 +51,14 @@ row-laid rows first second third fourth fifth sixth at c k m is-kept is-marked t
 
 module _ (w l mask marks before : List ℕ) where
   abbrev flags : Reduction
-  flags = told-by mask (length l)
+  flags = of-mask mask (length l)
 
   -- where the walk stands before the step at index i: what it writes from there on is what it writes in all
   pub record Walking (rows : List ℕ) (t : Tallies) (i : ℕ) : Type 0 where
     pub reached : i ≤ length l
     pub room : length rows ≡ length before
     pub counting : Counting w l flags i t
-    pub stored : sets rows (9 * i) (flatten (table (row w l mask marks) i (length l - i))) ≡ sets before 0 (all-rows w l mask marks)
+    pub stored : sets rows (row-length * i) (flatten (table (row w l mask marks) i (length l - i))) ≡ sets before 0 (all-rows w l mask marks)
 
   pub walking-start : (t : Tallies) → t ≡ none-yet → Walking before t 0
   walking-start t is =
@@ -67,11 +66,11 @@ module _ (w l mask marks before : List ℕ) where
       record { reached = omega arith; room = refl; counting = rw is (counting-start w l flags); stored = rw all }
 
   module _ (readable : Readable w l) (rows : List ℕ) (t : Tallies) (i : ℕ) (so : Walking rows t i) where
-    pub walking-low : 9 * i ≤ 2295
+    pub walking-low : row-length * i ≤ row-length * most-steps
     walking-low = omega (arith, so .reached, readable .few)
 
     module _ (here : i < length l) (c : ℕ) (b d : Bool) (rows′ : List ℕ) (t′ : Tallies) (price : c ≡ cost-word w (getD l i 0)) (up : b ≡ bit-up mask i) (marked : d ≡ bit-up marks i)
-        (added : t′ ≡ with-one t c b) (written : rows′ ≡ sets rows (9 * i) (row-words c b d t′)) where
+        (added : t′ ≡ with-one t c b) (written : rows′ ≡ sets rows (row-length * i) (row-words c b d t′)) where
       next : Counting w l flags (i + 1) t′
       next =
           rw added
@@ -89,15 +88,15 @@ module _ (w l mask marks before : List ℕ) where
           let rest = flatten (table R (i + 1) (length l - (i + 1))) in
           let one-left : length l - i ≡ suc (length l - (i + 1)) = omega arith in
           let along : table R i (length l - i) ≡ R i ∷ table R (i + 1) (length l - (i + 1)) = rw one-left (table-more R i (length l - (i + 1))) in
-          let on : 9 * (i + 1) ≡ 9 * i + length (R i) = omega (arith, ap length (sym is-row)) in
+          let on : row-length * (i + 1) ≡ row-length * i + length (R i) = omega (arith, ap length (sym is-row)) in
           record {
             reached = omega arith;
             room = room;
             counting = next;
             stored = ap (λ k. sets rows′ k rest) on
-                ∙ ap (λ words. sets words (9 * i + length (R i)) rest) (written ∙ ap (sets rows (9 * i)) is-row)
-                ∙ stores-joined rows (R i) rest (9 * i)
-                ∙ ap (λ rs. sets rows (9 * i) (flatten rs)) (sym along)
+                ∙ ap (λ words. sets words (row-length * i + length (R i)) rest) (written ∙ ap (sets rows (row-length * i)) is-row)
+                ∙ stores-joined rows (R i) rest (row-length * i)
+                ∙ ap (λ rs. sets rows (row-length * i) (flatten rs)) (sym along)
                 ∙ so .stored;
           }
 
@@ -107,7 +106,7 @@ module _ (w l mask marks before : List ℕ) where
         let none-left : length l - i ≡ 0 = omega arith in
         record {
           tally = struck-plain w l readable flags i t (so .counting) ∙ ap (λ p. lodged-tally w (kept (struck-by flags) p)) (take-all i l past);
-          rows = ap (λ n. sets rows (9 * i) (flatten (table (row w l mask marks) i n))) (sym none-left) ∙ so .stored;
+          rows = ap (λ n. sets rows (row-length * i) (flatten (table (row w l mask marks) i n))) (sym none-left) ∙ so .stored;
         }
 
 -- the service refuses what is read

@@ -3,7 +3,7 @@
 use Prim.Native.Nat.{ℕ, _+_}
 use mathlib.Core.Path.{_≡_}
 use mathlib.Core.Bool.{not}
-use mathlib.Core.List.{List, [], _∷_, _++_, map, flatten}
+use mathlib.Core.List.{List, _∷_, _++_, map, flatten}
 use lib.ListN.{length, getD, take}
 use lib.Seq.{sets}
 use Rattle.refusal.specs.Check.{Check, answer, unless-refused}
@@ -18,8 +18,8 @@ use Rattle.mask.specs.Mask.{digit, bit-up}
 use Rattle.lent.specs.Words.{tally-words}
 
 -- the reduction of n steps that a mask tells: the step at index i is kept where bit i is one
-abbrev pub told-by : List ℕ → ℕ → Reduction
-told-by mask n = table (bit-up mask) 0 n
+abbrev pub of-mask : List ℕ → ℕ → Reduction
+of-mask mask n = table (bit-up mask) 0 n
 
 -- the steps that a reduction strikes, as the reduction that keeps just these
 abbrev pub struck-by : Reduction → Reduction
@@ -39,8 +39,8 @@ module _ (w l mask : List ℕ) where
       ∷ digit (bit-up mask i)
       ∷ digit (bit-up marks i)
       ∷ (tally-words (lodged-tally w (take (i + 1) l))
-      ++ (tally-words (tally-up-to w l (i + 1) (told-by mask (length l)))
-      ++ tally-words (tally-up-to w l (i + 1) (struck-by (told-by mask (length l))))))
+      ++ (tally-words (tally-up-to w l (i + 1) (of-mask mask (length l)))
+      ++ tally-words (tally-up-to w l (i + 1) (struck-by (of-mask mask (length l))))))
 
   -- the rows of all steps, one behind the other
   abbrev pub all-rows : List ℕ → List ℕ
@@ -48,7 +48,7 @@ module _ (w l mask : List ℕ) where
 
   -- what is saved: the tally of all struck steps
   abbrev pub saved : Tally
-  saved = lodged-tally w (kept (struck-by (told-by mask (length l))) l)
+  saved = lodged-tally w (kept (struck-by (of-mask mask (length l))) l)
 
 -- the checks: those of what is read, 1 to 9
 abbrev pub moves-checks : List ℕ → List ℕ → List Check

@@ -5,7 +5,7 @@ use access::word64;
 use mask::Mask;
 use tally::Tally;
 ghost use mathlib.Core.Path.{_≡_};
-ghost use Prim.Native.Nat.{_≤_, _<_, _^_};
+ghost use Prim.Native.Nat.{_<_, _^_};
 ghost use lib.Seq.{sets};
 ghost use Rattle.mask.specs.Mask.{digit as digit-of, bit-up};
 ghost use Rattle.lent.specs.Words.{tally-words};

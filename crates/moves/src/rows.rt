@@ -12,7 +12,7 @@ ghost use Rattle.plan.specs.Readable.{Readable};
 ghost use Rattle.moves.specs.Moves.{Moves};
 ghost use Rattle.moves.specs.between.Tallied.{Writes-rows};
 
-// The words of a row. specs/Moves.antt has them for the definitions.
+// The words of a row. specs/between/Tallied.antt has their number for the laws.
 const ROW: usize = 9;
 
 // Writes the rows of a plan that can be read, one behind the other; returns the tally of the struck steps.

@@ -12,6 +12,10 @@ use Rattle.lent.specs.Words.{tally-words}
 use Rattle.moves.specs.declared.tallies.Tallies.{Tallies}
 use Rattle.moves.specs.Moves.{all-rows, saved}
 
+-- the words of a row
+abbrev pub row-length : ℕ
+row-length = 9
+
 -- those of no step
 abbrev pub none-yet : Tallies
 none-yet = record { lodged = nothing; left = nothing; struck = nothing }
@@ -21,7 +25,7 @@ abbrev pub with-one : Tallies → ℕ → Bool → Tallies
 with-one t c true = record { lodged = one-more (t .lodged) c; left = one-more (t .left) c; struck = t .struck }
 with-one t c false = record { lodged = one-more (t .lodged) c; left = t .left; struck = one-more (t .struck) c }
 
--- the words of a row
+-- a row of these
 abbrev pub row-words : ℕ → Bool → Bool → Tallies → List ℕ
 row-words c is-kept is-marked t =
     c ∷ digit is-kept ∷ digit is-marked

@@ -1,5 +1,4 @@
 -- `bit` meets its contract: the bit is read in its word. Assumes nothing.
-use mathlib.Core.Path.{_∙_}
 use Rattle.mask.proofs.BitLaws.{bit-read}
 use borrow.Author.Needs.{needs}
 use Rattle.moves.proofs.row.bit.Statement.{statement}

@@ -3,7 +3,6 @@ use Prim.Native.Nat.{_-_}
 use native.Mathlib.Omega.{arith}
 use mathlib.Core.Path.{_∙_}
 use lib.ListN.{length}
-use Rattle.plan.specs.Readable.{Readable}
 use Rattle.moves.proofs.RowLaws.{Walking, walking-start, walking-low, walking-more, walking-over}
 use borrow.Author.Needs.{needs}
 use Rattle.moves.proofs.rows.write_rows.Statement.{statement}
