@@ -1,10 +1,14 @@
-//! The library's forms against plain Rust: words as bytes and as a text, and the lines of a list.
+//! The library's forms against plain Rust: words as bytes and as a text, the lines of a list, and the
+//! numbers of its moves.
 
 use super::round_trips::records;
-use crate::answer::{Claim, Tally};
+use super::{read, WAYS};
+use crate::answer::{Claim, Shortened, Tally};
+use crate::job::Job;
 use crate::library::{self, Mask, Reduction};
 use crate::reply::NoAnswer;
 use crate::sheet::{part, FIRST_ACTION};
+use crate::shorten::{shorten, Asked};
 
 /// The words of bytes.
 fn words_of(bytes: &[u8]) -> Vec<u32> {
@@ -44,6 +48,50 @@ fn lines() {
             assert_eq!(lines, Ok(reduction(&sheet, &list).into_bytes()));
         }
     }
+}
+
+/// The numbers of a list by each way of striking. Of valid lists only the exact reduction refuses
+/// some.
+#[test]
+fn numbers() {
+    let mut shortened = 0;
+    let records = records();
+    for record in &records {
+        let lodged = read("words", record).expect("records are jobs");
+        if lodged.check().is_err() || lodged.job.list.len() > QUICK_MOVES {
+            continue;
+        }
+        for asked in WAYS {
+            match shorten(&lodged, asked) {
+                Ok(told) => numbers_add_up(&lodged.job, &told),
+                Err(_) => assert_eq!(asked, Asked::Exact),
+            }
+        }
+        shortened += 1;
+    }
+    assert!(shortened * 10 >= records.len(), "{shortened}");
+}
+
+/// What is told of each move and of all against sums of the prices of actions.
+fn numbers_add_up(job: &Job, told: &Shortened) {
+    let price = |action: u32| job.task.actions[action as usize].price;
+    let tally = |actions: &[u32]| Tally {
+        price: actions.iter().map(|it| price(*it)).sum(),
+        moves: actions.len() as u32,
+    };
+    let [mut kept, mut struck] = [Vec::new(), Vec::new()];
+    for (&action, told) in job.list.iter().zip(&told.moves) {
+        let side = match told.is_struck() {
+            true => &mut struck,
+            false => &mut kept,
+        };
+        side.push(action);
+        assert_eq!((told.price, told.left), (price(action), tally(&kept)));
+    }
+    assert_eq!(told.moves.len(), job.list.len());
+    assert_eq!(told.list, kept);
+    let tallies = [&job.list, &kept, &struck].map(|it| tally(it));
+    assert_eq!([told.lodged, told.left, told.saved], tallies);
 }
 
 fn refused(why: NoAnswer) -> String {

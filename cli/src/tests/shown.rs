@@ -1,6 +1,6 @@
 //! Shortened lists as they are shown: as tables, as jobs, as plans.
 
-use super::{read, SMALL};
+use super::{read, SMALL, WAYS};
 use crate::answer::{Claim, Move, Outcome, Tally, Way};
 use crate::input::{read_files, File, Lodged};
 use crate::shorten::{claim, notice, shorten, Asked};
@@ -78,13 +78,7 @@ fn colours_and_effects_on_a_wide_terminal() {
 #[test]
 fn each_way_strikes() {
     let lodged = twice();
-    for asked in [
-        Asked::Licence,
-        Asked::Exact,
-        Asked::Greedy,
-        Asked::Eliminate,
-        Asked::Cheaper,
-    ] {
+    for asked in WAYS {
         let answered = shorten(&lodged, asked).expect("every valid list is answered");
         assert_eq!(
             (answered.left.price, answered.left.moves),
