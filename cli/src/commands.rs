@@ -10,7 +10,6 @@ use crate::library;
 use crate::options::{Command, Request, Shown, Verb, STANDARD};
 use crate::page::{page, Contents};
 use crate::planner;
-use crate::reply::Unknown;
 use crate::shorten::{claim, notice, shorten, Asked};
 use crate::table::table;
 use crate::terminal;
@@ -92,26 +91,22 @@ fn noticing(lodged: &Lodged, answered: &Shortened, bytes: Vec<u8>) -> Answer {
     Answer { bytes, notice }
 }
 
-fn internal(words: Unknown) -> Failure {
-    Failure::internal(&words)
-}
-
 /// The words of sheet and list as a text.
 fn words(lodged: &Lodged) -> Result<Vec<u8>, Failure> {
-    library::text_of(&lodged.bytes()?).map_err(internal)
+    Ok(library::text_of(&lodged.bytes()?)?)
 }
 
 fn shortened(command: &Command, lodged: &Lodged, answered: &Shortened) -> Result<Vec<u8>, Failure> {
     let Lodged { sheet, job, origin } = lodged;
-    match (command.shown, command.asked) {
-        (Shown::Plain, Asked::Exact) => library::shorten_lines(sheet, &job.list).map_err(internal),
-        (Shown::Plain, _) => library::license_lines(sheet, &job.list).map_err(internal),
-        (Shown::Table, _) => Ok(table(job, answered, terminal::style()).into_bytes()),
+    Ok(match (command.shown, command.asked) {
+        (Shown::Plain, Asked::Exact) => library::shorten_lines(sheet, &job.list)?,
+        (Shown::Plain, _) => library::license_lines(sheet, &job.list)?,
+        (Shown::Table, _) => table(job, answered, terminal::style()).into_bytes(),
         (Shown::Kept, _) => {
             let list = answered.list.clone();
-            Ok(kept_text(job, list, answered.left, &origin.form).into_bytes())
+            kept_text(job, list, answered.left, &origin.form).into_bytes()
         }
-    }
+    })
 }
 
 /// The shortened list in the form in which the list came: a plan file, or a job.

@@ -39,14 +39,6 @@ impl Failure {
         }
     }
 
-    /// The library's words are none that it answers with.
-    pub fn internal(words: &Unknown) -> Failure {
-        let message = format!(
-            "hollchiku: the library's answer can't be understood: {words}; this is a fault of hollchiku itself"
-        );
-        Failure::unread(message)
-    }
-
     /// A text has faults.
     pub fn faulty(file: &str, faults: &[Fault]) -> Failure {
         let told = faults.iter().take(MOST_FAULTS);
@@ -71,6 +63,16 @@ impl Failure {
             _ => error.to_string(),
         };
         Failure::unread(format!("{file}: can't be {done}: {why}"))
+    }
+}
+
+/// The library's words are none that it answers with.
+impl From<Unknown> for Failure {
+    fn from(words: Unknown) -> Failure {
+        let message = format!(
+            "hollchiku: the library's answer can't be understood: {words}; this is a fault of hollchiku itself"
+        );
+        Failure::unread(message)
     }
 }
 

@@ -82,19 +82,16 @@ impl Lodged {
     pub fn unanswered(&self, why: NoAnswer) -> Failure {
         match why {
             NoAnswer::Refused(refusal) => refusal::of_list(refusal, self),
-            NoAnswer::Unknown(words) => Failure::internal(&words),
+            NoAnswer::Unknown(words) => words.into(),
         }
     }
 
     /// Sheet and list in the program's form: the list's length stands between them.
     pub fn bytes(&self) -> Result<Vec<u8>, Failure> {
         let length = [self.job.list.len() as u32];
-        pack(&[&self.sheet[..], &length, &self.job.list].concat())
+        let words = [&self.sheet[..], &length, &self.job.list].concat();
+        Ok(library::pack(&words)?)
     }
-}
-
-fn pack(words: &[u32]) -> Result<Vec<u8>, Failure> {
-    library::pack(words).map_err(|it| Failure::internal(&it))
 }
 
 fn read_file(file: &str) -> Result<File<'_>, Failure> {
@@ -149,14 +146,14 @@ fn read_job(file: &File) -> Result<Lodged, Failure> {
 }
 
 fn read_words(name: &str, text: &[u8]) -> Result<Lodged, Failure> {
-    let words = library::read_words(text).map_err(|why| no_words(name, &why))?;
+    let words = library::read_words(text).map_err(|why| no_words(name, why))?;
     open(
         Origin::new(name, Form::Words(text.to_vec())),
-        &pack(&words)?,
+        &library::pack(&words)?,
     )
 }
 
-fn no_words(name: &str, why: &NoWords) -> Failure {
+fn no_words(name: &str, why: NoWords) -> Failure {
     let message = match why {
         NoWords::Field(line) => {
             format!("{name}:{line}: a word is expected, a whole number of 0 to 4294967295")
@@ -165,7 +162,7 @@ fn no_words(name: &str, why: &NoWords) -> Failure {
             format!("{name}:{line}: more words than a sheet and its list have")
         }
         NoWords::TooLong => format!("{name}: a text of more than 1048576 bytes"),
-        NoWords::Unknown(words) => return Failure::internal(words),
+        NoWords::Unknown(words) => return words.into(),
     };
     Failure::unread(message)
 }
@@ -175,7 +172,7 @@ fn open(origin: Origin, bytes: &[u8]) -> Result<Lodged, Failure> {
     let (sheet, list) = match library::open(bytes) {
         Ok(parts) => parts,
         Err(NoAnswer::Refused(refusal)) => return Err(refusal::of_form(refusal, bytes, origin)),
-        Err(NoAnswer::Unknown(words)) => return Err(Failure::internal(&words)),
+        Err(NoAnswer::Unknown(words)) => return Err(words.into()),
     };
     let unnamed = Job {
         list,
@@ -204,7 +201,7 @@ fn read_planner(file: &File, plan: Option<&File>) -> Result<Lodged, Failure> {
     let text = with_line_ends(&file.bytes);
     let sheet = library::translate(&text).map_err(|why| match why {
         NoAnswer::Refused(refusal) => refusal::of_planner(refusal, file.name, &text),
-        NoAnswer::Unknown(words) => Failure::internal(&words),
+        NoAnswer::Unknown(words) => words.into(),
     })?;
     let names = planner::names(&text);
     let moves = plan.map_or(Ok(Vec::new()), |plan| read_plan(plan, &names.actions))?;

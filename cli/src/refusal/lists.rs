@@ -26,7 +26,7 @@ pub fn of_list(refusal: Refusal, lodged: &Lodged) -> Failure {
         Ok(message) => Failure::refused(refusal, message),
         // The library has refused this list, and does not refuse to tell its states.
         Err(NoAnswer::Refused(other)) => out_of_table(other),
-        Err(NoAnswer::Unknown(words)) => Failure::internal(&words),
+        Err(NoAnswer::Unknown(words)) => words.into(),
     }
 }
 

@@ -36,10 +36,9 @@ impl Lodged {
 
 /// A refusal that no table has: its number is not told here, or there is no such place.
 fn out_of_table(Refusal { number, place }: Refusal) -> Failure {
-    Failure::internal(&Unknown {
-        what: "a refusal whose number or place there is not",
-        words: vec![number, place],
-    })
+    let what = "a refusal whose number or place there is not";
+    let words = vec![number, place];
+    Unknown { what, words }.into()
 }
 
 /// A name as messages have it, with what a terminal should not see made visible.

@@ -18,8 +18,8 @@ ghost use Rattle.striking.specs.Statement.{Demand-three-lent, May-be-lod
 // Where a claim stands, after the refusal's number and place and the tally.
 const CLAIM_AT: usize = 4;
 
-// Elimination, or greedy elimination: the kept action numbers go to the front of `output`, the four words of their mask to `mask`, and the
-// number and the place of a refusal, or 0 and 0, then the cost and the steps to `out`.
+// Elimination, or greedy elimination: the kept action numbers go to the front of `output`, the four words of their mask
+// to `mask`, and the number and the place of a refusal, or 0 and 0, then the cost and the steps to `out`.
 pub fn eliminate(
     words: &[u32],
     plan: &[u32],
