@@ -38,34 +38,32 @@ pub enum Way {
     Cheaper,
 }
 
-/// A list that was shortened.
+/// A list that was shortened. The library tells every number.
 #[derive(Clone, Debug, PartialEq)]
 pub struct Shortened {
     pub way: Way,
-    /// Of each lodged move, whether it is kept.
-    pub kept: Vec<bool>,
-    /// Of each lodged move, whether it is marked: no valid striking drops it.
-    pub marked: Vec<bool>,
+    /// The lodged moves.
+    pub moves: Vec<Move>,
+    /// The actions of those that are left.
+    pub list: Vec<u32>,
     pub lodged: Tally,
+    pub left: Tally,
+    /// What the struck moves come to.
+    pub saved: Tally,
+}
+
+/// A lodged move.
+#[derive(Clone, Copy, Debug, PartialEq)]
+pub struct Move {
+    pub price: u32,
+    pub outcome: Outcome,
+    /// What the kept moves up to this one come to, with it.
     pub left: Tally,
 }
 
-impl Shortened {
-    /// What the struck moves come to.
-    pub fn saved(&self) -> Tally {
-        Tally {
-            price: self.lodged.price.saturating_sub(self.left.price),
-            moves: self.lodged.moves.saturating_sub(self.left.moves),
-        }
-    }
-
-    /// What becomes of a lodged move, by its index.
-    pub fn outcome(&self, index: usize) -> Outcome {
-        match (self.kept[index], self.marked[index]) {
-            (false, _) => Outcome::Struck,
-            (true, true) => Outcome::Marked,
-            (true, false) => Outcome::Kept,
-        }
+impl Move {
+    pub fn is_struck(&self) -> bool {
+        self.outcome == Outcome::Struck
     }
 }
 

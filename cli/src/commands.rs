@@ -1,6 +1,6 @@
 //! What each command does.
 
-use crate::answer::Tally;
+use crate::answer::{Shortened, Tally};
 use crate::course::course;
 use crate::failure::Failure;
 use crate::help::{help, version};
@@ -10,7 +10,7 @@ use crate::library;
 use crate::options::{Command, Request, Shown, Verb, STANDARD};
 use crate::page::{page, Contents};
 use crate::planner;
-use crate::shorten::{claim, shorten, Asked};
+use crate::shorten::{claim, notice, shorten, Asked};
 use crate::table::table;
 use crate::terminal;
 use std::io::Write;
@@ -32,7 +32,13 @@ fn run_command(command: &Command) -> Result<(), Failure> {
         input::read(&command.file, command.plan.as_deref()).and_then(|it| answer(command, &it));
     let output = command.output.as_deref();
     match answered {
-        Ok(bytes) => write(output, &bytes),
+        Ok(Answer { bytes, notice }) => {
+            write(output, &bytes)?;
+            if let Some(notice) = notice {
+                eprintln!("{notice}");
+            }
+            Ok(())
+        }
         Err(failure) => {
             if let (Some(refusal), Shown::Plain) = (failure.refusal, command.shown) {
                 let line = format!("refused {} {}\n", refusal.number, refusal.place);
@@ -43,34 +49,61 @@ fn run_command(command: &Command) -> Result<(), Failure> {
     }
 }
 
-fn answer(command: &Command, lodged: &Lodged) -> Result<Vec<u8>, Failure> {
-    match command.verb {
-        Verb::Shorten => shortened(command, lodged),
-        Verb::Check => {
-            let tally = lodged.check()?;
-            Ok(format!("valid: {}, price {}\n", tally.so_many(), tally.price).into_bytes())
-        }
-        Verb::Words if command.is_binary => Ok(lodged.bytes()),
-        Verb::Words => Ok(library::text_of(&lodged.bytes())),
-        Verb::Job => Ok(job::write(&lodged.job).into_bytes()),
-        Verb::Page => lodged_page(lodged),
+/// What a command answers: what is printed or written, and what is told on standard error besides.
+struct Answer {
+    bytes: Vec<u8>,
+    notice: Option<String>,
+}
+
+impl From<Vec<u8>> for Answer {
+    fn from(bytes: Vec<u8>) -> Answer {
+        let notice = None;
+        Answer { bytes, notice }
     }
 }
 
-fn shortened(command: &Command, lodged: &Lodged) -> Result<Vec<u8>, Failure> {
-    let answered = shorten(lodged, command.asked)?;
+fn answer(command: &Command, lodged: &Lodged) -> Result<Answer, Failure> {
+    Ok(match command.verb {
+        Verb::Shorten => {
+            let answered = shorten(lodged, command.asked)?;
+            let bytes = shortened(command, lodged, &answered)?;
+            noticing(lodged, &answered, bytes)
+        }
+        Verb::Check => {
+            let tally = lodged.check()?;
+            let line = format!("valid: {}, price {}\n", tally.so_many(), tally.price);
+            line.into_bytes().into()
+        }
+        Verb::Words if command.is_binary => lodged.bytes()?.into(),
+        Verb::Words => words(lodged)?.into(),
+        Verb::Job => job::write(&lodged.job).into_bytes().into(),
+        Verb::Page => {
+            let answered = shorten(lodged, Asked::Licence)?;
+            let bytes = lodged_page(lodged, &answered)?;
+            noticing(lodged, &answered, bytes)
+        }
+    })
+}
+
+/// An answer with what must be told of it, whatever is printed.
+fn noticing(lodged: &Lodged, answered: &Shortened, bytes: Vec<u8>) -> Answer {
+    let notice = notice(answered.way).map(|it| format!("{}: {it}", lodged.origin.file));
+    Answer { bytes, notice }
+}
+
+/// The words of sheet and list as a text.
+fn words(lodged: &Lodged) -> Result<Vec<u8>, Failure> {
+    Ok(library::text_of(&lodged.bytes()?)?)
+}
+
+fn shortened(command: &Command, lodged: &Lodged, answered: &Shortened) -> Result<Vec<u8>, Failure> {
     let Lodged { sheet, job, origin } = lodged;
     Ok(match (command.shown, command.asked) {
-        (Shown::Plain, Asked::Exact) => library::shorten_lines(sheet, &job.list),
-        (Shown::Plain, _) => library::license_lines(sheet, &job.list),
-        (Shown::Table, _) => table(job, &answered, terminal::style()).into_bytes(),
+        (Shown::Plain, Asked::Exact) => library::shorten_lines(sheet, &job.list)?,
+        (Shown::Plain, _) => library::license_lines(sheet, &job.list)?,
+        (Shown::Table, _) => table(job, answered, terminal::style()).into_bytes(),
         (Shown::Kept, _) => {
-            let kept = job
-                .list
-                .iter()
-                .zip(&answered.kept)
-                .filter(|(_, kept)| **kept);
-            let list: Vec<u32> = kept.map(|(action, _)| *action).collect();
+            let list = answered.list.clone();
             kept_text(job, list, answered.left, &origin.form).into_bytes()
         }
     })
@@ -92,17 +125,16 @@ fn kept_text(job: &Job, list: Vec<u32>, left: Tally, form: &Form) -> String {
     }
 }
 
-fn lodged_page(lodged: &Lodged) -> Result<Vec<u8>, Failure> {
-    let answered = shorten(lodged, Asked::Licence)?;
+fn lodged_page(lodged: &Lodged, answered: &Shortened) -> Result<Vec<u8>, Failure> {
     let Lodged { sheet, job, origin } = lodged;
     let file = Path::new(&origin.file).file_stem().unwrap_or_default();
-    let words = library::text_of(&lodged.bytes());
-    let course = course(sheet, &job.list, &answered.kept).map_err(|it| lodged.refused(it))?;
+    let words = words(lodged)?;
+    let course = course(sheet, &job.list, answered).map_err(|it| lodged.unanswered(it))?;
     let text = page(&Contents {
         title: job.title.as_deref().unwrap_or(&file.to_string_lossy()),
         task: &job.task,
         list: &job.list,
-        shortened: &answered,
+        shortened: answered,
         course: &course,
         claim: &claim(answered.way),
         words: &String::from_utf8_lossy(&words),

@@ -1,7 +1,7 @@
 //! Why a command gives no answer: what it says, and its exit status.
 
 use crate::fault::Fault;
-use crate::library::Refusal;
+use crate::reply::{Refusal, Unknown};
 use std::io;
 
 /// What the exit status tells, beside 0 for an answer.
@@ -63,6 +63,16 @@ impl Failure {
             _ => error.to_string(),
         };
         Failure::unread(format!("{file}: can't be {done}: {why}"))
+    }
+}
+
+/// The library's words are none that it answers with.
+impl From<Unknown> for Failure {
+    fn from(words: Unknown) -> Failure {
+        let message = format!(
+            "hollchiku: the library's answer can't be understood: {words}; this is a fault of hollchiku itself"
+        );
+        Failure::unread(message)
     }
 }
 

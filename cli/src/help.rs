@@ -37,7 +37,8 @@ usage: hollchiku shorten JOB [OPTIONS]
        hollchiku shorten OUTPUT.SAS PLAN [OPTIONS]
 
 Strikes what the list does not need. Every valid list is answered, with the strongest claim that is proved of what is
-left: that it is the least, that nothing more can be struck, or that this is open.
+left: that it is the least, that nothing more can be struck, or that this is open. Where it is open, that is told on
+standard error too, whatever is printed.
 
   --exact       the exact reduction alone: the cheapest, then the shortest; refuses more than 20 unmarked moves
   --greedy      greedy elimination alone
@@ -79,7 +80,8 @@ usage: hollchiku page JOB -o FILE.html
        hollchiku page OUTPUT.SAS PLAN -o FILE.html
 
 Writes the page to lodge: the job, the shortened list, what becomes of every move, a picture of each variable, the
-prices, what was proved by which version, and the words to run it again. It is one file and needs no network.
+prices, what was proved by which version, and the words to run it again. It is one file and needs no network. Where it
+is open whether the list may be lodged, that is told on standard error too.
 ";
 
 pub fn help(verb: Option<Verb>) -> &'static str {

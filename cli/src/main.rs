@@ -4,7 +4,8 @@
 //! - `options`, `help`: the command line;
 //! - `input`: a job in any of its forms; `job`: the one with names; `planner`: a planner's names and plans;
 //! - `task`, `sheet`, `limits`: a task with names, and as words;
-//! - `library`: the exports; `shorten`, `course`: what is asked of them; `answer`: what they answer;
+//! - `library`: the exports; `reply`: what their words mean; `shorten`, `course`: what is asked of them;
+//!   `answer`: what they answer;
 //! - `refusal`, `failure`, `fault`, `nearest`: what is said where there is no answer;
 //! - `table`, `terminal`, `page`: how an answer is shown.
 
@@ -23,6 +24,7 @@ mod options;
 mod page;
 mod planner;
 mod refusal;
+mod reply;
 mod sheet;
 mod shorten;
 mod table;

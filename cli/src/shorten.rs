@@ -1,10 +1,10 @@
 //! The ways of striking, each asked of the library.
 
-use crate::answer::{Claim, Shortened, Way};
+use crate::answer::{Claim, Shortened, Tally, Way};
 use crate::failure::Failure;
 use crate::input::Lodged;
-use crate::library::{self, Reduction, Refusal};
-use std::cmp::Ordering;
+use crate::library::{self, Reduction};
+use crate::reply::NoAnswer;
 
 /// Which way of striking is asked for.
 #[derive(Clone, Copy, Debug, PartialEq)]
@@ -17,21 +17,31 @@ pub enum Asked {
 }
 
 pub fn shorten(lodged: &Lodged, asked: Asked) -> Result<Shortened, Failure> {
-    let Lodged { sheet, job, .. } = lodged;
     let tally = lodged.check()?;
-    let answered = answer(sheet, &job.list, asked).map_err(|refusal| lodged.refused(refusal));
-    let (reduction, way) = answered?;
-    let marked = library::marks(sheet, &job.list).map_err(|refusal| lodged.refused(refusal))?;
+    shortened(&lodged.sheet, &lodged.job.list, asked, tally).map_err(|it| lodged.unanswered(it))
+}
+
+/// A valid list of this tally, shortened.
+fn shortened(
+    sheet: &[u32],
+    list: &[u32],
+    asked: Asked,
+    lodged: Tally,
+) -> Result<Shortened, NoAnswer> {
+    let (reduction, way) = answer(sheet, list, asked)?;
+    let marks = library::marks(sheet, list)?;
+    let (moves, saved) = library::moves(sheet, list, &reduction.mask, &marks)?;
     Ok(Shortened {
         way,
-        kept: reduction.kept,
-        marked,
-        lodged: tally,
+        moves,
+        list: reduction.list,
+        lodged,
         left: reduction.tally,
+        saved,
     })
 }
 
-fn answer(sheet: &[u32], list: &[u32], asked: Asked) -> Result<(Reduction, Way), Refusal> {
+fn answer(sheet: &[u32], list: &[u32], asked: Asked) -> Result<(Reduction, Way), NoAnswer> {
     Ok(match asked {
         Asked::Licence => {
             let (reduction, claim) = library::license(sheet, list)?;
@@ -40,20 +50,21 @@ fn answer(sheet: &[u32], list: &[u32], asked: Asked) -> Result<(Reduction, Way),
         Asked::Exact => (library::exact(sheet, list)?, Way::Exact),
         Asked::Greedy => (library::greedy(sheet, list)?, Way::Greedy),
         Asked::Eliminate => (library::eliminate(sheet, list)?, Way::Eliminate),
-        Asked::Cheaper => (cheaper(sheet, list)?, Way::Cheaper),
+        Asked::Cheaper => (library::cheaper(sheet, list)?, Way::Cheaper),
     })
 }
 
-/// The cheaper of both eliminations, then the shorter, then plain elimination's.
-fn cheaper(sheet: &[u32], list: &[u32]) -> Result<Reduction, Refusal> {
-    let [plain, greedy] = [
-        library::eliminate(sheet, list)?,
-        library::greedy(sheet, list)?,
-    ];
-    Ok(match library::compare(plain.tally, greedy.tally) {
-        Ordering::Less | Ordering::Equal => plain,
-        Ordering::Greater => greedy,
-    })
+/// What must be told of a list left whatever is printed of it: that it is not known whether it may be
+/// lodged.
+pub fn notice(way: Way) -> Option<String> {
+    match way {
+        Way::Licence(Claim::Open(unmarked)) => Some(format!(
+            "it is not known whether the list left may be lodged: {unmarked} of its moves are unmarked, and one of \
+             them could perhaps still be struck"
+        )),
+        Way::Licence(Claim::Least | Claim::Irreducible) => None,
+        Way::Exact | Way::Greedy | Way::Eliminate | Way::Cheaper => None,
+    }
 }
 
 /// What is proved of the list left, as a sentence or two.

@@ -1,6 +1,6 @@
 //! A list that was shortened, as a table for people.
 
-use crate::answer::{Outcome, Shortened};
+use crate::answer::{Move, Outcome, Shortened};
 use crate::job::Job;
 use crate::shorten::claim;
 use crate::task::{Action, Task};
@@ -31,7 +31,7 @@ pub fn table(job: &Job, shortened: &Shortened, style: Style) -> String {
     let tallies = [
         ("lodged", shortened.lodged),
         ("kept", shortened.left),
-        ("saved", shortened.saved()),
+        ("saved", shortened.saved),
     ];
     text.push('\n');
     for (what, tally) in tallies {
@@ -58,14 +58,13 @@ fn rows(job: &Job, shortened: &Shortened, style: Style) -> String {
         task: &job.task,
         name: widest(&mut actions.clone().map(|it| width(&shown(&it.name))), NAME),
         price: widest(
-            &mut actions.clone().map(|it| it.price.to_string().len()),
+            &mut shortened.moves.iter().map(|it| it.price.to_string().len()),
             PRICE,
         ),
         style,
     };
-    let rows = actions
-        .enumerate()
-        .map(|(index, action)| columns.row(index + 1, action, shortened.outcome(index)));
+    let rows = actions.zip(&shortened.moves).enumerate();
+    let rows = rows.map(|(index, (action, told))| columns.row(index + 1, action, told));
     let rows: String = rows.collect();
     columns.head() + &rows
 }
@@ -85,8 +84,9 @@ impl Columns<'_> {
     }
 
     /// The row of a move. What it does stands behind, where a terminal has room for it.
-    fn row(&self, position: usize, action: &Action, outcome: Outcome) -> String {
-        let (name, price) = (padded(&shown(&action.name), self.name), action.price);
+    fn row(&self, position: usize, action: &Action, told: &Move) -> String {
+        let name = padded(&shown(&action.name), self.name);
+        let Move { price, outcome, .. } = *told;
         let price_width = self.price;
         let mut row = format!("{position:>4}  {name}  {price:>price_width$}  {outcome:<6}");
         let does = effects(action, self.task);

@@ -13,10 +13,11 @@ pub use origin::{Form, Origin, Part, Spot};
 use crate::answer::Tally;
 use crate::failure::Failure;
 use crate::job::{self, Job};
-use crate::library::{self, NoWords, Refusal};
+use crate::library;
 use crate::options::STANDARD;
 use crate::planner;
 use crate::refusal;
+use crate::reply::{NoAnswer, NoWords};
 use crate::sheet;
 use content::{content, text, with_line_ends, Content};
 use named::named;
@@ -74,17 +75,22 @@ impl Lodged {
             return Err(Failure::unread(message));
         }
         let tally = library::check_list(&self.sheet, &self.job.list);
-        tally.map_err(|refusal| self.refused(refusal))
+        tally.map_err(|it| self.unanswered(it))
     }
 
-    pub fn refused(&self, refusal: Refusal) -> Failure {
-        refusal::of_list(refusal, self)
+    /// Why the library gives no answer of the list.
+    pub fn unanswered(&self, why: NoAnswer) -> Failure {
+        match why {
+            NoAnswer::Refused(refusal) => refusal::of_list(refusal, self),
+            NoAnswer::Unknown(words) => words.into(),
+        }
     }
 
     /// Sheet and list in the program's form: the list's length stands between them.
-    pub fn bytes(&self) -> Vec<u8> {
+    pub fn bytes(&self) -> Result<Vec<u8>, Failure> {
         let length = [self.job.list.len() as u32];
-        library::pack(&[&self.sheet[..], &length, &self.job.list].concat())
+        let words = [&self.sheet[..], &length, &self.job.list].concat();
+        Ok(library::pack(&words)?)
     }
 }
 
@@ -140,15 +146,15 @@ fn read_job(file: &File) -> Result<Lodged, Failure> {
 }
 
 fn read_words(name: &str, text: &[u8]) -> Result<Lodged, Failure> {
-    let words = library::read_words(text).map_err(|why| Failure::unread(no_words(name, &why)))?;
+    let words = library::read_words(text).map_err(|why| no_words(name, why))?;
     open(
         Origin::new(name, Form::Words(text.to_vec())),
-        &library::pack(&words),
+        &library::pack(&words)?,
     )
 }
 
-fn no_words(name: &str, why: &NoWords) -> String {
-    match why {
+fn no_words(name: &str, why: NoWords) -> Failure {
+    let message = match why {
         NoWords::Field(line) => {
             format!("{name}:{line}: a word is expected, a whole number of 0 to 4294967295")
         }
@@ -156,14 +162,17 @@ fn no_words(name: &str, why: &NoWords) -> String {
             format!("{name}:{line}: more words than a sheet and its list have")
         }
         NoWords::TooLong => format!("{name}: a text of more than 1048576 bytes"),
-    }
+        NoWords::Unknown(words) => return words.into(),
+    };
+    Failure::unread(message)
 }
 
 /// Opens words in the program's form; their parts are called by their numbers.
 fn open(origin: Origin, bytes: &[u8]) -> Result<Lodged, Failure> {
     let (sheet, list) = match library::open(bytes) {
         Ok(parts) => parts,
-        Err(refusal) => return Err(refusal::of_form(refusal, bytes, origin)),
+        Err(NoAnswer::Refused(refusal)) => return Err(refusal::of_form(refusal, bytes, origin)),
+        Err(NoAnswer::Unknown(words)) => return Err(words.into()),
     };
     let unnamed = Job {
         list,
@@ -179,8 +188,9 @@ fn open(origin: Origin, bytes: &[u8]) -> Result<Lodged, Failure> {
 fn accept(sheet: Vec<u32>, job: Job, origin: Origin) -> Result<Lodged, Failure> {
     let lodged = Lodged { sheet, job, origin };
     match library::check_list(&lodged.sheet, &lodged.job.list) {
-        Err(refusal) if refusal.number != INVALID => Err(lodged.refused(refusal)),
-        _ => Ok(lodged),
+        Ok(_) => Ok(lodged),
+        Err(NoAnswer::Refused(refusal)) if refusal.number == INVALID => Ok(lodged),
+        Err(why) => Err(lodged.unanswered(why)),
     }
 }
 
@@ -189,8 +199,10 @@ const INVALID: u64 = 11;
 
 fn read_planner(file: &File, plan: Option<&File>) -> Result<Lodged, Failure> {
     let text = with_line_ends(&file.bytes);
-    let sheet =
-        library::translate(&text).map_err(|it| refusal::of_planner(it, file.name, &text))?;
+    let sheet = library::translate(&text).map_err(|why| match why {
+        NoAnswer::Refused(refusal) => refusal::of_planner(refusal, file.name, &text),
+        NoAnswer::Unknown(words) => words.into(),
+    })?;
     let names = planner::names(&text);
     let moves = plan.map_or(Ok(Vec::new()), |plan| read_plan(plan, &names.actions))?;
     let form = Form::Planner {

@@ -25,14 +25,14 @@ pub fn figure(contents: &Contents, number: usize, track: &Track) -> String {
     let levels = Levels::of(track.values(Span::whole(moves)));
     let labels = Labels::of(variable, &levels);
     let draw = |span, levels: &Levels| {
-        let (columns, kept) = (Columns::of(span, moves), &contents.shortened.kept);
+        let columns = Columns::of(span, moves);
         Strip {
             name: &variable.name,
             track,
             columns,
             levels,
             labels: &labels,
-            kept,
+            moves: &contents.shortened.moves,
         }
         .svg()
     };

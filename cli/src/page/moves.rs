@@ -4,7 +4,7 @@ use super::escape::{Grouped, Name};
 use super::facts::{blocks, change};
 use super::table::{cell, head, row, row_of, Table, POSITION};
 use super::Contents;
-use crate::answer::Outcome;
+use crate::answer::{self, Outcome};
 use crate::task::{Action, Task};
 
 /// What the words of the outcomes mean, in the style of the rows that have them.
@@ -22,27 +22,25 @@ struct Move<'a> {
     /// Its place in the lodged list, from 1.
     position: usize,
     action: &'a Action,
-    outcome: Outcome,
+    /// What the library tells of it.
+    told: &'a answer::Move,
     /// The state that the lodged list has reached before it.
     before: &'a [u32],
 }
 
 impl Move<'_> {
-    fn price(&self) -> u64 {
-        self.action.price.into()
+    fn price(&self) -> Grouped {
+        Grouped(self.told.price.into())
     }
 }
 
 fn moves<'a>(contents: &'a Contents) -> impl Iterator<Item = Move<'a>> {
-    let steps = contents
-        .list
-        .iter()
-        .zip(&contents.course.lodged)
-        .enumerate();
-    steps.map(|(index, (&number, before))| Move {
+    let lodged = contents.list.iter().zip(&contents.shortened.moves);
+    let steps = lodged.zip(&contents.course.lodged).enumerate();
+    steps.map(|(index, ((&number, told), before))| Move {
         position: index + 1,
         action: &contents.task.actions[number as usize],
-        outcome: contents.shortened.outcome(index),
+        told,
         before,
     })
 }
@@ -50,16 +48,12 @@ fn moves<'a>(contents: &'a Contents) -> impl Iterator<Item = Move<'a>> {
 /// The shortened list. Its positions are the lodged ones, so that both lists can be laid side by
 /// side.
 pub fn left(contents: &Contents) -> String {
-    let (mut rows, mut total) = (String::new(), 0);
-    for step in moves(contents).filter(|step| step.outcome != Outcome::Struck) {
-        total += step.price();
-        rows += &left_row(&step, total);
-    }
+    let kept = moves(contents).filter(|step| !step.told.is_struck());
     let tally = contents.shortened.left;
     let table = Table {
         attributes: r#"class="left""#,
         columns: &[POSITION, "Move", "Price", "Total"],
-        rows,
+        rows: kept.map(|step| left_row(&step)).collect(),
         sums: row(&[
             cell(""),
             head(tally.so_many()),
@@ -74,12 +68,13 @@ pub fn left(contents: &Contents) -> String {
     )
 }
 
-fn left_row(step: &Move, total: u64) -> String {
+/// Behind the price stands what the list left has come to with this move.
+fn left_row(step: &Move) -> String {
     row(&[
         cell(step.position),
         head(Name(&step.action.name)),
-        cell(Grouped(step.price())),
-        cell(Grouped(total)),
+        cell(step.price()),
+        cell(Grouped(step.told.left.price.into())),
     ])
 }
 
@@ -115,15 +110,15 @@ fn lodged_row(task: &Task, step: &Move) -> String {
         .map(|&effect| change(task, effect, step.before));
     let cells = [
         cell(step.position),
-        match step.outcome {
+        match step.told.outcome {
             Outcome::Struck => head(format_args!("<s>{name}</s>")),
             Outcome::Kept | Outcome::Marked => head(name),
         },
-        cell(Grouped(step.price())),
+        cell(step.price()),
         cell(blocks(changes)),
-        cell(step.outcome),
+        cell(step.told.outcome),
     ];
-    row_of(step.outcome, &cells)
+    row_of(step.told.outcome, &cells)
 }
 
 #[cfg(test)]

@@ -1,7 +1,7 @@
 //! A small job for the tests of the page: a gate is lifted, dropped for nothing, and lifted again.
 
 use super::Contents;
-use crate::answer::{Claim, Course, Shortened, Tally, Way};
+use crate::answer::{Claim, Course, Move, Outcome, Shortened, Tally, Way};
 use crate::task::{Action, Fact, Task, Variable};
 
 pub struct Sample {
@@ -19,16 +19,16 @@ impl Sample {
             list: vec![0, 1, 2, 3],
             shortened: Shortened {
                 way: Way::Licence(Claim::Least),
-                kept: vec![false, false, true, true],
-                marked: vec![false, false, true, false],
-                lodged: Tally {
-                    price: 1012,
-                    moves: 4,
-                },
-                left: Tally {
-                    price: 1002,
-                    moves: 2,
-                },
+                moves: vec![
+                    told(7, Outcome::Struck, tally(0, 0)),
+                    told(3, Outcome::Struck, tally(0, 0)),
+                    told(1000, Outcome::Marked, tally(1000, 1)),
+                    told(2, Outcome::Kept, tally(1002, 2)),
+                ],
+                list: vec![2, 3],
+                lodged: tally(1012, 4),
+                left: tally(1002, 2),
+                saved: tally(10, 2),
             },
             course: Course {
                 lodged: states([0, 1, 0, 1, 1]),
@@ -39,15 +39,16 @@ impl Sample {
 
     /// The same job with a list of no moves.
     pub fn empty() -> Sample {
-        let nothing = Tally { price: 0, moves: 0 };
+        let nothing = tally(0, 0);
         Sample {
             list: Vec::new(),
             shortened: Shortened {
                 way: Way::Licence(Claim::Least),
-                kept: Vec::new(),
-                marked: Vec::new(),
+                moves: Vec::new(),
+                list: Vec::new(),
                 lodged: nothing,
                 left: nothing,
+                saved: nothing,
             },
             course: Course {
                 lodged: states([0]),
@@ -79,6 +80,18 @@ impl Sample {
         for action in &mut self.task.actions {
             action.name = name.to_string();
         }
+    }
+}
+
+fn tally(price: u32, moves: u32) -> Tally {
+    Tally { price, moves }
+}
+
+fn told(price: u32, outcome: Outcome, left: Tally) -> Move {
+    Move {
+        price,
+        outcome,
+        left,
     }
 }
 

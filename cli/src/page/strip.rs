@@ -7,6 +7,7 @@ use super::columns::{Columns, GUTTER};
 use super::escape::Isolated;
 use super::levels::{Labels, Levels};
 use super::track::Track;
+use crate::answer::Move;
 
 /// Where the labels of the levels end.
 const LABEL_END: usize = GUTTER - 6;
@@ -32,8 +33,8 @@ pub struct Strip<'a> {
     pub columns: Columns,
     pub levels: &'a Levels,
     pub labels: &'a Labels<'a>,
-    /// Of each lodged move, whether it is kept.
-    pub kept: &'a [bool],
+    /// The lodged moves.
+    pub moves: &'a [Move],
 }
 
 impl Strip<'_> {
@@ -73,7 +74,7 @@ impl Strip<'_> {
         self.columns
             .span
             .positions()
-            .filter(move |&position| self.kept[position - 1] == kept)
+            .filter(move |&position| self.moves[position - 1].is_struck() != kept)
     }
 
     /// The columns of the struck moves.
@@ -190,7 +191,7 @@ mod tests {
             columns: Columns::of(Span { first, last }, sample.list.len()),
             levels: &levels,
             labels: &Labels::of(variable, &levels),
-            kept: &sample.shortened.kept,
+            moves: &sample.shortened.moves,
         };
         strip.svg()
     }

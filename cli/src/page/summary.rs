@@ -14,7 +14,7 @@ pub fn section(contents: &Contents) -> String {
         rows: [
             tally_row("Lodged", lodged),
             tally_row("Kept", left),
-            tally_row("Saved", contents.shortened.saved()),
+            tally_row("Saved", contents.shortened.saved),
         ]
         .concat(),
         sums: String::new(),

@@ -1,26 +1,33 @@
 //! Causes 8 to 12: what is wrong with a list.
 
-use super::quoted;
+use super::{out_of_table, quoted};
 use crate::failure::Failure;
 use crate::input::{Lodged, Part};
-use crate::library::{self, Refusal};
+use crate::library;
 use crate::limits::{MOST_MOVES, MOST_UNMARKED};
+use crate::reply::{NoAnswer, Refusal, Unknown};
 use crate::sheet;
 use crate::task::Fact;
 
 /// The refusal of a sheet or of a list.
 pub fn of_list(refusal: Refusal, lodged: &Lodged) -> Failure {
-    let place = refusal.place as usize;
-    let message = match refusal.number {
-        1..=7 => lodged.sheet_message(refusal),
-        8 => return lodged.too_long(refusal, lodged.job.list.len()),
-        9 => lodged.unknown_action(place - 1),
-        11 if place > lodged.job.list.len() => lodged.unmet_goal(),
-        11 => lodged.undoable(place - 1),
-        12 => lodged.unmarked(place),
-        _ => lodged.no_room(),
+    let (place, moves) = (refusal.place as usize, lodged.job.list.len());
+    let message = match (refusal.number, place) {
+        (1..=7, _) => return lodged.wrong_sheet(refusal),
+        (8, _) => return lodged.too_long(refusal, moves),
+        (9, 1..) if place <= moves => Ok(lodged.unknown_action(place - 1)),
+        (10, _) => Ok(lodged.no_room()),
+        (11, 1..) if place <= moves => lodged.undoable(place - 1),
+        (11, _) if place == moves + 1 => lodged.unmet_goal(),
+        (12, _) => Ok(lodged.unmarked(place)),
+        _ => return out_of_table(refusal),
     };
-    Failure::refused(refusal, message)
+    match message {
+        Ok(message) => Failure::refused(refusal, message),
+        // The library has refused this list, and does not refuse to tell its states.
+        Err(NoAnswer::Refused(other)) => out_of_table(other),
+        Err(NoAnswer::Unknown(words)) => words.into(),
+    }
 }
 
 impl Lodged {
@@ -63,30 +70,33 @@ impl Lodged {
     }
 
     /// The first move that can't be done, and what it lacks.
-    fn undoable(&self, move_at: usize) -> String {
+    fn undoable(&self, move_at: usize) -> Result<String, NoAnswer> {
         let action = self.job.list[move_at] as usize;
-        let lacks = self.lacks(&self.job.task.actions[action].needs, move_at);
+        let lacks = self.lacks(&self.job.task.actions[action].needs, move_at)?;
         let message = format!(
             "move {}, {}, can't be done: it needs {lacks}",
             move_at + 1,
             self.action(action)
         );
-        self.at(Part::Move(move_at), self.word_of(move_at), &message)
+        Ok(self.at(Part::Move(move_at), self.word_of(move_at), &message))
     }
 
-    fn unmet_goal(&self) -> String {
+    fn unmet_goal(&self) -> Result<String, NoAnswer> {
         let moves = self.job.list.len();
-        let lacks = self.lacks(&self.job.task.goal, moves);
+        let lacks = self.lacks(&self.job.task.goal, moves)?;
         let message = format!("the goal is not met after the last move: it asks for {lacks}");
-        self.at(Part::Goal, sheet::part(&self.sheet, 2).at, &message)
+        Ok(self.at(Part::Goal, sheet::part(&self.sheet, 2).at, &message))
     }
 
     /// Which facts do not hold after the first moves, and what holds instead.
-    fn lacks(&self, facts: &[Fact], moves: usize) -> String {
+    fn lacks(&self, facts: &[Fact], moves: usize) -> Result<String, NoAnswer> {
         let task = &self.job.task;
-        // The library has read this list, and each of these moves can be done: it has refused a later place.
-        let states = library::course(&self.sheet, &self.job.list).unwrap_or_default();
-        let values = &states[moves];
+        // Each of these moves can be done: the library has refused a later place.
+        let states = library::course(&self.sheet, &self.job.list)?;
+        let values = states.get(moves).ok_or_else(|| Unknown {
+            what: "a number of states that ends before the place of a refusal",
+            words: vec![states.len() as u64, moves as u64],
+        })?;
         let lacking = facts
             .iter()
             .filter(|it| values[it.variable] as usize != it.value);
@@ -101,6 +111,6 @@ impl Lodged {
             )
         });
         let told: Vec<String> = told.collect();
-        told.join("; ")
+        Ok(told.join("; "))
     }
 }

@@ -11,7 +11,9 @@ pub use lists::of_list;
 pub use sheets::of_form;
 pub use texts::of_planner;
 
+use crate::failure::Failure;
 use crate::input::{Lodged, Part, Spot};
+use crate::reply::{Refusal, Unknown};
 use crate::sheet;
 
 /// What was refused is told by the names that it has; where it has none, by its numbers.
@@ -30,6 +32,13 @@ impl Lodged {
     fn at(&self, part: Part, word: usize, message: &str) -> String {
         format!("{}: {message}", self.origin.at(Spot { part, word }))
     }
+}
+
+/// A refusal that no table has: its number is not told here, or there is no such place.
+fn out_of_table(Refusal { number, place }: Refusal) -> Failure {
+    let what = "a refusal whose number or place there is not";
+    let words = vec![number, place];
+    Unknown { what, words }.into()
 }
 
 /// A name as messages have it, with what a terminal should not see made visible.

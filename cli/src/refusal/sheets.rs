@@ -1,13 +1,14 @@
 //! Causes 1 to 7: what is wrong with a sheet.
 
 use super::lists::of_list;
+use super::out_of_table;
 use crate::failure::Failure;
 use crate::input::{Lodged, Origin, Part};
 use crate::job::Job;
-use crate::library::Refusal;
 use crate::limits::{
     MOST_ACTIONS, MOST_PRICE, MOST_VALUES, MOST_VARIABLES, MOST_WORDS, WORD_BYTES,
 };
+use crate::reply::Refusal;
 use crate::sheet::{self, Extent, EDITION, FIRST_ACTION, HEADER};
 
 /// The refusal of words in the program's form: that they are none, or that of their sheet where the
@@ -22,13 +23,16 @@ pub fn of_form(refusal: Refusal, bytes: &[u8], origin: Origin) -> Failure {
         return Failure::refused(refusal, message);
     }
     let length = sheet::length(&words);
+    let Some(sheet) = words.get(..length) else {
+        return out_of_table(refusal);
+    };
     let lodged = Lodged {
-        sheet: words[..length].to_vec(),
+        sheet: sheet.to_vec(),
         job: Job::default(),
         origin,
     };
     match refusal.number {
-        8 => lodged.too_long(refusal, words[length] as usize),
+        8 => lodged.too_long(refusal, sheet::word(&words, length) as usize),
         _ => of_list(refusal, &lodged),
     }
 }
@@ -57,9 +61,9 @@ fn form(words: &[u32], bytes: usize) -> String {
 
 impl Lodged {
     /// Why the library does not accept the sheet, and where that stands.
-    pub fn sheet_message(&self, refusal: Refusal) -> String {
-        let place = refusal.place as usize;
-        match refusal.number {
+    pub fn wrong_sheet(&self, refusal: Refusal) -> Failure {
+        let (place, actions) = (refusal.place as usize, sheet::actions(&self.sheet));
+        let message = match refusal.number {
             1 => self.at(Part::Whole, 0, &self.too_large()),
             2 => self.at(
                 Part::Whole,
@@ -70,11 +74,13 @@ impl Lodged {
                 ),
             ),
             3 => self.too_many(),
-            4 => self.wrong_pair(place),
-            5 => self.wrong_variable(place),
-            6 => self.wrong_fact(place),
-            _ => self.wrong_price(place),
-        }
+            4 if place < FIRST_ACTION + actions => self.wrong_pair(place),
+            5 if place < sheet::variables(&self.sheet) => self.wrong_variable(place),
+            6 if place < self.sheet.len() => self.wrong_fact(place),
+            7 if place < actions => self.wrong_price(place),
+            _ => return out_of_table(refusal),
+        };
+        Failure::refused(refusal, message)
     }
 
     fn too_large(&self) -> String {
@@ -217,7 +223,7 @@ impl Lodged {
         let message = format!(
             "{} costs {}; a price is at most {MOST_PRICE}",
             self.action(a),
-            self.sheet[word]
+            sheet::word(&self.sheet, word)
         );
         self.at(Part::Action(a), word, &message)
     }

@@ -1,7 +1,8 @@
 //! Causes 13 to 15: what is wrong with a planner's text.
 
+use super::out_of_table;
 use crate::failure::Failure;
-use crate::library::Refusal;
+use crate::reply::Refusal;
 
 /// The most bytes of a planner's text.
 const MOST_BYTES: usize = 65_536;
@@ -15,14 +16,15 @@ pub fn of_planner(refusal: Refusal, name: &str, text: &[u8]) -> Failure {
             let why = "not what the form of a translator's output (version 3) has here";
             format!("{name}:{line}: {why}: {}", quoted(text, line))
         }
-        (14, _) => {
+        (14, 1..) => {
             let why = "an axiom, a derived variable or an effect with a condition: a job sheet can't say it";
             format!("{name}:{line}: {why}: {}", quoted(text, line))
         }
-        _ => format!(
+        (15, _) => format!(
             "{name}: its task is too large for a job sheet, or has a variable twice in one group of facts; docs/SCOPE.md \
              has the limits"
         ),
+        _ => return out_of_table(refusal),
     };
     Failure::refused(refusal, message)
 }

@@ -11,6 +11,16 @@ mod times;
 
 use crate::failure::Failure;
 use crate::input::{read_files, File, Lodged};
+use crate::shorten::Asked;
+
+/// Every way of striking.
+const WAYS: [Asked; 5] = [
+    Asked::Licence,
+    Asked::Exact,
+    Asked::Greedy,
+    Asked::Eliminate,
+    Asked::Cheaper,
+];
 
 /// What reading these bytes gives.
 fn read(name: &'static str, bytes: &[u8]) -> Result<Lodged, Failure> {

@@ -1,7 +1,10 @@
 //! Each cause of refusal once, with its file, its line and its names.
 
 use super::{changed, read, said, SMALL};
-use crate::library::{self, Refusal};
+use crate::failure::Failure;
+use crate::library;
+use crate::refusal::{of_list, of_planner};
+use crate::reply::Refusal;
 use crate::shorten::{shorten, Asked};
 
 /// The words of a small sheet and its list: two variables, three actions, two moves.
@@ -34,7 +37,7 @@ fn says(old: &str, new: &str, line: usize, message: &str) {
     );
     let words = library::read_words(text.as_bytes()).expect("these are words");
     assert_eq!(
-        said("a", &library::pack(&words)),
+        said("a", &library::pack(&words).expect("there is room for them")),
         (1, format!("a: {message}"))
     );
 }
@@ -313,7 +316,53 @@ fn cause_10() {
         place: 1,
     };
     let message = "a.job: the answer has no room, which is a fault of hollchiku itself";
-    assert_eq!(lodged.refused(refusal).messages, [message]);
+    assert_eq!(of_list(refusal, &lodged).messages, [message]);
+}
+
+/// What is said where the library refuses as no table has it.
+fn out_of_table(number: u64, place: u64) -> (u8, Vec<String>) {
+    let message = format!(
+        "hollchiku: the library's answer can't be understood: a refusal whose number or place there is not ({number} \
+         {place}); this is a fault of hollchiku itself"
+    );
+    (2, vec![message])
+}
+
+#[test]
+fn refusals_of_a_list_that_no_table_has() {
+    let lodged = read("a.job", SMALL.as_bytes()).expect("this is a job");
+    let words = lodged.sheet.len() as u64;
+    let refusals = [
+        (0, 0),
+        (4, u64::MAX),
+        (5, 1),
+        (6, words),
+        (7, 1),
+        (9, 0),
+        (9, 2),
+        (11, 0),
+        (11, 3),
+        (11, u64::MAX),
+        (13, 1),
+        (16, 1),
+        (u64::MAX, 1),
+    ];
+    for (number, place) in refusals {
+        let Failure {
+            status, messages, ..
+        } = of_list(Refusal { number, place }, &lodged);
+        assert_eq!((status, messages), out_of_table(number, place));
+    }
+}
+
+#[test]
+fn refusals_of_a_text_that_no_table_has() {
+    for (number, place) in [(0, 0), (10, 1), (12, 1), (14, 0), (16, 1), (u64::MAX, 1)] {
+        let Failure {
+            status, messages, ..
+        } = of_planner(Refusal { number, place }, "a.sas", b"begin_version\n");
+        assert_eq!((status, messages), out_of_table(number, place));
+    }
 }
 
 #[test]

@@ -1,9 +1,9 @@
 //! Shortened lists as they are shown: as tables, as jobs, as plans.
 
-use super::{read, SMALL};
-use crate::answer::{Claim, Way};
+use super::{read, SMALL, WAYS};
+use crate::answer::{Claim, Move, Outcome, Tally, Way};
 use crate::input::{read_files, File, Lodged};
-use crate::shorten::{claim, shorten, Asked};
+use crate::shorten::{claim, notice, shorten, Asked};
 use crate::table::{filled, shown, table, Style};
 
 const PLAIN: Style = Style {
@@ -78,13 +78,7 @@ fn colours_and_effects_on_a_wide_terminal() {
 #[test]
 fn each_way_strikes() {
     let lodged = twice();
-    for asked in [
-        Asked::Licence,
-        Asked::Exact,
-        Asked::Greedy,
-        Asked::Eliminate,
-        Asked::Cheaper,
-    ] {
+    for asked in WAYS {
         let answered = shorten(&lodged, asked).expect("every valid list is answered");
         assert_eq!(
             (answered.left.price, answered.left.moves),
@@ -92,6 +86,29 @@ fn each_way_strikes() {
             "{asked:?}"
         );
     }
+}
+
+/// The numbers of a list are the library's, row by row.
+#[test]
+fn what_becomes_of_each_move() {
+    let answered = shorten(&twice(), Asked::Cheaper).expect("every valid list is answered");
+    let told = |price, outcome, left: [u32; 2]| {
+        let [left, moves] = left;
+        let left = Tally { price: left, moves };
+        Move {
+            price,
+            outcome,
+            left,
+        }
+    };
+    let due = [
+        told(5, Outcome::Struck, [0, 0]),
+        told(1, Outcome::Struck, [0, 0]),
+        told(5, Outcome::Kept, [5, 1]),
+    ];
+    assert_eq!(answered.moves, due);
+    assert_eq!(answered.list, [0]);
+    assert_eq!(answered.saved, Tally { price: 6, moves: 2 });
 }
 
 /// Of no other list it is said that it may be lodged.
@@ -108,6 +125,8 @@ fn what_may_be_lodged() {
     ];
     for (way, may_be) in ways {
         assert_eq!(claim(way).contains("It may be lodged."), may_be, "{way:?}");
+        let is_open = matches!(way, Way::Licence(Claim::Open(_)));
+        assert_eq!(notice(way).is_some(), is_open, "{way:?}");
     }
     assert!(claim(Way::Licence(Claim::Open(21))).contains("21 unmarked moves"));
 }

@@ -1,7 +1,7 @@
 //! The forms that answers have, told alike by the rules and by the makers of cases.
 
 use super::{Answer, Service};
-use crate::rules::{Kept, Licensed, Mask, Refusal, Values};
+use crate::rules::{Kept, Licensed, Mask, Moves, Refusal, Values};
 
 impl Answer {
     /// The number and the place are zero, and these counts stand behind them.
@@ -47,7 +47,7 @@ impl Answer {
         }
     }
 
-    /// The part of the output with this index.
+    /// The part of the output with this index, as far as there is room for it.
     pub fn showing(index: usize, part: &[u32]) -> Self {
         Answer {
             part: part.to_vec(),
@@ -75,6 +75,14 @@ impl Answer {
         Answer {
             states: states.concat(),
             ..Answer::accepted(&[states.len()])
+        }
+    }
+
+    /// A row for each move of a plan, and the tally of those that are struck.
+    pub fn moving(Moves { rows, saved }: Moves) -> Self {
+        Answer {
+            rows: rows.concat(),
+            ..Answer::accepted(&saved)
         }
     }
 

@@ -1,9 +1,10 @@
 //! The cases of a list, with the answer that is due where it is known by the way that the list was
 //! made.
 
-use super::{Answer, Case, Service};
+use super::{Answer, Case, Memory, Service};
 use crate::makers::{List, Walk};
-use crate::rules::{mask_of, Cause, Claim, Kept, Licensed, Values, MAX_UNMARKED};
+use crate::rules::{mask_of, Cause, Claim, Kept, Licensed, Moves, Values};
+use crate::rules::{MAX_UNMARKED, WORD_BITS};
 
 impl List {
     /// The lengths are those that the service needs.
@@ -14,13 +15,13 @@ impl List {
     }
 
     pub fn with_due(&self, case: Case) -> Case {
-        match self.due(case.call.service) {
+        match self.due(case.call.service, &case.lent) {
             Some(answer) => case.due(answer),
             None => case,
         }
     }
 
-    fn due(&self, service: Service) -> Option<Answer> {
+    fn due(&self, service: Service, lent: &Memory) -> Option<Answer> {
         let known = &self.known;
         let kept = |steps: &Option<Vec<usize>>| steps.as_ref().map(|steps| self.keeping(steps));
         match (service, known.unmarked) {
@@ -32,6 +33,7 @@ impl List {
                 let walk = Walk::of(self.task.clone(), &self.plan);
                 Some(walk.passing(walk.states.len()))
             }
+            (Service::Moves, Some(_)) => Some(self.moving(lent)),
             (Service::Marks, _) => {
                 let marked = known.marked.as_ref()?;
                 Some(Answer::marking(mask_of(marked.iter().copied())))
@@ -42,6 +44,10 @@ impl List {
                 let both = [kept(&known.eliminated)?, kept(&known.greedy)?];
                 Some(Answer::keeping_both(both))
             }
+            (Service::CheaperLeft, _) => {
+                let cheaper = self.cheaper()?;
+                Some(Answer::keeping(self.keeping(cheaper)))
+            }
             (Service::Exact, Some(many)) if many > MAX_UNMARKED => {
                 Some(Answer::refused(service, Cause::Unmarked.at(many)))
             }
@@ -49,6 +55,27 @@ impl List {
             (Service::License, _) => self.licensed().map(Answer::licensed),
             _ => None,
         }
+    }
+
+    /// The moves, with tallies that run along: of all, of those kept and of those struck.
+    fn moving(&self, lent: &Memory) -> Answer {
+        let bit = |mask: &[u64], step: usize| {
+            let word = mask.get(step / WORD_BITS).copied().unwrap_or(0);
+            (word >> (step % WORD_BITS)) as u32 & 1
+        };
+        let (mut tallies, mut rows) = ([0; 6], Vec::new());
+        for (step, &action) in self.plan.iter().enumerate() {
+            let (cost, kept) = (self.task.cost(action) as u32, bit(&lent.kept, step));
+            for at in [0, if kept == 1 { 2 } else { 4 }] {
+                tallies[at] += cost;
+                tallies[at + 1] += 1;
+            }
+            let [a, b, c, d, e, f] = tallies;
+            rows.push([cost, kept, bit(&lent.marked, step), a, b, c, d, e, f]);
+        }
+        let [.., cost, steps] = tallies.map(|it| it as usize);
+        let saved = [cost, steps];
+        Answer::moving(Moves { rows, saved })
     }
 
     fn keeping(&self, steps: &[usize]) -> Kept {

@@ -146,11 +146,12 @@ macro_rules! slices {
 
 // A site state is rolled forward where it is lent, and the end of a plan is told in words that
 // stand for nothing before. The room for the states along a plan is the caller's choice, as that of
-// the outputs is. Of two outputs, `first` is elimination's.
+// the outputs and of the rows of its moves is. Of two outputs, `first` is elimination's. Masks that
+// are read may have any number of words.
 slices! {
-    read words: u32, plan: u32, text: u8;
-    written state: u32 = 0, end: u32 = MAX_VARIABLES, states: u32 = 0, first: u32 = 0,
-        second: u32 = 0, part: u32 = 0, mask: u64 = MASK_WORDS, out: u64 = 0
+    read words: u32, plan: u32, text: u8, kept: u64, marked: u64;
+    written state: u32 = 0, end: u32 = MAX_VARIABLES, states: u32 = 0, rows: u32 = 0,
+        first: u32 = 0, second: u32 = 0, part: u32 = 0, mask: u64 = MASK_WORDS, out: u64 = 0
 }
 
 impl Memory {

@@ -7,7 +7,7 @@
 
 use super::{Answer, Memory, WRITTEN};
 use crate::rules::{self, passes, search, Cause, Lodged, Refusal, State, Tally, Way};
-use crate::rules::{MAX_VARIABLES, VARIABLES_WORD};
+use crate::rules::{MAX_VARIABLES, MOVE_WORDS, VARIABLES_WORD};
 use std::cmp::Ordering;
 
 /// The outputs, whose lengths are the caller's choice.
@@ -122,6 +122,15 @@ services! {
         answers: &[0, 1, 2, 3, 4, 5, 6, 7, 8, 9],
         rule: |lent, _| rules::course(&lent.words, &lent.plan).map(|it| Answer::passing(&it)),
     }
+    Moves = hollchiku_moves(
+        words: u32, plan: u32, kept: u64, marked: u64, rows: u32; ; out: u64
+    ) {
+        out: &["refusal number", "place", "saved cost", "saved steps"],
+        answers: &[0, 1, 2, 3, 4, 5, 6, 7, 8, 9],
+        rule: |lent, _| {
+            rules::moves(&lent.words, &lent.plan, &lent.kept, &lent.marked).map(Answer::moving)
+        },
+    }
     TallyAdd = hollchiku_tally_add(; cost, steps, price; out: u64) {
         out: &["cost", "steps"],
         answers: &[TAKEN, LEFT],
@@ -162,6 +171,11 @@ services! {
             rules::cheaper(&lent.words, &lent.plan, outputs).map(Answer::keeping_both)
         },
     }
+    CheaperLeft = hollchiku_cheaper_left(words: u32, plan: u32, first: u32, mask: u64; ; out: u64) {
+        out: TALLIED,
+        answers: &[0, 1, 2, 3, 4, 5, 6, 7, 8, 9, 10, 11],
+        rule: |lent, _| going(lent, rules::cheaper_left, Answer::keeping),
+    }
     License = hollchiku_license(words: u32, plan: u32, first: u32, mask: u64; ; out: u64) {
         out: &["refusal number", "place", "cost", "steps", "claim", "open"],
         answers: &[0, 1, 2, 3, 4, 5, 6, 7, 8, 9, 10, 11],
@@ -177,7 +191,8 @@ services! {
         rule: |lent, numbers| {
             let outputs = [&lent.first[..], &lent.second[..]];
             let (index, part) = rules::kept_part(outputs, tallies(numbers));
-            Ok(Answer::showing(index, part))
+            let written = part.len().min(lent.part.len());
+            Ok(Answer::showing(index, &part[..written]))
         },
     }
     Translate = hollchiku_translate(text: u8, first: u32; ; out: u64) {
@@ -272,6 +287,7 @@ impl Service {
             FIRST => outputs[0],
             SECOND => outputs[1],
             "states" => room_for_states(words, plan),
+            "rows" => MOVE_WORDS * plan.len(),
             "out" => self.declared().out.len(),
             _ => needed,
         };

@@ -21,6 +21,11 @@ pub fn cheaper(words: &[u32], plan: &[u32], outputs: [usize; 2]) -> Result<[Kept
     Ok([Lodged::eliminated, Lodged::greedily_eliminated].map(|way| lodged.kept(way)))
 }
 
+/// What the cheaper of both keeps. Refusals 1 to 11.
+pub fn cheaper_left(words: &[u32], plan: &[u32], output: usize) -> Result<Kept, Refusal> {
+    Ok(Lodged::check(words, plan, &[output])?.kept(Lodged::cheaper_eliminated))
+}
+
 /// Which output is the cheaper one, as an index, and its kept part; ties are the first one's.
 pub fn kept_part(outputs: [&[u32]; 2], tallies: [Tally; 2]) -> (usize, &[u32]) {
     let chosen = usize::from(tallies[1] < tallies[0]);

@@ -16,13 +16,14 @@ use Rattle.sheet.specs.Limits.{limits}
 use Rattle.step.specs.Step.{Steps}
 use Rattle.step.proofs.StepTheorem.{step-theorem}
 use Rattle.course.specs.Course.{Courses}
+use Rattle.moves.specs.Moves.{Moves}
 use Rattle.landmark.specs.Marks.{Masks}
 use Rattle.translation.specs.declared.translate.Translated.{Translated}
 use Rattle.translation.specs.declared.translate.Translated.the-variants.{Refused, Written}
 use Rattle.translation.specs.Translation.{text-sheet, Translates}
 use Rattle.lent.specs.Words.{answer-words, tally-words, lent-state}
 use Rattle.lent.proofs.StoredLaws.{same-stored}
-use Rattle.exports.specs.Services.{Steps-lent, Checks-lent, Courses-lent, Marks-lent, Translate-lent, Translates-lent}
+use Rattle.exports.specs.Services.{Steps-lent, Checks-lent, Courses-lent, Moves-lent, Marks-lent, Translate-lent, Translates-lent}
 
 -- one step, written to lent words
 pub lent-steps : (w : List ℕ) (a : ℕ) (state state′ out out′ read values : List ℕ) (verdict : Verdict) → read ≡ lent-state state → Steps w read a verdict values
@@ -50,6 +51,12 @@ pub lent-course : (w l states states′ out out′ : List ℕ) (verdict : Verdic
     → out′ ≡ sets out 0 (answer-words (told verdict) ++ (count ∷ [])) → Courses-lent w l states states′ out out′
 lent-course w l states states′ out out′ verdict count courses answered =
     record { states-left = courses .states; answered = answered ∙ rw (courses .refusal, courses .counted) }
+
+-- the moves of a list, written to lent words
+pub lent-moves : (w l kept marked rows rows′ out out′ : List ℕ) (given : Answer) → Moves w l kept marked given rows rows′
+    → out′ ≡ sets out 0 (answer-words (told-answer given) ++ tally-words (told-tally given)) → Moves-lent w l kept marked rows rows′ out out′
+lent-moves w l kept marked rows rows′ out out′ given moves answered =
+    record { rows-left = moves .rows; answered = answered ∙ rw (moves .refusal, moves .tally) }
 
 -- the marks of a list, written to lent words
 pub lent-marks : (w l mask mask′ out out′ words : List ℕ) (verdict : Verdict) → Masks w l verdict words → mask′ ≡ sets mask 0 words

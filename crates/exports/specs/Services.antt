@@ -11,6 +11,7 @@ use Rattle.tally.specs.Tally.{nothing}
 use Rattle.mask.specs.Mask.{mask-length, mask-words}
 use Rattle.plan.specs.Checked.{plan-checks, lodged-tally, end-state, no-state}
 use Rattle.course.specs.Course.{course, course-checks}
+use Rattle.moves.specs.Moves.{all-rows, saved, moves-checks}
 use Rattle.landmark.specs.Marks.{marks}
 use Rattle.step.specs.Step.{step-checks, state-after}
 use Rattle.translation.specs.Translation.{text-sheet, translation-checks}
@@ -33,14 +34,23 @@ pub record Check-lent (t : Option Told) (w l state state′ out out′ : List �
 abbrev pub Checks-lent : List ℕ → List ℕ → List ℕ → List ℕ → List ℕ → List ℕ → Type 0
 Checks-lent w l = Check-lent (answer (plan-checks w l)) w l
 
--- the states along a list over lent words, of checks that answer t: they over `states`, one behind the other, the answer
--- and how many they are over `out`
+-- the states along a list over lent words, of checks that answer t: they over `states`, one behind the other, the
+-- answer and how many they are over `out`
 pub record Course-lent (t : Option Told) (w l states states′ out out′ : List ℕ) : Type 0 where
   pub states-left : states′ ≡ unless-refused t (sets states 0 (flatten (course w l))) states
   pub answered : out′ ≡ sets out 0 (answer-words t ++ (unless-refused t (length (course w l)) 0 ∷ []))
 
 abbrev pub Courses-lent : List ℕ → List ℕ → List ℕ → List ℕ → List ℕ → List ℕ → Type 0
 Courses-lent w l = Course-lent (answer (course-checks w l)) w l
+
+-- the moves of a list over lent words, by the masks of what is kept and what is marked: their rows over `rows`, one
+-- behind the other, the answer and what is saved over `out`
+pub record Move-lent (t : Option Told) (w l kept marked rows rows′ out out′ : List ℕ) : Type 0 where
+  pub rows-left : rows′ ≡ unless-refused t (sets rows 0 (all-rows w l kept marked)) rows
+  pub answered : out′ ≡ sets out 0 (answer-words t ++ tally-words (unless-refused t (saved w l kept) nothing))
+
+abbrev pub Moves-lent : List ℕ → List ℕ → List ℕ → List ℕ → List ℕ → List ℕ → List ℕ → List ℕ → Type 0
+Moves-lent w l = Move-lent (answer (moves-checks w l)) w l
 
 -- the marks of a list over lent words: their mask over `mask`, the answer over `out`
 pub record Mark-lent (t : Option Told) (w l mask mask′ out out′ : List ℕ) : Type 0 where

@@ -1,11 +1,11 @@
 // The services as a static library, for programs in other languages: C's names, slices and numbers alone. A slice is
 // passed as its pointer and then its length. Slices that are lent to be written overlap no other slice of the same
 // call: nothing checks that. What does not fit into a lent slice is dropped. Lent outputs, which a refusal leaves
-// untouched: `state` of `hollchiku_step`, `states`, `output`, `first` and `second`, `words` of `hollchiku_read_words` and
-// `hollchiku_open`, and `text` of `hollchiku_text_of`. Return channels, which every call writes, on a refusal with
-// document 01's zeros: `out`, `mask`, `part`, and `state` of `hollchiku_check_plan`. So are `bytes`, which no call
-// refuses, and `text` of `hollchiku_license_lines` and `hollchiku_shorten_lines`, where a refusal has its line. A slice
-// that is lent to be read is only read. forms: the forms that programs read and print.
+// untouched: `state` of `hollchiku_step`, `states`, `rows`, `output`, `first` and `second`, `words` of
+// `hollchiku_read_words` and `hollchiku_open`, and `text` of `hollchiku_text_of`. Return channels, which every call
+// writes, on a refusal with document 01's zeros: `out`, `mask`, `part`, and `state` of `hollchiku_check_plan`. So are
+// `bytes`, which no call refuses, and `text` of `hollchiku_license_lines` and `hollchiku_shorten_lines`, where a
+// refusal has its line. A slice that is lent to be read is only read. forms: the forms that programs read and print.
 mod forms;
 
 use access::put_all;
@@ -16,15 +16,18 @@ use landmark::marks::marks_mask;
 use lent::read_state;
 use lent::write_answer;
 use lent::write_counted;
+use lent::write_front;
 use lent::write_pair;
 use lent::write_verdict;
 use lent::write_wide;
+use moves::rows::plan_moves;
 use plan::check::check_plan;
 use refusal::Verdict;
 use sheet_check::check::check_sheet;
 use step::one::step;
 use striking::eliminate;
 use striking::eliminate_both;
+use striking::eliminate_cheaper;
 use striking::license_plan;
 use striking::minimise;
 use tally::Order;
@@ -32,6 +35,7 @@ use tally::Tally;
 use translation::translate::Translated;
 use translation::translate::translate;
 ghost use mathlib.Core.Path.{_≡_};
+ghost use Prim.Native.Nat.{min};
 ghost use lib.ListN.{length};
 ghost use lib.Seq.{sets};
 ghost use Rattle.refusal.specs.Check.{answer};
@@ -40,8 +44,10 @@ ghost use Rattle.sheet.specs.Causes.{sheet-checks};
 ghost use Rattle.elimination.specs.declared.single.Elimination.the-variants.{Plain, Greedy};
 ghost use Rattle.cheaper.specs.Cheaper.{cheaper-part};
 ghost use Rattle.lent.specs.Words.{answer-words, lent-tally, tally-words, order-number};
-ghost use Rattle.exports.specs.Services.{Steps-lent, Checks-lent, Courses-lent, Marks-lent, Translates-lent};
+ghost use Rattle.exports.specs.Services.{Steps-lent, Checks-lent, Courses-lent, Moves-lent};
+ghost use Rattle.exports.specs.Services.{Marks-lent, Translates-lent};
 ghost use Rattle.striking.specs.Strikes.{Eliminates-lent, Minimises-lent, Licenses-lent, Reduces-both-lent};
+ghost use Rattle.striking.specs.Strikes.{Cheaper-lent};
 ghost use Rattle.striking.specs.Statement.{Demand-three-lent, May-be-lodged-lent};
 
 // Checks a task: the number and the place of its refusal go to `out`, or 0 and 0.
@@ -123,9 +129,9 @@ pub extern "C" fn hollchiku_check_plan(
     write_answer(out, given);
 }
 
-// The states along a plan go to the front of `states`, one behind the other, each a value for each variable: the starting
-// values, and the state after each step, up to the first that can't be done. The number and the place of a refusal of
-// what is read, or 0 and 0, then how many states these are go to `out`.
+// The states along a plan go to the front of `states`, one behind the other, each a value for each variable: the
+// starting values, and the state after each step, up to the first that can't be done. The number and the place of a
+// refusal of what is read, or 0 and 0, then how many states these are go to `out`.
 #[no_mangle]
 pub extern "C" fn hollchiku_course(words: &[u32], plan: &[u32], states: &mut [u32], out: &mut [u64])
     ensures { λ _. ⌜ Courses-lent (now (words .entry)) (now (plan .entry))
@@ -135,6 +141,26 @@ pub extern "C" fn hollchiku_course(words: &[u32], plan: &[u32], states: &mut [u3
     let verdict = reached.verdict;
     let count = reached.count;
     write_counted(out, verdict, count);
+}
+
+// The moves of a plan: a row of nine words for each step goes to the front of `rows`, one behind the other: its cost; 1
+// where its bit in `kept` is one, else 0, and the same of `marked`; the cost and the number of all steps up to it, of
+// those kept among them, and of those struck. The number and the place of a refusal of what is read, or 0 and 0, then
+// the cost and the number of all struck steps go to `out`.
+#[no_mangle]
+pub extern "C" fn hollchiku_moves(
+    words: &[u32],
+    plan: &[u32],
+    kept: &[u64],
+    marked: &[u64],
+    rows: &mut [u32],
+    out: &mut [u64],
+)
+    ensures { λ _. ⌜ Moves-lent (now (words .entry)) (now (plan .entry)) (now (kept .entry)) (now (marked .entry))
+        (now (rows .entry)) (now (rows .exit)) (now (out .entry)) (now (out .exit)) ⌝ }
+{
+    let given = plan_moves(words, plan, kept, marked, rows);
+    write_answer(out, given);
 }
 
 // Marks the landmarks of a plan: the four words of their mask go to the lent mask, the number and the place of a
@@ -183,6 +209,22 @@ pub extern "C" fn hollchiku_greedy(
         (now (out .entry)) (now (out .exit)) ⌝ }
 {
     eliminate(words, plan, output, mask, out, Elimination::Greedy);
+}
+
+// What the cheaper elimination leaves (lower cost, then fewer steps, then elimination's), in the same form.
+#[no_mangle]
+pub extern "C" fn hollchiku_cheaper_left(
+    words: &[u32],
+    plan: &[u32],
+    output: &mut [u32],
+    mask: &mut [u64],
+    out: &mut [u64],
+)
+    ensures { λ _. ⌜ Cheaper-lent (now (words .entry)) (now (plan .entry))
+        (now (output .entry)) (now (output .exit)) (now (mask .entry)) (now (mask .exit))
+        (now (out .entry)) (now (out .exit)) ⌝ }
+{
+    eliminate_cheaper(words, plan, output, mask, out);
 }
 
 // The minimal reduction, in the same form.
@@ -240,7 +282,7 @@ pub extern "C" fn hollchiku_cheaper(
     eliminate_both(words, plan, first, second, out);
 }
 
-// The kept part of the cheaper of two lists goes to the front of `part`; its length is returned.
+// The kept part of the cheaper of two lists goes to the front of `part`; how many words were written is returned.
 #[no_mangle]
 pub extern "C" fn hollchiku_kept_part<'a>(
     first: &'a [u32],
@@ -253,8 +295,8 @@ pub extern "C" fn hollchiku_kept_part<'a>(
 ) -> u64
     ensures part { λ _. ⌜ now (part .exit) ≡ sets (now (part .entry)) 0
         (cheaper-part (now (first .entry)) (now (second .entry)) (lent-tally cost steps) (lent-tally other others)) ⌝ }
-    ensures length { λ r. ⌜ r ≡ length
-        (cheaper-part (now (first .entry)) (now (second .entry)) (lent-tally cost steps) (lent-tally other others)) ⌝ }
+    ensures written { λ r. ⌜ r ≡ min (length (now (part .entry))) (length
+        (cheaper-part (now (first .entry)) (now (second .entry)) (lent-tally cost steps) (lent-tally other others))) ⌝ }
 {
     let kept = kept_part(
         first,
@@ -265,8 +307,7 @@ pub extern "C" fn hollchiku_kept_part<'a>(
             steps: others,
         },
     );
-    put_all(part, kept);
-    kept.len() as u64
+    write_front(part, kept) as u64
 }
 
 // Reads a planner's text into a sheet: its words go to `output`; the number and the place of its refusal, or 0 and 0,

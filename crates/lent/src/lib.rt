@@ -1,4 +1,5 @@
 // Answers and states in lent words. What does not fit is dropped, and words past what is written stay.
+use access::put_all;
 use access::put64;
 use access::word;
 use mask::Mask;
@@ -8,8 +9,9 @@ use sheet::limits::Sheet;
 use step::state::State;
 use tally::Tally;
 ghost use mathlib.Core.Path.{_≡_};
-ghost use Prim.Native.Nat.{_<_, _^_};
+ghost use Prim.Native.Nat.{min, _<_, _^_};
 ghost use mathlib.Core.List.{[], _∷_, _++_};
+ghost use lib.ListN.{length};
 ghost use lib.Seq.{sets};
 ghost use Rattle.refusal.specs.Refusal.{told};
 ghost use Rattle.plan.specs.Checked.{told-answer, told-tally};
@@ -102,6 +104,18 @@ pub fn write_wide(out: &mut [u64], values: &[u64])
         put64(out, i, values[i]);
         i += 1;
     }
+}
+
+// Writes words from the first on. Returns how many were written: all, or as many as there is room for.
+pub fn write_front(out: &mut [u32], values: &[u32]) -> usize
+    ensures words { λ _. ⌜ now (out .exit) ≡ sets (now (out .entry)) 0 (now (values .entry)) ⌝ }
+    ensures written { λ r. ⌜ r ≡ min (length (now (out .entry))) (length (now (values .entry))) ⌝ }
+{
+    put_all(out, values);
+    if out.len() < values.len() {
+        return out.len();
+    }
+    values.len()
 }
 
 // The state that the first words are.

@@ -13,6 +13,7 @@ use Rattle.mask.specs.Mask.{mask-length, mask-words}
 use Rattle.reduced.specs.Reduced.{reduction-checks, tally-left, output-left}
 use Rattle.elimination.specs.declared.single.Elimination.{Elimination}
 use Rattle.elimination.specs.Eliminations.{elimination-of, greedy-elimination-of, left-by}
+use Rattle.cheaper.specs.Cheaper.{cheaper-of}
 use Rattle.minimal.specs.Minimised.{most-unmarked, minimal-checks, minimal-of}
 use Rattle.claim.specs.declared.answer.Claim.{Claim}
 use Rattle.claim.specs.declared.answer.Claim.the-variants.{Least, Irreducible, Open}
@@ -32,6 +33,11 @@ abbrev pub Eliminates-lent : Elimination → List ℕ → List ℕ
     → List ℕ → List ℕ → List ℕ → List ℕ → List ℕ → List ℕ → Type 0
 Eliminates-lent by w l output =
     Answers-lent (answer (reduction-checks w l (length output))) w l (left-by by w l) output
+
+-- what the cheaper elimination leaves over lent words
+abbrev pub Cheaper-lent : List ℕ → List ℕ → List ℕ → List ℕ → List ℕ → List ℕ → List ℕ → List ℕ → Type 0
+Cheaper-lent w l output =
+    Answers-lent (answer (reduction-checks w l (length output))) w l (cheaper-of w l) output
 
 -- the minimal reduction over lent words
 abbrev pub Minimises-lent : List ℕ → List ℕ → List ℕ → List ℕ → List ℕ → List ℕ → List ℕ → List ℕ → Type 0

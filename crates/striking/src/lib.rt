@@ -1,5 +1,6 @@
 // The services that strike, over lent words: the list left, its mask and the answer go to lent slices.
 use cheaper::both::cheaper;
+use cheaper::left::cheaper_left;
 use claim::answer::Claim;
 use claim::license::license;
 use elimination::single::Elimination;
@@ -11,14 +12,14 @@ use minimal::reduce::minimal_reduction;
 ghost use mathlib.Core.Path.{_≡_};
 ghost use lib.Seq.{sets};
 ghost use Rattle.striking.specs.Strikes.{Eliminates-lent, Minimises-lent, claim-words, Licenses-lent};
-ghost use Rattle.striking.specs.Strikes.{Reduces-both-lent};
+ghost use Rattle.striking.specs.Strikes.{Reduces-both-lent, Cheaper-lent};
 ghost use Rattle.striking.specs.Statement.{Demand-three-lent, May-be-lodged-lent};
 
 // Where a claim stands, after the refusal's number and place and the tally.
 const CLAIM_AT: usize = 4;
 
-// Elimination, or greedy elimination: the kept action numbers go to the front of `output`, the four words of their mask to `mask`, and the
-// number and the place of a refusal, or 0 and 0, then the cost and the steps to `out`.
+// Elimination, or greedy elimination: the kept action numbers go to the front of `output`, the four words of their mask
+// to `mask`, and the number and the place of a refusal, or 0 and 0, then the cost and the steps to `out`.
 pub fn eliminate(
     words: &[u32],
     plan: &[u32],
@@ -32,6 +33,23 @@ pub fn eliminate(
         (now (out .entry)) (now (out .exit)) ⌝ }
 {
     let reduced = eliminate_plan(words, plan, output, by);
+    let given = reduced.answer;
+    write_reduced(mask, out, reduced.mask, given);
+}
+
+// What the cheaper elimination leaves, in the same form.
+pub fn eliminate_cheaper(
+    words: &[u32],
+    plan: &[u32],
+    output: &mut [u32],
+    mask: &mut [u64],
+    out: &mut [u64],
+)
+    ensures { λ _. ⌜ Cheaper-lent (now (words .entry)) (now (plan .entry))
+        (now (output .entry)) (now (output .exit)) (now (mask .entry)) (now (mask .exit))
+        (now (out .entry)) (now (out .exit)) ⌝ }
+{
+    let reduced = cheaper_left(words, plan, output);
     let given = reduced.answer;
     write_reduced(mask, out, reduced.mask, given);
 }

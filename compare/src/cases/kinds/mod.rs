@@ -16,9 +16,10 @@ mod step;
 mod tally;
 mod translator;
 
-use super::{taking_plan, Case, Service, FIRST, SECOND, WRITTEN};
+use super::{taking_plan, Case, Lent, Service, FIRST, SECOND, WRITTEN};
 use crate::makers::translator::faults as translator_faults;
 use crate::makers::{faults, List, Random, Task};
+use crate::rules::MASK_WORDS;
 
 /// Makes a case, unless the random task has no spot for it.
 type Make = fn(&mut Random) -> Option<Case>;
@@ -117,7 +118,12 @@ fn case_with(
             *length = random_length(random, *length);
         }
     }
-    Case::filled(service, words, plan, &lengths, || random.filler())
+    let mut case = Case::filled(service, words, plan, &lengths, || random.filler());
+    if service == Service::Moves {
+        case.lent.kept = random_mask(random);
+        case.lent.marked = random_mask(random);
+    }
+    case
 }
 
 /// The steps of a plan that greedy elimination doesn't take long over.
@@ -128,7 +134,7 @@ fn service_for_valid(random: &mut Random, steps: usize) -> Service {
     let service = random.pick(&taking_plan());
     let takes_long = matches!(
         service,
-        Service::Greedy | Service::Cheaper | Service::License
+        Service::Greedy | Service::Cheaper | Service::CheaperLeft | Service::License
     );
     if takes_long && steps > QUICK_STEPS && !random.once_in(32) {
         Service::Eliminate
@@ -148,6 +154,13 @@ impl List {
         let service = service_for_valid(random, self.plan.len());
         self.case(random, service)
     }
+}
+
+/// A mask of any bits, often with words missing or too many.
+fn random_mask(random: &mut Random) -> Lent<u64> {
+    let length = random_length(random, MASK_WORDS);
+    let words: Vec<u64> = (0..length).map(|_| random.filler()).collect();
+    Lent::of(words)
 }
 
 fn fillers(random: &mut Random, length: usize) -> Vec<u32> {

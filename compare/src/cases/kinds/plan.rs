@@ -1,4 +1,4 @@
-//! Plans: valid ones by walks, for the checker of plans and the states along them, and each way for a
+//! Plans: valid ones by walks, for the checker of plans, the states along them and their moves, and each way for a
 //! plan to be refused, for every service that takes a plan.
 
 use super::{plan_case, service_for_valid, Make};
@@ -40,16 +40,17 @@ const TOO_LONG: Refusal = Refusal {
 
 impl Walk {
     fn accepted(&self, random: &mut Random) -> Option<Case> {
-        let (service, answer) = match random.once_in(2) {
-            true => (Service::CheckPlan, self.answer()),
-            false => (Service::Course, self.passing(self.states.len())),
-        };
+        let service = random.pick(&[Service::CheckPlan, Service::Course, Service::Moves]);
         let case = plan_case(random, service, &self.task, &self.plan);
-        Some(case.due(answer))
+        Some(match service {
+            Service::CheckPlan => case.due(self.answer()),
+            Service::Course => case.due(self.passing(self.states.len())),
+            _ => case,
+        })
     }
 
     /// Spoils the walk and hands it to some service. Where a plan that is not valid is no refusal, the
-    /// states are those up to the step that fails.
+    /// states are those up to the step that fails, and its moves are told as those of a valid one.
     fn refused(
         mut self,
         random: &mut Random,
@@ -58,9 +59,10 @@ impl Walk {
         let refusal = spoil(&mut self, random)?;
         let service = random.pick(&taking_plan());
         let case = plan_case(random, service, &self.task, &self.plan);
-        Some(match service.refuses(refusal.cause) {
-            true => case.refused(refusal),
-            false => case.due(self.passing(refusal.place)),
+        Some(match service {
+            _ if service.refuses(refusal.cause) => case.refused(refusal),
+            Service::Course => case.due(self.passing(refusal.place)),
+            _ => case,
         })
     }
 }

@@ -9,7 +9,8 @@ mod texts;
 pub use sheets::{with_lamp_cost, SHEET_P};
 
 use super::{reducing, refusing, taking_plan, Answer, Case, Lent, Service, SECOND};
-use crate::rules::{Cause, Claim, Kept, Licensed, Mask, Values, MAX_UNMARKED, MAX_VARIABLES};
+use crate::rules::{Cause, Claim, Kept, Licensed, Mask, Moves, Values};
+use crate::rules::{MAX_UNMARKED, MAX_VARIABLES};
 use sheets::{dearest, gate_alone, two_ways, u_and_v, LAMP};
 
 /// A case with its name in a report of differences.
@@ -23,6 +24,7 @@ pub fn cases() -> Vec<Worked> {
     cases.extend(limits());
     cases.extend(steps());
     cases.extend(courses());
+    cases.extend(moves());
     cases.extend(tallies());
     cases.extend(reductions());
     cases.extend(refusals());
@@ -144,6 +146,45 @@ fn courses() -> Vec<Worked> {
     ]
 }
 
+/// The moves of list 1, of which the last three are kept and the drain is marked; with no words of
+/// masks; of a list that can't be done; of an empty one; and with room for a row and a half.
+fn moves() -> Vec<Worked> {
+    let in_p = |plan: &[u32], kept: &[u64], marked: &[u64]| {
+        let mut case = Case::fitting(Service::Moves, &SHEET_P, plan, [0; 2]);
+        case.lent.kept = Lent::of(kept);
+        case.lent.marked = Lent::of(marked);
+        case
+    };
+    let moving = |rows: &[_], saved| {
+        let rows = rows.to_vec();
+        Answer::moving(Moves { rows, saved })
+    };
+    let along_list_1 = [
+        [1, 0, 0, 1, 1, 0, 0, 1, 1],
+        [5, 0, 0, 6, 2, 0, 0, 6, 2],
+        [5, 0, 0, 11, 3, 0, 0, 11, 3],
+        [5, 1, 0, 16, 4, 5, 1, 11, 3],
+        [2, 1, 1, 18, 5, 7, 2, 11, 3],
+        [5, 1, 0, 23, 6, 12, 3, 11, 3],
+    ];
+    let of_list_1 = || in_p(&LIST_1, &[0b111000], &[0b010000]).due(moving(&along_list_1, [11, 3]));
+    let mut without_room = of_list_1();
+    without_room.lent.rows = Lent::of(vec![u32::MAX; 9 + 4]);
+    let struck = [[5, 0, 0, 5, 1, 0, 0, 5, 1], [5, 0, 0, 10, 2, 0, 0, 10, 2]];
+    let undoable = in_p(&[0, 0], &[], &[]).due(moving(&struck, [10, 2]));
+    let unknown = in_p(&[0, 0, 4], &[u64::MAX], &[0]).refused(Cause::UnknownAction.at(3));
+    vec![
+        ("moves, list 1", of_list_1()),
+        ("moves, no room", without_room),
+        (
+            "moves, list 4",
+            in_p(&[], &[1], &[1]).due(moving(&[], [0, 0])),
+        ),
+        ("moves, list 5, no masks", undoable),
+        ("moves, unknown action", unknown),
+    ]
+}
+
 fn tallies() -> Vec<Worked> {
     let of = |service, numbers| Case::without_sheet(service, 0).with_numbers(numbers);
     let add = |[cost, steps]: [u32; 2], more, after| {
@@ -195,6 +236,10 @@ fn list(
 ) -> Vec<Worked> {
     let [eliminated, greedy, left] = kept;
     let both = [eliminated.clone(), greedy.clone()];
+    let cheaper = match greedy.tally() < eliminated.tally() {
+        true => greedy.clone(),
+        false => eliminated.clone(),
+    };
     let marked: u32 = marks.iter().map(|word| word.count_ones()).sum();
     let unmarked = plan.len() - marked as usize;
     let has_few = unmarked <= MAX_UNMARKED;
@@ -215,6 +260,7 @@ fn list(
         (Service::Eliminate, Answer::keeping(eliminated)),
         (Service::Greedy, Answer::keeping(greedy)),
         (Service::Cheaper, Answer::keeping_both(both)),
+        (Service::CheaperLeft, Answer::keeping(cheaper)),
         (Service::Exact, exact),
         (Service::License, Answer::licensed(licensed)),
     ];
@@ -314,8 +360,8 @@ fn short_outputs() -> Vec<Worked> {
     cases
 }
 
-/// The parts shown for lists 7 and 8, for two alike, for fewer steps, after a refusal, and of an
-/// output that is shorter than its tally has steps.
+/// The parts shown for lists 7 and 8, for two alike, for fewer steps, after a refusal, of an output
+/// that is shorter than its tally has steps, and where there is no room for all of it.
 fn kept_parts() -> Vec<Worked> {
     let [first, second] = [vec![1, 5, 6], vec![0, 2]];
     let shown = |numbers, part: &[u32]| {
@@ -323,6 +369,8 @@ fn kept_parts() -> Vec<Worked> {
         let case = Case::of_parts([first.clone(), second.clone()], room);
         case.with_numbers(numbers).due(Answer::showing(0, part))
     };
+    let mut without_room = shown([4, 3, 9, 2], &[1, 5]);
+    without_room.lent.part = Lent::of([u32::MAX; 2]);
     vec![
         ("part, list 7", shown([9, 1, 1, 1], &[0])),
         ("part, list 8", shown([6, 1, 8, 2], &[1])),
@@ -330,5 +378,6 @@ fn kept_parts() -> Vec<Worked> {
         ("part, fewer steps", shown([4, 2, 4, 1], &[0])),
         ("part, refused", shown([0, 0, 0, 0], &[])),
         ("part, whole", shown([4, u32::MAX, 3, 3], &[0, 2])),
+        ("part, no room", without_room),
     ]
 }

@@ -4,6 +4,7 @@ mod course;
 mod exact;
 mod license;
 mod marks;
+mod moves;
 
 use crate::cases::{Answer, Call, Lent, Memory, Service};
 
@@ -19,9 +20,10 @@ fn fault(name: &'static str, answer: impl Fn(&Memory) -> Answer + 'static) -> Fa
 }
 
 /// The faults of each service that has faulty versions.
-pub fn all() -> [(Service, Vec<Fault>); 4] {
+pub fn all() -> [(Service, Vec<Fault>); 5] {
     [
         (Service::Course, course::faults()),
+        (Service::Moves, moves::faults()),
         (Service::Exact, exact::faults()),
         (Service::Marks, marks::faults()),
         (Service::License, license::faults()),

@@ -7,15 +7,18 @@ use Rattle.exports.proofs.hollchiku_kept_part.Tie as tie
 kept-part-requires : tie.Need-kept-part-requires
 kept-part-requires c κs = search needs
 
-put-all-requires : tie.Need-put-all-requires
-put-all-requires c κs = search needs
+write-front-requires : tie.Need-write-front-requires
+write-front-requires c κs = search needs
 
 same-length : tie.Need-same-length
 same-length c = search needs
 
 returns : tie.Need-returns
-returns c = (c .before .before .put-all .ensures ∙ rw (c .before .before .before .before .kept-part .ensures), rw (c .before .before .before .before .kept-part .ensures))
+returns c =
+    let kept = c .before .before .before .before .kept-part .ensures in
+    let writes = c .before .before .write-front .ensures in
+    (writes .0 ∙ rw kept, writes .1 ∙ rw kept)
 
 pub hollchiku-kept-part-spec : {M : Type 1} → statement M
 hollchiku-kept-part-spec =
-    tie.close (tie.spec kept-part-requires put-all-requires same-length returns)
+    tie.close (tie.spec kept-part-requires write-front-requires same-length returns)
