@@ -1,7 +1,6 @@
--- Demand 1 as one statement: "What is lent is only read. An output changes only on an answer, and only in its first
--- words, one for each kept move; a site state changes only where the done step writes. Each refusal comes under its
--- condition and no other, and leaves all lent words untouched." A field for each service says it of whatever the
--- service's contract allows. Assumes nothing.
+-- Demand 1 as one statement. docs/DEMANDS.md has the demand in full, with numbered clauses, and the comments here name
+-- those that a field says. A field for each service says them of whatever the service's contract allows, for lent words
+-- at any length and with anything in them (1.1). Assumes nothing.
 use Prim.Native.Nat.{ℕ, min, _≤_}
 use mathlib.Core.Path.{_≡_}
 use mathlib.Core.Logic.{_⊎_, _↔_}
@@ -45,16 +44,17 @@ pub record First-to-fire (checks : List Check) (t : Told) : Type 0 where
   pub fires : here .fires ≡ At (t .place)
   pub before-it : None-fires earlier
 
--- "Each refusal comes under its condition and no other": a service whose checks have these numbers, in this order,
--- refuses with t just where t is the number and the place of the first check that fires, and answers just where none
--- does
+-- each refusal comes under its condition and no other (1.5), of a service whose conditions are these checks
 pub record Refuses-just (numbers : List ℕ) (checks : List Check) (refusal : Option Told) : Type 0 where
+  -- 1.5: the checks have these numbers, in this order
   pub numbered : map (λ c. c .number) checks ≡ numbers
+  -- 1.5: it refuses with t just where t is the number and the place of the first check that fires
   pub refuses : (t : Told) → refusal ≡ some t ↔ First-to-fire checks t
+  -- 1.5: and answers just where none does
   pub answers : refusal ≡ none ↔ None-fires checks
 
--- "The sheet check has 1 to 7; one step 1 to 7, 9 and 11; list check and marks 1 to 9 and 11; the greedy services 1 to
--- 11; the exact reduction all."
+-- document 01: "The sheet check has 1 to 7; one step 1 to 7, 9 and 11; list check and marks 1 to 9 and 11; the greedy
+-- services 1 to 11; the exact reduction all."
 abbrev pub sheet-numbers : List ℕ
 sheet-numbers = 1 ∷ 2 ∷ 3 ∷ 4 ∷ 5 ∷ 6 ∷ 7 ∷ []
 
@@ -78,60 +78,63 @@ exact-numbers = greedy-numbers ++ (12 ∷ [])
 abbrev pub text-numbers : List ℕ
 text-numbers = 13 ∷ 13 ∷ 14 ∷ 15 ∷ 10 ∷ []
 
--- a lent output over which a service writes what the reduction m leaves of the list l: a refusal leaves all its words;
--- an answer changes its first words alone, one for each kept step, for which it has room
+-- a lent list output, over which a service writes what the reduction m leaves of the list l
 pub record Output-lent (refusal : Option Told) (l : List ℕ) (m : Reduction) (before after : List ℕ) : Type 0 where
+  -- 1.2 and 1.6: a refusal leaves all its words
   pub refused : (t : Told) → refusal ≡ some t → after ≡ before
+  -- 1.3: an answer changes its first words alone, as many as there are kept steps
   pub first-words : refusal ≡ none → after ≡ kept m l ++ drop (count m) before
+  -- 1.3: what is written there has a word for each kept step
   pub one-each : refusal ≡ none → length (kept m l) ≡ count m
+  -- 1.3: the output has room for them
   pub room : refusal ≡ none → count m ≤ length before
 
--- What is lent to be read no service can change, since the language lends it so; lent to be written are the state of
--- one step, the states along a list, the outputs of the services that strike, and that of the sheet of a text.
+-- What is lent to be read no service can change, since the language lends it so (1.1); lent to be written are the state
+-- of one step, the states along a list, the outputs of the services that strike, and that of the sheet of a text.
 pub record Demand-one : Type 0 where
-  -- the check of a sheet
+  -- 1.5: the check of a sheet
   pub sheet-check : (w : List ℕ) (verdict : Verdict) → told verdict ≡ answer (sheet-checks w)
       → Refuses-just sheet-numbers (sheet-checks w) (told verdict)
-  -- one step: the lent state changes only where a step that is done writes
+  -- 1.4, 1.5 and 1.6: one step
   pub one-step : (w before : List ℕ) (a : ℕ) (verdict : Verdict) (after : List ℕ) → Steps w before a verdict after
       → Refuses-just step-numbers (step-checks w before a) (told verdict)
       × After w before a (told verdict) after
-  -- the check of a list
+  -- 1.5: the check of a list
   pub list-check : (w l : List ℕ) (given : Answer) (state : List ℕ) → Checks (plan-checks w l) w l given state
       → Refuses-just list-numbers (plan-checks w l) (told-answer given)
-  -- the states along it: a refusal leaves the lent states; what an answer writes is `Courses`
+  -- 1.5 and 1.6: the states along it; what an answer writes is `Courses`
   pub course : (w l : List ℕ) (verdict : Verdict) (count : ℕ) (before after : List ℕ)
       → Courses w l verdict count before after
       → Refuses-just read-numbers (course-checks w l) (told verdict)
       × ((t : Told) → told verdict ≡ some t → after ≡ before)
-  -- its marks
+  -- 1.5: its marks
   pub marks : (w l : List ℕ) (verdict : Verdict) (mask : List ℕ) → Masks w l verdict mask
       → Refuses-just list-numbers (plan-checks w l) (told verdict)
-  -- elimination, or greedy elimination
+  -- 1.2, 1.3, 1.5 and 1.6: elimination, or greedy elimination
   pub elimination : (by : Elimination) (w l before : List ℕ) (given : Answer) (mask after : List ℕ)
       → Reduces w l (left-by by w l) before given mask after
       → Refuses-just greedy-numbers (reduction-checks w l (length before)) (told-answer given)
       × Output-lent (told-answer given) l (left-by by w l) before after
-  -- both eliminations, whose room is that of the shorter output
+  -- 1.2, 1.3, 1.5 and 1.6: both eliminations, whose room is that of the shorter output
   pub both-eliminations : (w l before before′ : List ℕ) (verdict : Verdict) (first second : Tally)
       (after after′ : List ℕ) → Reduces-both w l before before′ verdict first second after after′
       → Refuses-just greedy-numbers (reduction-checks w l (min (length before) (length before′))) (told verdict)
       × Output-lent (told verdict) l (elimination-of w l) before after
       × Output-lent (told verdict) l (greedy-elimination-of w l) before′ after′
-  -- the cheaper of both: the two outputs are lent to be read, and the part shown is the front of one of them
+  -- 1.1: the cheaper of both, to which the two outputs are lent to be read: the part shown is the front of one of them
   pub cheaper-shown : (first second : List ℕ) (of-first of-second : Tally) (part : List ℕ)
       → part ≡ cheaper-part first second of-first of-second
       → (part ≡ take (of-first .steps) first) ⊎ (part ≡ take (of-second .steps) second)
-  -- the exact reduction
+  -- 1.2, 1.3, 1.5 and 1.6: the exact reduction
   pub exact-reduction : (w l before : List ℕ) (r : Shortened) (after : List ℕ)
       → Minimises most-unmarked w l before r after
       → Refuses-just exact-numbers (minimal-checks most-unmarked w l (length before)) (told-answer (r .answer))
       × Output-lent (told-answer (r .answer)) l (minimal-of w l) before after
-  -- the licence, with the refusals of the eliminations
+  -- 1.2, 1.3, 1.5 and 1.6: the licence, with the refusals of the eliminations
   pub licence : (w l before : List ℕ) (r : Licensed) (after : List ℕ) → Licenses w l before r after
       → Refuses-just greedy-numbers (reduction-checks w l (length before)) (told-answer (r .told .answer))
       × Output-lent (told-answer (r .told .answer)) l (licensed-of w l) before after
-  -- a planner's text read into a sheet; what an answer writes is `Writes-sheet`
+  -- 1.5 and 1.6: a planner's text read into a sheet; what an answer writes is `Writes-sheet`
   pub planner-text : (text before : List ℕ) (r : Translated) (after : List ℕ) → Translates text before r after
       → Refuses-just text-numbers (translation-checks text (length before)) (told-translated r)
       × ((t : Told) → told-translated r ≡ some t → after ≡ before)
