@@ -32,7 +32,8 @@ use Rattle.claim.specs.Licensed.{licensed-of}
 use Rattle.sas.specs.Task.{Task}
 use Rattle.translation.specs.declared.translate.Translated.{Translated}
 use Rattle.translation.specs.declared.translate.Translated.the-variants.{Refused, Written}
-use Rattle.translation.specs.Translation.{text-task, task-checks, translation-checks, told-translated, Leaves}
+use Rattle.translation.specs.Translation.{told-translated}
+use Rattle.translation.specs.between.Checks.{text-task, task-checks, translation-checks, Leaves-task}
 use Rattle.demands.specs.One.{Output-lent, Demand-one}
 use Rattle.demands.specs.One.{sheet-numbers, step-numbers, read-numbers, list-numbers, greedy-numbers, exact-numbers, text-numbers}
 use Rattle.demands.proofs.FireLaws.{refuses-just}
@@ -70,7 +71,7 @@ unfolding translation-checks task-checks
 text-numbered text room = refl
 
 -- a text that is refused leaves the output
-refused-leaves : (T : Task) (before after : List ℕ) (r : Translated) → Leaves T before r after → (t : Told) → told-translated r ≡ some t → after ≡ before
+refused-leaves : (T : Task) (before after : List ℕ) (r : Translated) → Leaves-task T before r after → (t : Told) → told-translated r ≡ some t → after ≡ before
 refused-leaves T before after (Refused x) leaves t e = leaves
 refused-leaves T before after (Written n) leaves t e = absurd (let no-refusal : 0 ≡ 1 = ap refusals e in omega arith)
   where

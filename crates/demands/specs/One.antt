@@ -28,7 +28,8 @@ use Rattle.minimal.specs.Minimised.{most-unmarked, minimal-checks, minimal-of, 
 use Rattle.claim.specs.declared.answer.Licensed.{Licensed}
 use Rattle.claim.specs.Licensed.{licensed-of, Licenses}
 use Rattle.translation.specs.declared.translate.Translated.{Translated}
-use Rattle.translation.specs.Translation.{translation-checks, told-translated, Translates}
+use Rattle.translation.specs.Translation.{told-translated}
+use Rattle.translation.specs.between.Checks.{translation-checks, Answers-checks}
 
 -- none of these checks fires
 abbrev pub None-fires : List Check → Type 0
@@ -135,6 +136,6 @@ pub record Demand-one : Type 0 where
       → Refuses-just greedy-numbers (reduction-checks w l (length before)) (told-answer (r .told .answer))
       × Output-lent (told-answer (r .told .answer)) l (licensed-of w l) before after
   -- 1.5 and 1.6: a planner's text read into a sheet; what an answer writes is `Writes-sheet`
-  pub planner-text : (text before : List ℕ) (r : Translated) (after : List ℕ) → Translates text before r after
+  pub planner-text : (text before : List ℕ) (r : Translated) (after : List ℕ) → Answers-checks text before r after
       → Refuses-just text-numbers (translation-checks text (length before)) (told-translated r)
       × ((t : Told) → told-translated r ≡ some t → after ≡ before)

@@ -20,7 +20,7 @@ use Rattle.moves.specs.Moves.{Moves}
 use Rattle.landmark.specs.Marks.{Masks}
 use Rattle.translation.specs.declared.translate.Translated.{Translated}
 use Rattle.translation.specs.declared.translate.Translated.the-variants.{Refused, Written}
-use Rattle.translation.specs.Translation.{text-sheet, Translates}
+use Rattle.translation.specs.between.Checks.{text-sheet, Answers-checks}
 use Rattle.lent.specs.Words.{answer-words, tally-words, lent-state}
 use Rattle.lent.proofs.StoredLaws.{same-stored}
 use Rattle.exports.specs.Services.{Steps-lent, Checks-lent, Courses-lent, Moves-lent, Marks-lent, Translate-lent, Translates-lent}
@@ -72,15 +72,15 @@ stored-front s before after room front rest =
     ∙ sym (sets-eq s before 0 (omega arith) ∙ ap (λ k. s ++ drop k before) (zero-add (length s)))
 
 -- what reading a planner's text has stored, by its answer
-module _ (text output output′ out out′ : List ℕ) (r : Translated) (done : Translates text output r output′) where
+module _ (text output output′ out out′ : List ℕ) (r : Translated) (done : Answers-checks text output r output′) where
   pub text-refused : (x : Refusal) → r ≡ Refused x → out′ ≡ sets out 0 (answer-words (told (Refused-verdict x)) ++ (0 ∷ [])) → Translates-lent text output output′ out out′
   text-refused x is written =
-      let refuses : Translates text output (Refused x) output′ = rw is at done in
+      let refuses : Answers-checks text output (Refused x) output′ = rw is at done in
       subst (λ t. Translate-lent t (text-sheet text) output output′ out out′) (refuses .answers) (record { sheet-left = refuses .leaves; answered = written })
 
   pub text-written : (n : ℕ) → r ≡ Written n → out′ ≡ sets out 0 (answer-words (told Passed) ++ (n ∷ [])) → Translates-lent text output output′ out out′
   text-written n is written =
-      let writes : Translates text output (Written n) output′ = rw is at done in
+      let writes : Answers-checks text output (Written n) output′ = rw is at done in
       let counted : n ≡ length (text-sheet text) = writes .leaves .counted in
       let left : output′ ≡ sets output 0 (text-sheet text) =
       stored-front (text-sheet text) output output′ (rw counted at (writes .leaves .room)) (rw counted at (writes .leaves .sheet)) (rw counted at (writes .leaves .rest)) in

@@ -14,7 +14,7 @@ use Rattle.course.specs.Course.{course, course-checks}
 use Rattle.moves.specs.Moves.{all-rows, saved, moves-checks}
 use Rattle.landmark.specs.Marks.{marks}
 use Rattle.step.specs.Step.{step-checks, state-after}
-use Rattle.translation.specs.Translation.{text-sheet, translation-checks}
+use Rattle.translation.specs.between.Checks.{text-sheet, translation-checks}
 use Rattle.lent.specs.Words.{answer-words, tally-words, lent-state}
 
 -- one step over lent words: the state after it over `state`, of which 64 words are read and written, as far as there

@@ -19,7 +19,7 @@ use Rattle.sheet.specs.Limits.{limits}
 use Rattle.planner.specs.Text.{most-bytes}
 use Rattle.records.specs.RecordForm.{word-bytes}
 use Rattle.records.proofs.BytesTheorem.{all-bytes-length}
-use Rattle.translation.specs.Translation.{text-sheet, task-checks, translation-checks}
+use Rattle.translation.specs.between.Checks.{text-sheet, task-checks, translation-checks}
 use Rattle.translate.specs.Translate.{only-refuses, translated}
 
 -- where no check fires, the last does not

@@ -20,7 +20,8 @@ use Rattle.translate.specs.Answer.{Answer, only-writes, Gives}
 use Rattle.translate.proofs.SayLaws.{answers-writing, answers-as}
 use Rattle.translation.specs.declared.translate.Translated.{Translated}
 use Rattle.translation.specs.declared.translate.Translated.the-variants.{Refused, Written}
-use Rattle.translation.specs.Translation.{text-task, text-sheet, translation-checks, told-translated, Leaves, Translates}
+use Rattle.translation.specs.Translation.{told-translated}
+use Rattle.translation.specs.between.Checks.{text-task, text-sheet, translation-checks, Leaves-task, Answers-checks}
 use Rattle.translate.specs.Translate.{only-refuses, translated, translated-input}
 
 -- an answer in lent bytes, of which no more is said than a line has room for
@@ -41,7 +42,7 @@ unfolding translated
 translated-refusal text r fires = rw (translated, fires)
 
 -- what the service tells, with room for as many words as a sheet may have
-module _ (text before after : List ℕ) (given : Translated) (room : length before ≡ limits .words) (translates : Translates text before given after) where
+module _ (text before after : List ℕ) (given : Translated) (room : length before ≡ limits .words) (translates : Answers-checks text before given after) where
   told-in-room : told-translated given ≡ answer (translation-checks text (limits .words))
   told-in-room = translates .answers ∙ ap (λ n. answer (translation-checks text n)) room
 
@@ -55,7 +56,7 @@ module _ (text before after : List ℕ) (given : Translated) (room : length befo
   pub gives-sheet : {out out′ : List ℕ} {end : ℕ} (errors part : List ℕ) (n : ℕ) → given ≡ Written n → part ≡ take n after
       → Prints (all-bytes part) 0 out out′ end → Gives-line (translated text) out out′ errors errors (record { written = end; said = 0 })
   gives-sheet {out} {out′} {end} errors part n is front prints =
-      let left : Leaves (text-task text) before (Written n) after = subst (λ x. Leaves (text-task text) before x after) is (translates .leaves) in
+      let left : Leaves-task (text-task text) before (Written n) after = subst (λ x. Leaves-task (text-task text) before x after) is (translates .leaves) in
       let all : part ≡ text-sheet text = front ∙ left .sheet in
       line-as (translated-sheet text (sym told-in-room ∙ ap told-translated is))
       (answers-writing errors (subst (λ l. Prints (all-bytes l) 0 out out′ end) all prints), omega arith)

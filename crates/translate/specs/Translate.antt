@@ -11,7 +11,7 @@ use Rattle.sheet.specs.Limits.{limits}
 use Rattle.records.specs.Bytes.{all-bytes}
 use Rattle.program.specs.Printed.{refusal-line}
 use Rattle.translate.specs.Answer.{Answer, only-writes, only-says}
-use Rattle.translation.specs.Translation.{text-sheet, translation-checks}
+use Rattle.translation.specs.between.Checks.{text-sheet, translation-checks}
 
 -- a refusal: nothing is written, and its line is said
 abbrev pub only-refuses : Told → Answer

@@ -34,7 +34,7 @@ same-length c = search needs
 
 returns : tie.Need-returns
 returns c =
-    gives-refusal _ _ _ _ refl (c .before .before .before .before .before .before .before .before .translate .ensures) _ _
+    gives-refusal _ _ _ _ refl (c .before .before .before .before .before .before .before .before .translate .ensures .0) _ _
     (c .before .before .before .before .before .sheet .given .1) (c .before .before .put-refusal .ensures .0)
     (c .before .before .put-refusal .ensures .1)
 
@@ -43,7 +43,7 @@ same-length-2 c = search needs
 
 returns-2 : tie.Need-returns-2
 returns-2 c =
-    gives-sheet _ _ _ _ refl (c .before .before .before .before .before .before .before .before .before .before .translate .ensures) _ _ _
+    gives-sheet _ _ _ _ refl (c .before .before .before .before .before .before .before .before .before .before .translate .ensures .0) _ _ _
     (c .before .before .before .before .before .before .before .sheet2 .given .1)
     (c .before .before .before .before .front .ensures) (c .before .before .pack .ensures)
 
