@@ -51,7 +51,8 @@ pub record Told-of (t : Text) (room : ℕ) (refusal : Option Told) (sheet : List
   -- 14: a line that no sheet can say
   pub unsaid : (n : ℕ) → unsayable t ≡ At n → refusal ≡ some (record { number = 14; place = n })
   -- 15: "the sheet would break a limit or a rule of document 01"
-  pub no-sheet : unsayable t ≡ Nowhere → ((w : List ℕ) → Sheet-of t w → ⊥) → refusal ≡ some (record { number = 15; place = 0 })
+  pub no-sheet : unsayable t ≡ Nowhere → ((w : List ℕ) → Sheet-of t w → ⊥)
+      → refusal ≡ some (record { number = 15; place = 0 })
   -- then 10: its sheet has more words than there is room for
   pub no-room : unsayable t ≡ Nowhere → (w : List ℕ) → Sheet-of t w → room < length w
       → refusal ≡ some (record { number = 10; place = length w })
