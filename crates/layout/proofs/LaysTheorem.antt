@@ -3,7 +3,7 @@
 use Prim.Native.Nat.{ℕ, suc, _+_, _-_, _^_, _≤_, _<_}
 use native.Mathlib.Omega.{arith}
 use mathlib.Core.Path.{_≡_, refl, _∙_, ap}
-use mathlib.Core.Bool.{Bool, true, false, _&&_, and-eq-true-iff}
+use mathlib.Core.Bool.{Bool, true, false}
 use mathlib.Core.Option.{some}
 use mathlib.Core.List.{List, [], _∷_, _++_, append-assoc}
 use lib.ListN.{length, length-append}
@@ -11,7 +11,7 @@ use lib.Dec.{leb}
 use borrow.Author.Tests.{lt-ltb, leb-true, ne-eqb}
 use Rattle.ascii.specs.Bytes.{space, line-end}
 use Rattle.lines.specs.Lines.{numeral, spaced}
-use Rattle.lines.proofs.NumeralTheorem.{numeral-stands}
+use Rattle.lines.proofs.NumeralTheorem.{both, numeral-stands}
 use Rattle.ascii.specs.Bytes.{ascii-zero, ascii-nine, ascii-digit, all-digits, split}
 use Rattle.text.specs.Text.{comment-sign, word-from, word-of, fields, not-empty, fields-from, Words, in-front, read, reading}
 use Rattle.text.specs.between.Reading.{ends-field, after-blank, after-comment, field-left, after-field, read-field, all-in-front}
@@ -20,10 +20,6 @@ use Rattle.layout.specs.between.Lays.{Unbroken, Lays}
 use Rattle.layout.specs.between.Lays as lays
 use Rattle.text.proofs.TextLaws.{none-left-of-field, blank-at-line-end, comment-at-line-end, comment-on, blank-at-comment, blank-at-blank, field-at-other, after-field-at-other, blank-at-other, field-ends, goes-on}
 use Rattle.text.proofs.ReaderLaws.{read-next, all-in-front-words}
-
--- two tests that both hold
-both : (s t : Bool) → (s && t) ≡ true → (s ≡ true) × (t ≡ true)
-both s t e = and-eq-true-iff s t .0 e
 
 -- a word's numeral is read as the word
 numeral-word : (x : ℕ) → x < 2 ^ 32 → word-of (numeral x) ≡ some x

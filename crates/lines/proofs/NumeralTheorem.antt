@@ -15,7 +15,7 @@ use Rattle.lines.specs.Lines.{digit-sign, numeral-within, numeral}
 use Rattle.lines.proofs.NumeralLaws.{within-one, within-more}
 
 -- two tests that both hold
-both : (s t : Bool) → (s && t) ≡ true → (s ≡ true) × (t ≡ true)
+pub both : (s t : Bool) → (s && t) ≡ true → (s ≡ true) × (t ≡ true)
 both s t e = and-eq-true-iff s t .0 e
 
 -- a last digit

@@ -3,13 +3,14 @@
 use Prim.Native.Nat.{ℕ, zero, suc, _+_, _*_, _≤_, _<_, min}
 use native.Mathlib.Omega.{arith}
 use mathlib.Core.Path.{_≡_, refl, sym, _∙_, ap}
-use mathlib.Core.Bool.{Bool, true, false, not, cond, _&&_, false≢true, true≢false, and-eq-true-iff}
+use mathlib.Core.Bool.{Bool, true, false, not, cond, _&&_, false≢true, true≢false}
 use mathlib.Core.Option.{Option, none, some}
 use mathlib.Core.List.{List, [], _∷_, _++_, map, flatten, cons≢nil}
 use lib.ListN.{length, getD, drop}
 use lib.Dec.{eqb, ltb}
 use borrow.Author.Tests.{ne-eqb, eq-eqb, eqb-true, lt-ltb, le-ltb, ltb-true, ltb-false}
 use Rattle.sas.specs.Task.{Fact, Assignment}
+use Rattle.lines.proofs.NumeralTheorem.{both}
 use Rattle.fields.specs.between.Numbers.{most-number, any-value}
 use Rattle.fields.specs.between.Fields.{same, plain, all-plain, plain-but-old, line-reads, line-numbers}
 use Rattle.fields.proofs.ClassTheorem.{same-equal}
@@ -19,9 +20,6 @@ use Rattle.planner.specs.Text.{Change, Effect}
 use Rattle.planner.specs.Printed.{Line, numbers, fact-numbers, change-numbers, effect-numbers}
 use Rattle.printed_form.specs.between.Datum.{sat, Row-data, row-numbers, has-layer, count-barred, row-barred, row-adds, Datum, line, adds, keeps}
 use Rattle.printed_form.proofs.SignLaws.{Any, numbers-read, numbers-told, numbers-once, line-is, numbers-long}
-
-both : (s t : Bool) → (s && t) ≡ true → (s ≡ true) × (t ≡ true)
-both s t e = and-eq-true-iff s t .0 e
 
 -- each line of numbers has some
 row-any : (row : form.Row) (x : Row-data row) → Any (row-numbers row x)

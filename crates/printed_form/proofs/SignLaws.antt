@@ -3,7 +3,7 @@
 use Prim.Native.Nat.{ℕ, zero, suc, _-_, _≤_, _<_}
 use native.Mathlib.Omega.{arith}
 use mathlib.Core.Path.{_≡_, refl, sym, _∙_, ap}
-use mathlib.Core.Bool.{Bool, true, false, not, _&&_, _||_, false≢true, true≢false, and-eq-true-iff}
+use mathlib.Core.Bool.{Bool, true, false, not, _&&_, _||_, false≢true, true≢false}
 use mathlib.Core.Option.{Option, none, some}
 use mathlib.Core.List.{List, [], _∷_, _++_, map, nil≢cons, cons≢nil, head-eq-of-cons-eq, tail-eq-of-cons-eq}
 use lib.ListN.{length, length-append}
@@ -11,7 +11,7 @@ use lib.Dec.{eqb, ltb}
 use borrow.Author.Tests.{ne-eqb, eq-eqb, leb-true, ltb-true, ltb-false}
 use Rattle.ascii.specs.Bytes.{space, line-end, ascii-zero, ascii-digit, ends-line, all-digits, decimal-from}
 use Rattle.lines.specs.Lines.{numeral}
-use Rattle.lines.proofs.NumeralTheorem.{numeral-stands, numeral-once, High, numeral-high, numeral-zero, digit-numeral, decimal-numeral}
+use Rattle.lines.proofs.NumeralTheorem.{both, numeral-stands, numeral-once, High, numeral-high, numeral-zero, digit-numeral, decimal-numeral}
 use Rattle.fields.specs.between.Fields.{ends-word, words-of, same, is-number, minus-one, word-reads, word-number, all-read, line-reads, line-numbers}
 use Rattle.fields.specs.between.Fields as fields
 use Rattle.fields.proofs.ClassTheorem.{same-equal}
@@ -19,9 +19,6 @@ use Rattle.planner.specs.Printed.{number, numbers, joined}
 use Rattle.planner.specs.Broken.{One-line}
 use Rattle.printed_form.specs.between.Datum.{sat}
 use Rattle.printed_form.proofs.JoinLaws.{Free, All-free, Some-words, words-joined, joined-words, one-line}
-
-both : (s t : Bool) → (s && t) ≡ true → (s ≡ true) × (t ≡ true)
-both s t e = and-eq-true-iff s t .0 e
 
 -- a digit is none of a sign, a space and a line end
 digit-low : (b : ℕ) → ascii-digit b ≡ true → ascii-zero ≤ b

@@ -4,8 +4,8 @@ use native.Mathlib.Omega.{arith}
 use mathlib.Core.Path.{_≡_, refl, sym, _∙_, ap, subst}
 use mathlib.Core.Bool.{Bool, true, false, cond, false≢true}
 use mathlib.Core.Option.{Option, none, some}
-use mathlib.Core.List.{List, [], _∷_, _++_, map, map-append, flatten, append-assoc, append-nil}
-use lib.ListN.{length, getD, drop, length-append}
+use mathlib.Core.List.{List, [], _∷_, _++_, map, map-append, map-map, flatten, append-assoc, append-nil}
+use lib.ListN.{length, getD, drop, length-append, length-map}
 use lib.Dec.{eqb, ltb}
 use borrow.Author.Tests.{ne-eqb, lt-ltb}
 use Rattle.sas.specs.Task.{Fact, Assignment, Action, Task}
@@ -210,14 +210,6 @@ unfolding flatten
 singles f [] = refl
 singles f (c ∷ cs) = ap (λ r. f c ∷ r) (singles f cs)
 
-map-twice : {A B C : Type 0} (g : B → C) (f : A → B) (cs : List A) → map (λ c. g (f c)) cs ≡ map g (map f cs)
-map-twice g f [] = refl
-map-twice g f (c ∷ cs) = ap (λ r. g (f c) ∷ r) (map-twice g f cs)
-
-map-long : {A B : Type 0} (f : A → B) (cs : List A) → length (map f cs) ≡ length cs
-map-long f [] = refl
-map-long f (c ∷ cs) = ap suc (map-long f cs)
-
 -- a text that a sheet can say, part by part
 many-few : {A : Type 0} (f : A → List Line) → ((a : A) → 1 ≤ length (f a)) → (cs : List A) → length cs ≤ length (flatten (map f cs))
 unfolding flatten
@@ -302,7 +294,7 @@ module _ (t : Text) (values : length (t .state) ≡ length (t .variables)) (part
   count = sat-small n (parts .variables)
 
   ranges-are : flatten (map variable-tape (t .variables)) ≡ range-numbers
-  ranges-are = singles (λ v. sat-number (length (v .values))) (t .variables) ∙ map-twice sat-number (λ v. length (v .values)) (t .variables)
+  ranges-are = singles (λ v. sat-number (length (v .values))) (t .variables) ∙ sym (map-map sat-number (λ v. length (v .values)) (t .variables))
 
   starts-are : flatten (map value-tape (t .state)) ≡ start-numbers
   starts-are = singles sat-number (t .state)
@@ -312,10 +304,10 @@ module _ (t : Text) (values : length (t .state) ≡ length (t .variables)) (part
       ap (λ ys. ys ++ (flatten (map value-tape (t .state)) ++ goal-numbers)) ranges-are ∙ ap (λ ys. range-numbers ++ (ys ++ goal-numbers)) starts-are
 
   ranges-long : length range-numbers ≡ n
-  ranges-long = map-long sat-number (map (λ v. length (v .values)) (t .variables)) ∙ map-long (λ v. length (v .values)) (t .variables)
+  ranges-long = length-map (map (λ v. length (v .values)) (t .variables)) sat-number ∙ length-map (t .variables) (λ v. length (v .values))
 
   starts-long : length start-numbers ≡ n
-  starts-long = map-long sat-number (t .state) ∙ values
+  starts-long = length-map (t .state) sat-number ∙ values
 
   from-starts : drop (2 + n) x ≡ start-numbers ++ goal-numbers
   from-starts = ap (λ k. drop (2 + k) x) (sym ranges-long) ∙ behind x 2 range-numbers (start-numbers ++ goal-numbers) from-ranges

@@ -4,7 +4,7 @@ use Prim.Native.Nat.{ℕ, _≤_, _<_}
 use native.Mathlib.Omega.{arith}
 use mathlib.Core.Path.{_≡_, refl, sym, _∙_, ap, subst}
 use mathlib.Core.Bool.{Bool, true, _&&_, false≢true, and-eq-true-iff}
-use mathlib.Core.List.{List, [], _∷_, map}
+use mathlib.Core.List.{List, [], _∷_, map, map-id}
 use lib.ListN.{length, getD}
 use lib.Dec.{ltb, leb}
 use borrow.Author.Tests.{ltb-true, leb-true}
@@ -104,14 +104,10 @@ pub read-same : (T : Task) → length (T .initial) ≡ length (T .domains) → w
 read-same T complete can = task-tells sat-number (λ n low. sat-small n (omega arith)) T complete can
 
 -- and as they are
-map-same : {A : Type 0} (xs : List A) → map (λ x. x) xs ≡ xs
-map-same [] = refl
-map-same (x ∷ xs) = ap (λ ys. x ∷ ys) (map-same xs)
-
 action-same : (a : Action) → h-action (λ n. n) a ≡ a
 action-same a =
-    ap (λ ps. record { precondition = ps; effect = map (h-fact (λ n. n)) (a .effect); cost = a .cost }) (map-same (a .precondition))
-    ∙ ap (λ es. record { precondition = a .precondition; effect = es; cost = a .cost }) (map-same (a .effect))
+    ap (λ ps. record { precondition = ps; effect = map (h-fact (λ n. n)) (a .effect); cost = a .cost }) (map-id (a .precondition))
+    ∙ ap (λ es. record { precondition = a .precondition; effect = es; cost = a .cost }) (map-id (a .effect))
 
 actions-same : (p : List Action) → map (h-action (λ n. n)) p ≡ p
 actions-same [] = refl
@@ -119,10 +115,10 @@ actions-same (a ∷ p) = ap (λ b. b ∷ map (h-action (λ n. n)) p) (action-sam
 
 task-same : (T : Task) → h-task (λ n. n) T ≡ T
 task-same T =
-    ap (λ ds. record { domains = ds; actions = map (h-action (λ n. n)) (T .actions); initial = map (λ n. n) (T .initial); goal = map (h-fact (λ n. n)) (T .goal) }) (map-same (T .domains))
+    ap (λ ds. record { domains = ds; actions = map (h-action (λ n. n)) (T .actions); initial = map (λ n. n) (T .initial); goal = map (h-fact (λ n. n)) (T .goal) }) (map-id (T .domains))
     ∙ ap (λ p. record { domains = T .domains; actions = p; initial = map (λ n. n) (T .initial); goal = map (h-fact (λ n. n)) (T .goal) }) (actions-same (T .actions))
-    ∙ ap (λ s. record { domains = T .domains; actions = T .actions; initial = s; goal = map (h-fact (λ n. n)) (T .goal) }) (map-same (T .initial))
-    ∙ ap (λ g. record { domains = T .domains; actions = T .actions; initial = T .initial; goal = g }) (map-same (T .goal))
+    ∙ ap (λ s. record { domains = T .domains; actions = T .actions; initial = s; goal = map (h-fact (λ n. n)) (T .goal) }) (map-id (T .initial))
+    ∙ ap (λ g. record { domains = T .domains; actions = T .actions; initial = T .initial; goal = g }) (map-id (T .goal))
 
 pub exact-same : (T : Task) → length (T .initial) ≡ length (T .domains) → writable T ≡ true → sat-task T ≡ T
 exact-same T complete can =
