@@ -24,12 +24,12 @@ use Rattle.landmark.specs.Marks.{unmarked}
 use Rattle.elimination.specs.declared.single.Elimination.{Elimination}
 use Rattle.elimination.specs.Eliminations.{left-by}
 use Rattle.cheaper.specs.Cheaper.{cheaper-of}
-use Rattle.elimination.proofs.LeavesLaws.{left-valid}
+use Rattle.elimination.proofs.LeavesLaws.{rule-leaves, left-valid}
 use Rattle.cheaper.proofs.CheaperLaws.{cheaper-valid}
 use Rattle.cheaper.proofs.CheaperTheorem.{cheaper-no-dearer}
 use Rattle.minimal.specs.Minimised.{most-unmarked, minimal-of}
 use Rattle.minimal.specs.Statement.{Valid-striking}
-use Rattle.minimal.proofs.DemandThree.{valid-list, is-minimal}
+use Rattle.minimal.proofs.DemandThree.{valid-list, is-minimal, are-marks}
 use Rattle.claim.specs.declared.answer.Claim.{Claim}
 use Rattle.claim.specs.declared.answer.Claim.the-variants.{Least, Irreducible, Open}
 use Rattle.claim.specs.Licensed.{cheaper-list, claim-of, claimed-by, licensed-of}
@@ -128,7 +128,8 @@ module _ (w l : List ℕ) (readable : Readable w l) (plan : Plan (task w) (steps
         strongest = sym is;
         valid-left = valid-left;
         plan-left = reduced-plan (task w) (steps w l) (claimed-by claim w l) plan valid-left;
-        no-dearer = no-dearer;
+        no-dearer = λ by m leaves. subst (λ n. cost (kept (claimed-by claim w l) (steps w l)) ≤ cost (kept n (steps w l)))
+            (sym (rule-leaves w l (valid-list w l readable plan) by m .1 leaves)) (no-dearer by);
         claimed = claimed;
       })
 
@@ -142,4 +143,4 @@ module _ (w l : List ℕ) (readable : Readable w l) (plan : Plan (task w) (steps
           → Licence w l (claim-of w l) (licensed-of w l)
       by-case true e c f = licence-for Least (claims-least e) (least .valid) minimal-dear (least, nothing-left w l readable plan (minimal-of w l) least)
       by-case false e true f = licence-for Irreducible (claims-irreducible e f) both-valid both-dear both-nothing
-      by-case false e false f = licence-for (Open (unmarked w (cheaper-list w l))) (claims-open e f) cheaper-reduction cheaper-dear refl
+      by-case false e false f = licence-for (Open (unmarked w (cheaper-list w l))) (claims-open e f) cheaper-reduction cheaper-dear (refl, are-marks w (cheaper-list w l))

@@ -14,10 +14,10 @@ use Rattle.plan.specs.Valid.{steps}
 use Rattle.plan.specs.Readable.{Readable}
 use Rattle.plan.specs.Checked.{told-answer, told-tally}
 use Rattle.reduced.specs.Reduced.{tally-left}
-use Rattle.landmark.specs.Marks.{unmarked}
+use Rattle.landmark.specs.Marks.{marks, unmarked}
 use Rattle.elimination.specs.declared.single.Elimination.{Elimination}
-use Rattle.elimination.specs.Eliminations.{left-by}
-use Rattle.minimal.specs.Statement.{Is-marked, Valid-striking}
+use Rattle.elimination.specs.Eliminations.{Left-by-rule}
+use Rattle.minimal.specs.Statement.{Is-marked, Are-marks, Valid-striking}
 use Rattle.claim.specs.declared.answer.Claim.{Claim}
 use Rattle.claim.specs.declared.answer.Claim.the-variants.{Least, Irreducible, Open}
 use Rattle.claim.specs.declared.answer.Licensed.{Licensed}
@@ -45,7 +45,7 @@ module _ (w l : List ℕ) where
   Claimed Least left =
       Minimal-reduction (initial w) (goal w) (steps w l) left × Nothing-to-strike w (kept left l)
   Claimed Irreducible left = Nothing-to-strike w (kept left l)
-  Claimed (Open n) left = n ≡ unmarked w (kept left l)
+  Claimed (Open n) left = (n ≡ unmarked w (kept left l)) × Are-marks w (kept left l) (marks w (kept left l))
 
   -- a claim and the reduction that it is made of
   pub record Licence (claim : Claim) (left : Reduction) : Type 0 where
@@ -54,9 +54,9 @@ module _ (w l : List ℕ) where
     -- the list left is valid: a plan of the task, and the lodged list with steps struck
     pub valid-left : Valid-striking w l left
     pub plan-left : Plan (task w) (kept left (steps w l))
-    -- it costs no more than what either elimination leaves
-    pub no-dearer : (by : Elimination)
-        → cost (kept left (steps w l)) ≤ cost (kept (left-by by w l) (steps w l))
+    -- it costs no more than what either elimination leaves by its rule
+    pub no-dearer : (by : Elimination) (m : Reduction) → Left-by-rule by w l m
+        → cost (kept left (steps w l)) ≤ cost (kept m (steps w l))
     pub claimed : Claimed claim left
 
   -- the service answers with a licence, and all that is told and written is that of its reduction

@@ -16,7 +16,6 @@ use Rattle.reduction.specs.Reduction.{Reduction, kept, count, whole}
 use Rattle.reduction.specs.between.Order.{lower}
 use Rattle.reduction.proofs.ReductionLaws.{kept-whole, count-whole, kept-length}
 use Rattle.reduction.proofs.LowerLaws.{lower-true, true-lower}
-use Rattle.reduction.proofs.trials.EliminationTheorem.{elimination-in-words, greedy-in-words}
 use Rattle.mask.specs.Mask.{mask-bits}
 use Rattle.mask.proofs.MaskTheorem.{up-is-flag, ones-are-kept}
 use Rattle.tally.specs.declared.Tally.{Tally}
@@ -34,16 +33,18 @@ use Rattle.course.proofs.CourseTheorem.{whole-course, stuck-course, course-reac
 use Rattle.reduced.specs.Reduced.{reduction-checks, tally-left, Answers}
 use Rattle.reduced.proofs.LodgedLaws.{lodged-valid}
 use Rattle.landmark.specs.Marks.{marks, marked, Masks}
-use Rattle.landmark.proofs.MarkTheorem.{marks-theorem, marks-length, bits-just-marked}
+use Rattle.landmark.proofs.MarkTheorem.{bits-just-marked}
+use Rattle.minimal.proofs.DemandThree.{are-marks}
 use Rattle.elimination.specs.declared.single.Elimination.{Elimination}
 use Rattle.elimination.specs.declared.single.Elimination.the-variants.{Plain, Greedy}
-use Rattle.elimination.specs.Eliminations.{elimination-of, greedy-elimination-of, left-by}
+use Rattle.elimination.specs.Eliminations.{elimination-of, greedy-elimination-of, left-by, Rule-leaves}
+use Rattle.elimination.proofs.LeavesLaws.{rule-leaves}
 use Rattle.cheaper.specs.Cheaper.{Reduces-both, cheaper-part}
 use Rattle.cheaper.proofs.CheaperTheorem.{greedy-shown, elimination-shown, nothing-shown}
 use Rattle.minimal.specs.declared.within.Shortened.{Shortened}
 use Rattle.minimal.specs.Minimised.{minimal-of}
 use Rattle.claim.specs.Licensed.{licensed-of}
-use Rattle.demands.specs.Two.{Checked-truly, Course-truly, Marks-truly, Marked-number, Rule-leaves, Tally-truly, Cheaper, Shown-truly}
+use Rattle.demands.specs.Two.{Checked-truly, Course-truly, Marks-truly, Marked-number, Tally-truly, Cheaper, Shown-truly}
 use Rattle.demands.specs.Two.{Mask-truly, Shortened-truly, Demand-two}
 use Rattle.demands.proofs.OrderLaws.{compared-truly}
 use Rattle.demands.proofs.FitLaws.{Flags-each, elimination-flags, minimal-flags, licensed-flags}
@@ -115,9 +116,8 @@ module _ (w l : List ℕ) where
         few : told-answer given ≡ none → length m ≤ mask-bits
         few h = omega (arith, each (passed h) .fits, each (passed h) .few)
 
-  left-truly : (room : ℕ) → answer (reduction-checks w l room) ≡ none → (by : Elimination) → Rule-leaves w l by (left-by by w l)
-  left-truly room passed Plain = elimination-in-words (initial w) (goal w) (steps w l) (lodged-valid _ w l passed)
-  left-truly room passed Greedy = greedy-in-words (initial w) (goal w) (steps w l) (lodged-valid _ w l passed)
+  left-truly : (room : ℕ) → answer (reduction-checks w l room) ≡ none → (by : Elimination) → Rule-leaves by w l (left-by by w l)
+  left-truly room passed by = rule-leaves w l (lodged-valid _ w l passed) by
 
   -- of two lists left the cheaper is the lower
   module _ (m n : Reduction) (fits : length m ≡ length l) (fits′ : length n ≡ length l) where
@@ -149,7 +149,7 @@ module _ (w l : List ℕ) where
       fits h by = elimination-flags w l _ by (sym (both .refusal) ∙ h) .fits
 
   marked-number : (n : ℕ) → n ≡ count (marks w l) → Marked-number w l n
-  marked-number n is = record { flags = marks w l; each-step = marks-length w l; marked = marks-theorem w l; number = is }
+  marked-number n is = record { flags = marks w l; are-marks = are-marks w l; number = is }
 
   -- what is told of a list that is shortened to such a reduction
   shortened-truly : (checks : List Check) (m : Reduction) (before : List ℕ) (r : Shortened) (after : List ℕ) → Answers checks w l m before (r .answer) (r .mask .words) after

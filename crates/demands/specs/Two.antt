@@ -15,7 +15,6 @@ use Rattle.refusal.specs.Refusal.{Told, told}
 use Rattle.sas.specs.Task.{State}
 use Rattle.sas.specs.Plan.{run, cost, Plan, Stuck}
 use Rattle.reduction.specs.Reduction.{Reduction, keeps, kept, count, whole}
-use Rattle.reduction.specs.Trials.{Elimination-leaves, Greedy-leaves}
 use Rattle.mask.specs.Mask.{mask-length, ones-of, bit-up}
 use Rattle.tally.specs.declared.Tally.{Tally}
 use Rattle.tally.specs.declared.Order.{Order}
@@ -34,11 +33,11 @@ use Rattle.reduced.specs.Reduced.{Reduces}
 use Rattle.landmark.specs.Marks.{Masks}
 use Rattle.elimination.specs.declared.single.Elimination.{Elimination}
 use Rattle.elimination.specs.declared.single.Elimination.the-variants.{Plain, Greedy}
-use Rattle.elimination.specs.Eliminations.{elimination-of, greedy-elimination-of, left-by}
+use Rattle.elimination.specs.Eliminations.{elimination-of, greedy-elimination-of, left-by, Rule-leaves}
 use Rattle.cheaper.specs.Cheaper.{Reduces-both, cheaper-part}
 use Rattle.minimal.specs.declared.within.Shortened.{Shortened}
 use Rattle.minimal.specs.Minimised.{most-unmarked, minimal-of, Minimises}
-use Rattle.minimal.specs.Statement.{Is-marked}
+use Rattle.minimal.specs.Statement.{Is-marked, Are-marks}
 use Rattle.claim.specs.declared.answer.Licensed.{Licensed}
 use Rattle.claim.specs.Licensed.{licensed-of, Licenses}
 
@@ -89,11 +88,10 @@ module _ (w l : List ℕ) where
     pub bits : refusal ≡ none → (i : ℕ) → bit-up mask i ≡ true ↔ Is-marked w l i
     pub zeros : (t : Told) → refusal ≡ some t → mask ≡ replicate mask-length 0
 
-  -- so many steps are marked: there is a flag for each step, up exactly where it is marked, and so many are up
+  -- so many steps are marked: of the flags that are the marks so many are up
   pub record Marked-number (n : ℕ) : Type 0 where
     pub flags : Reduction
-    pub each-step : length flags ≡ length l
-    pub marked : (i : ℕ) → keeps flags i ↔ Is-marked w l i
+    pub are-marks : Are-marks w l flags
     pub number : n ≡ count flags
 
   -- what is told of the list that is shortened to the reduction m: its tally and its mask, the tally of the lodged list
@@ -104,15 +102,6 @@ module _ (w l : List ℕ) where
     pub lodged : Tally-truly (whole l) (told-answer (r .answer)) (r .lodged)
     pub marks : told-answer (r .answer) ≡ none → Marked-number (r .marked)
     pub no-marks : (t : Told) → told-answer (r .answer) ≡ some t → r .marked ≡ 0
-
-  -- an elimination leaves the reduction m by its written rule, trial by trial or round by round
-  abbrev pub Left-by-rule : Elimination → Reduction → Type 0
-  Left-by-rule Plain m = Elimination-leaves (initial w) (goal w) (steps w l) 0 (whole (steps w l)) m
-  Left-by-rule Greedy m = Greedy-leaves (initial w) (goal w) (steps w l) (whole (steps w l)) m
-
-  -- the written rule leaves m, and nothing else
-  abbrev pub Rule-leaves : Elimination → Reduction → Type 0
-  Rule-leaves by m = (n : Reduction) → n ≡ m ↔ Left-by-rule by n
 
   -- of two reductions the first leaves the cheaper list: lower price, then fewer steps
   abbrev pub Cheaper : Reduction → Reduction → Type 0
@@ -160,14 +149,14 @@ pub record Demand-two : Type 0 where
   -- elimination, or greedy elimination
   pub elimination : (by : Elimination) (w l before : List ℕ) (given : Answer) (mask after : List ℕ)
       → Reduces w l (left-by by w l) before given mask after
-      → (told-answer given ≡ none → Rule-leaves w l by (left-by by w l))
+      → (told-answer given ≡ none → Rule-leaves by w l (left-by by w l))
       × Tally-truly w l (left-by by w l) (told-answer given) (told-tally given)
       × Mask-truly (left-by by w l) (told-answer given) mask
   -- both eliminations
   pub both-eliminations : (w l before before′ : List ℕ) (verdict : Verdict) (first second : Tally)
       (after after′ : List ℕ) → Reduces-both w l before before′ verdict first second after after′
-      → (told verdict ≡ none → Rule-leaves w l Plain (elimination-of w l))
-      × (told verdict ≡ none → Rule-leaves w l Greedy (greedy-elimination-of w l))
+      → (told verdict ≡ none → Rule-leaves Plain w l (elimination-of w l))
+      × (told verdict ≡ none → Rule-leaves Greedy w l (greedy-elimination-of w l))
       × Tally-truly w l (elimination-of w l) (told verdict) first
       × Tally-truly w l (greedy-elimination-of w l) (told verdict) second
   -- the cheaper of what both leave

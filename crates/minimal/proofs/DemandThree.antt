@@ -30,10 +30,10 @@ use Rattle.plan.proofs.PlanTheorem.{plan-theorem}
 use Rattle.reduced.specs.Reduced.{room-checks, reduction-checks, Answers}
 use Rattle.minimal.specs.declared.within.Shortened.{Shortened}
 use Rattle.minimal.specs.Minimised.{unmarked-checks, minimal-checks, minimal-of, Minimises}
-use Rattle.minimal.specs.Statement.{Answered, Refused-unmarked, Demand-three}
+use Rattle.minimal.specs.Statement.{Are-marks, Answered, Refused-unmarked, Demand-three}
 use Rattle.plan.specs.Readable.{Readable}
 use Rattle.plan.proofs.PlanLaws.{steps-formed, faultless-passes, passes-faultless}
-use Rattle.landmark.specs.Marks.{unmarked}
+use Rattle.landmark.specs.Marks.{marks, unmarked}
 use Rattle.landmark.proofs.MarkTheorem.{marks-theorem, marks-length}
 
 module _ (w l : List ℕ) (readable : Readable w l) (plan : Plan (task w) (steps w l)) where
@@ -118,13 +118,15 @@ module _ (w l : List ℕ) (readable : Readable w l) (plan : Plan (task w) (steps
     only-then : (t : Told) → told-answer given ≡ some t → limit < unmarked w l
     only-then t h = refused-many limit (length before) roomy t (sym (answers .refusal) ∙ h)
 
+pub are-marks : (w l : List ℕ) → Are-marks w l (marks w l)
+are-marks w l = record { each-step = marks-length w l; marked = marks-theorem w l }
+
 pub demand-three : (limit : ℕ) (w l before : List ℕ) (r : Shortened) (after : List ℕ) → Minimises limit w l before r after
     → Demand-three limit w l before (r .answer) (r .mask .words) after
 demand-three limit w l before r after minimises readable plan roomy =
     record {
       marked-kept = λ m v i marked. landmark-kept (steps-formed w l (readable .accepted) (readable .known)) v marked;
-      flagged = marks-theorem w l;
-      each-flagged = marks-length w l;
+      flagged = are-marks w l;
       answered = answered w l readable plan limit before roomy _ _ after (minimises .answers);
       refused = refused w l readable plan limit before roomy _ _ after (minimises .answers);
       only-then = only-then w l readable plan limit before roomy _ _ after (minimises .answers);

@@ -26,6 +26,11 @@ module _ (w l : List ℕ) where
   abbrev pub Is-marked : ℕ → Type 0
   Is-marked i = Landmark (initial w) (goal w) (steps w l) i
 
+  -- these flags are the marks of the list: one for each step, up exactly where it is marked
+  pub record Are-marks (flags : Reduction) : Type 0 where
+    pub each-step : length flags ≡ length l
+    pub marked : (i : ℕ) → keeps flags i ↔ Is-marked i
+
   -- a valid reduction of the list
   abbrev pub Valid-striking : Reduction → Type 0
   Valid-striking m = Valid-reduction (initial w) (goal w) (steps w l) m
@@ -54,9 +59,8 @@ module _ (w l : List ℕ) where
   pub record Demand-three-of (limit : ℕ) (before : List ℕ) (given : Answer) (mask after : List ℕ) : Type 0 where
     -- no valid striking drops a marked move
     pub marked-kept : (m : Reduction) → Valid-striking m → (i : ℕ) → Is-marked i → keeps m i
-    -- the marked steps are those of these flags, one for each step, and `unmarked` is the number of all others
-    pub flagged : (i : ℕ) → keeps (marks w l) i ↔ Is-marked i
-    pub each-flagged : length (marks w l) ≡ length l
+    -- `unmarked` is the number of all moves that are not marked
+    pub flagged : Are-marks (marks w l)
     -- where no more than the limit are unmarked it answers
     pub answered : unmarked w l ≤ limit → Answered before given mask after
     -- where more are it refuses with 12

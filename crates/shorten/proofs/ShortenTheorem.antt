@@ -13,7 +13,7 @@ use Rattle.reduction.proofs.marks.LandmarksKept.{landmark-kept}
 use Rattle.plan.proofs.PlanLaws.{steps-formed}
 use Rattle.landmark.specs.Marks.{unmarked}
 use Rattle.minimal.specs.Minimised.{most-unmarked, minimal-of}
-use Rattle.minimal.proofs.DemandThree.{is-minimal, plan-left, few-pass, many-refused}
+use Rattle.minimal.proofs.DemandThree.{is-minimal, plan-left, few-pass, many-refused, are-marks}
 use Rattle.records.specs.Bytes.{input-of, Word-sized}
 use Rattle.program.specs.Printed.{refusal-line, Has-read, Read-from}
 use Rattle.program.specs.declared.input.Input.{Input}
@@ -47,6 +47,7 @@ pub demand-three-printed : (w l : List ℕ) → Demand-three-printed w l
 demand-three-printed w l sized sized-list readable plan =
     record {
       marked-kept = λ m v i marked. landmark-kept (steps-formed w l (readable .accepted) (readable .known)) v marked;
+      flagged = are-marks w l;
       answered = reported w l sized sized-list readable plan;
       refused = refuses w l sized sized-list readable plan;
     }

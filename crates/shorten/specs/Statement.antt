@@ -9,9 +9,9 @@ use Rattle.plan.specs.Valid.{steps}
 use Rattle.plan.specs.Readable.{Readable}
 use Rattle.reduction.specs.Reduction.{Reduction, keeps, kept}
 use Rattle.reduction.specs.Minimal.{Minimal-reduction}
-use Rattle.landmark.specs.Marks.{unmarked}
+use Rattle.landmark.specs.Marks.{marks, unmarked}
 use Rattle.minimal.specs.Minimised.{most-unmarked}
-use Rattle.minimal.specs.Statement.{Is-marked, Valid-striking}
+use Rattle.minimal.specs.Statement.{Is-marked, Are-marks, Valid-striking}
 use Rattle.records.specs.Bytes.{input-of, Word-sized}
 use Rattle.program.specs.Printed.{refusal-line}
 use Rattle.report.specs.Report.{report}
@@ -28,6 +28,8 @@ module _ (w l : List ℕ) where
   pub record Shortens-list : Type 0 where
     -- no valid striking drops a marked move
     pub marked-kept : (m : Reduction) → Valid-striking w l m → (i : ℕ) → Is-marked w l i → keeps m i
+    -- `unmarked` is the number of all moves that are not marked
+    pub flagged : Are-marks w l (marks w l)
     -- where no more than 20 are unmarked the report is printed
     pub answered : unmarked w l ≤ most-unmarked → Reported (printed (input-of w l))
     -- where more are, refusal 12 and how many

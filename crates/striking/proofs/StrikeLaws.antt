@@ -60,6 +60,7 @@ lent-demand w l output output′ mask mask′ out out′ words given demand writ
     let of-list : Demand-three-of w l most-unmarked output given words output′ = demand readable plan roomy in
     record {
       marked-kept = of-list .marked-kept;
+      flagged = of-list .flagged;
       answered = λ few.
           let answered : Answered w l output given words output′ = of-list .answered few in
           record {

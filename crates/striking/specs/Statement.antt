@@ -15,9 +15,9 @@ use Rattle.plan.specs.Readable.{Readable}
 use Rattle.reduction.specs.Reduction.{Reduction, keeps, kept, count}
 use Rattle.reduction.specs.Minimal.{Minimal-reduction}
 use Rattle.reduced.specs.Reduced.{tally-left}
-use Rattle.landmark.specs.Marks.{unmarked}
+use Rattle.landmark.specs.Marks.{marks, unmarked}
 use Rattle.minimal.specs.Minimised.{most-unmarked}
-use Rattle.minimal.specs.Statement.{Is-marked, Valid-striking}
+use Rattle.minimal.specs.Statement.{Is-marked, Are-marks, Valid-striking}
 use Rattle.claim.specs.declared.answer.Claim.{Claim}
 use Rattle.claim.specs.Statement.{Licence}
 use Rattle.lent.specs.Words.{answer-words, tally-words}
@@ -44,6 +44,8 @@ module _ (w l output output′ mask mask′ out out′ : List ℕ) where
   pub record Shortens-lent : Type 0 where
     -- no valid striking drops a marked move
     pub marked-kept : (m : Reduction) → Valid-striking w l m → (i : ℕ) → Is-marked w l i → keeps m i
+    -- `unmarked` is the number of all moves that are not marked
+    pub flagged : Are-marks w l (marks w l)
     -- where no more than 20 are unmarked it answers
     pub answered : unmarked w l ≤ most-unmarked → Answered-lent
     -- where more are it refuses

@@ -14,8 +14,8 @@ pub record Has-read-text (bytes : List ℕ) (input : Input) : Type 0 where
   pub counted : Counts (input .count) bytes
   pub to-the-end : (k : ℕ) → input .last ≡ pos k → (k ≡ 0) ⊎ (input .count ≡ length bytes)
 
--- what is assumed of the C library's `read`: the bytes read are the input's first, in order, and where the last call had
--- room and gave no byte they are all that it has
+-- what is assumed of the C library's `read`: the bytes read are the input's first, in order, and where the last call
+-- had room and gave no byte they are all that it has
 pub record Text-from (whole bytes : List ℕ) (input : Input) : Type 0 where
   pub in-order : take (input .count) bytes ≡ take (input .count) whole
   pub at-end : input .last ≡ pos 0 → input .count < length bytes → length whole ≤ input .count
