@@ -20,8 +20,8 @@ use Rattle.license.specs.Statement.{May-be-lodged-printed}
 
 pub may-be-lodged-printed : (w l : List ℕ) → May-be-lodged-printed w l
 unfolding reply-further licensed
-may-be-lodged-printed w l sized sized-list readable plan =
-    let for-list : printed (input-of w l) ≡ licensed w l = rw (record-opened w l sized sized-list readable, reply-further) in
+may-be-lodged-printed w l readable plan =
+    let for-list : printed (input-of w l) ≡ licensed w l = rw (record-opened w l readable, reply-further) in
     record {
       claim = claim-of w l;
       left = licensed-of w l;

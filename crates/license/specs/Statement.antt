@@ -10,7 +10,7 @@ use Rattle.plan.specs.Readable.{Readable}
 use Rattle.reduction.specs.Reduction.{Reduction}
 use Rattle.claim.specs.declared.answer.Claim.{Claim}
 use Rattle.claim.specs.Statement.{Licence}
-use Rattle.records.specs.Bytes.{input-of, Word-sized}
+use Rattle.records.specs.Bytes.{input-of}
 use Rattle.report.specs.Report.{report}
 use Rattle.claim_report.specs.Licensed.{claim-line}
 use Rattle.license.specs.License.{printed}
@@ -22,7 +22,7 @@ pub record Prints-licence (w l text : List ℕ) : Type 0 where
   pub licence : Licence w l claim left
   pub lines : text ≡ claim-line claim ++ report w l left
 
--- for every accepted sheet and every valid list, in words of 32 bits
+-- for every accepted sheet and every valid list
 abbrev pub May-be-lodged-printed : List ℕ → List ℕ → Type 0
 May-be-lodged-printed w l =
-    Word-sized w → Word-sized l → Readable w l → Plan (task w) (steps w l) → Prints-licence w l (printed (input-of w l))
+    Readable w l → Plan (task w) (steps w l) → Prints-licence w l (printed (input-of w l))

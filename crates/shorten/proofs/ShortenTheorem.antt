@@ -14,7 +14,7 @@ use Rattle.plan.proofs.PlanLaws.{steps-formed}
 use Rattle.landmark.specs.Marks.{unmarked}
 use Rattle.minimal.specs.Minimised.{most-unmarked, minimal-of}
 use Rattle.minimal.proofs.DemandThree.{is-minimal, plan-left, few-pass, many-refused, are-marks}
-use Rattle.records.specs.Bytes.{input-of, Word-sized}
+use Rattle.records.specs.Bytes.{input-of}
 use Rattle.program.specs.Printed.{refusal-line, Has-read, Read-from}
 use Rattle.program.specs.declared.input.Input.{Input}
 use Rattle.program.specs.Reply.{reply-further}
@@ -24,10 +24,10 @@ use Rattle.report.specs.Shortened.{shortened}
 use Rattle.shorten.specs.Shorten.{printed}
 use Rattle.shorten.specs.Statement.{Reported, Demand-three-printed}
 
-module _ (w l : List ℕ) (sized : Word-sized w) (sized-list : Word-sized l) (readable : Readable w l) (plan : Plan (task w) (steps w l)) where
+module _ (w l : List ℕ) (readable : Readable w l) (plan : Plan (task w) (steps w l)) where
   for-list : printed (input-of w l) ≡ shortened w l
   unfolding reply-further
-  for-list = rw (record-opened w l sized sized-list readable, reply-further)
+  for-list = rw (record-opened w l readable, reply-further)
 
   reported : unmarked w l ≤ most-unmarked → Reported w l (printed (input-of w l))
   unfolding shortened
@@ -44,12 +44,12 @@ module _ (w l : List ℕ) (sized : Word-sized w) (sized-list : Word-sized l) (re
   refuses many = for-list ∙ rw (shortened, many-refused w l readable plan most-unmarked most-steps (readable .few) many)
 
 pub demand-three-printed : (w l : List ℕ) → Demand-three-printed w l
-demand-three-printed w l sized sized-list readable plan =
+demand-three-printed w l readable plan =
     record {
       marked-kept = λ m v i marked. landmark-kept (steps-formed w l (readable .accepted) (readable .known)) v marked;
       flagged = are-marks w l;
-      answered = reported w l sized sized-list readable plan;
-      refused = refuses w l sized sized-list readable plan;
+      answered = reported w l readable plan;
+      refused = refuses w l readable plan;
     }
 
 -- and what is printed for the bytes read is what is printed for the whole input

@@ -12,7 +12,7 @@ use Rattle.reduction.specs.Minimal.{Minimal-reduction}
 use Rattle.landmark.specs.Marks.{marks, unmarked}
 use Rattle.minimal.specs.Minimised.{most-unmarked}
 use Rattle.minimal.specs.Statement.{Is-marked, Are-marks, Valid-striking}
-use Rattle.records.specs.Bytes.{input-of, Word-sized}
+use Rattle.records.specs.Bytes.{input-of}
 use Rattle.program.specs.Printed.{refusal-line}
 use Rattle.report.specs.Report.{report}
 use Rattle.shorten.specs.Shorten.{printed}
@@ -36,7 +36,6 @@ module _ (w l : List ℕ) where
     pub refused : most-unmarked < unmarked w l
         → printed (input-of w l) ≡ refusal-line (record { number = 12; place = unmarked w l })
 
--- for every accepted sheet and every valid list, in words of 32 bits
+-- for every accepted sheet and every valid list
 abbrev pub Demand-three-printed : List ℕ → List ℕ → Type 0
-Demand-three-printed w l =
-    Word-sized w → Word-sized l → Readable w l → Plan (task w) (steps w l) → Shortens-list w l
+Demand-three-printed w l = Readable w l → Plan (task w) (steps w l) → Shortens-list w l
