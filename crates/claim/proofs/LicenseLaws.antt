@@ -26,7 +26,7 @@ use Rattle.plan.specs.declared.check.Answer.the-variants.{Valid, Refused}
 use Rattle.plan.specs.Checked.{told-answer, lodged-tally}
 use Rattle.plan.specs.between.Lodged.{Checks-lodged}
 use Rattle.plan.proofs.PlanLaws.{passed-readable}
-use Rattle.reduced.specs.Reduced.{room-checks, reduction-checks}
+use Rattle.reduced.specs.Reduced.{room-checks, reduction-checks, Answers}
 use Rattle.reduced.specs.between.Held.{mask}
 use Rattle.reduced.proofs.LodgedLaws.{lodged-plan, room-checked, nothing-refused, roomy}
 use Rattle.reduced.proofs.AnswerLaws.{answers-refused}
@@ -37,7 +37,7 @@ use Rattle.minimal.proofs.DemandThree.{checks-pass, many-refused, refused-many,
 use Rattle.claim.specs.declared.answer.Claim.the-variants.{Least}
 use Rattle.claim.specs.declared.answer.Licensed.{Licensed}
 use Rattle.claim.specs.Licensed.{claim-of, licensed-of, licence-refusal, Licenses}
-use Rattle.claim.specs.Statement.{Licence, May-be-lodged}
+use Rattle.claim.specs.Statement.{May-be-lodged}
 use Rattle.claim.specs.between.Refused.{Refuses-licence}
 use Rattle.claim.specs.between.Further.{Goes-further}
 use Rattle.claim.proofs.LicenceTheorem.{licence-of, claims-least}
@@ -97,17 +97,11 @@ module _ (w l before : List ℕ) (passed : licence-refusal w l before ≡ none) 
 pub may-be-lodged : (w l before : List ℕ) (r : Licensed) (after : List ℕ) → Licenses w l before r after → May-be-lodged w l before r after
 may-be-lodged w l before r after licenses readable plan roomy =
     let passed : licence-refusal w l before ≡ none = checks-pass w l readable plan (length before) roomy in
-    let licence : Licence w l (claim-of w l) (licensed-of w l) = licence-of w l readable plan in
-    let fits : length (licensed-of w l) ≡ length l = licence .valid-left .fits ∙ length-map l (action w) in
-    let long : length (licensed-of w l) ≤ mask-bits = omega (arith, fits, readable .few) in
-    let room : count (licensed-of w l) ≤ length before = omega (arith, kept-length (licensed-of w l) l fits, left-length (licensed-of w l) l fits) in
     record {
+      claim = claim-of w l;
       left = licensed-of w l;
-      licence = subst (λ c. Licence w l c (licensed-of w l)) (sym (rw passed at (licenses .claims))) licence;
-      answers = licenses .answers .refusal ∙ passed;
-      tally = rw passed at (licenses .answers .tally);
-      told-by = rw passed at (licenses .answers .told-by);
-      output = rw passed at (licenses .answers .output) ∙ front-and-rest (licensed-of w l) l long fits before room;
+      licence = licence-of w l readable plan;
+      told = (rw passed at (licenses .claims), subst (λ t. Answers t w l (licensed-of w l) before (r .told .answer) (r .told .mask .words) after) passed (licenses .answers));
     }
 
 -- what the check of a list answers where its room is asked besides

@@ -1,19 +1,17 @@
--- May this list be lodged? What `license` answers and writes, as one statement. Assumes nothing.
+-- May this list be lodged? A licence, as whatever tells one has it, and as `license` does. Assumes nothing.
 use Prim.Native.Nat.{ℕ, _≤_, _<_}
 use mathlib.Core.Path.{_≡_}
 use mathlib.Core.Logic.{_↔_}
 use mathlib.Core.Option.{none}
-use mathlib.Core.List.{List, _++_}
-use lib.ListN.{length, drop}
+use mathlib.Core.List.{List}
+use lib.ListN.{length}
 use Rattle.sas.specs.Plan.{Plan, cost}
-use Rattle.reduction.specs.Reduction.{Reduction, kept, count, whole}
+use Rattle.reduction.specs.Reduction.{Reduction, kept, whole}
 use Rattle.reduction.specs.Minimal.{Minimal-reduction}
-use Rattle.mask.specs.Mask.{mask-words}
 use Rattle.sheet.specs.Decode.{goal, initial, task}
 use Rattle.plan.specs.Valid.{steps}
 use Rattle.plan.specs.Readable.{Readable}
-use Rattle.plan.specs.Checked.{told-answer, told-tally}
-use Rattle.reduced.specs.Reduced.{tally-left}
+use Rattle.reduced.specs.Reduced.{Answers}
 use Rattle.landmark.specs.Marks.{marks, unmarked}
 use Rattle.elimination.specs.declared.single.Elimination.{Elimination}
 use Rattle.elimination.specs.Eliminations.{Left-by-rule}
@@ -59,18 +57,16 @@ module _ (w l : List ℕ) where
         → cost (kept left (steps w l)) ≤ cost (kept m (steps w l))
     pub claimed : Claimed claim left
 
-  -- the service answers with a licence, and all that is told and written is that of its reduction
-  pub record Licensed-with (before : List ℕ) (r : Licensed) (after : List ℕ) : Type 0 where
+  -- a licence, told by what `Tells` says of its claim and its reduction
+  pub record Licensed-with (Tells : Claim → Reduction → Type 0) : Type 0 where
+    pub claim : Claim
     pub left : Reduction
-    pub licence : Licence (r .claim) left
-    pub answers : told-answer (r .told .answer) ≡ none
-    pub tally : told-tally (r .told .answer) ≡ tally-left w l left
-    pub told-by : r .told .mask .words ≡ mask-words left
-    -- the kept action numbers are the output's first words, one for each kept step, and every other word stays
-    pub output : after ≡ kept left l ++ drop (count left) before
+    pub licence : Licence claim left
+    pub told : Tells claim left
 
--- for every accepted sheet, every valid list of no more steps than a list may have, and every output that has as many
--- words as the list has steps
+-- by the service: for every accepted sheet, every valid list of no more steps than a list may have, and every output
+-- that has as many words as the list has steps
 abbrev pub May-be-lodged : List ℕ → List ℕ → List ℕ → Licensed → List ℕ → Type 0
 May-be-lodged w l before r after =
-    Readable w l → Plan (task w) (steps w l) → length l ≤ length before → Licensed-with w l before r after
+    Readable w l → Plan (task w) (steps w l) → length l ≤ length before → Licensed-with w l
+    (λ c m. (r .claim ≡ c) × Answers none w l m before (r .told .answer) (r .told .mask .words) after)

@@ -11,7 +11,7 @@ use Rattle.refusal.specs.declared.Refusal.{Refusal}
 use Rattle.refusal.specs.declared.Verdict.{Verdict}
 use Rattle.refusal.specs.declared.Verdict.the-variants.{Passed, Refused}
 use Rattle.refusal.specs.Refusal.{Told, told}
-use Rattle.refusal.specs.Check.{Check, answer, unless-refused}
+use Rattle.refusal.specs.Check.{answer, unless-refused}
 use Rattle.reduction.specs.Reduction.{Reduction, kept, count, whole}
 use Rattle.reduction.specs.between.Order.{lower}
 use Rattle.reduction.proofs.ReductionLaws.{kept-whole, count-whole, kept-length}
@@ -98,19 +98,19 @@ module _ (w l : List ℕ) where
       }
 
   -- what is told of a reduction that has a flag for each step where nothing is refused
-  module _ (checks : List Check) (m : Reduction) (before : List ℕ) (given : Answer) (mask after : List ℕ) (answers : Answers checks w l m before given mask after) where
+  module _ (t : Option Told) (m : Reduction) (before : List ℕ) (given : Answer) (mask after : List ℕ) (answers : Answers t w l m before given mask after) where
     tallied-truly : Tally-truly w l m (told-answer given) (told-tally given)
     tallied-truly = tally-truly m (told-answer given) (told-tally given) (rw (← answers .refusal) at (answers .tally))
 
-    masked-truly : (answer checks ≡ none → Flags-each l m (length before)) → Mask-truly m (told-answer given) mask
+    masked-truly : (t ≡ none → Flags-each l m (length before)) → Mask-truly m (told-answer given) mask
     masked-truly each =
         record {
           bits = λ h i. rw (rw (passed h) at (answers .told-by), up-is-flag m (few h) i) (λ k. k, λ k. k);
           ones = λ h. rw (rw (passed h) at (answers .told-by)) (ones-are-kept m (few h));
-          zeros = λ t h. rw (sym (answers .refusal) ∙ h) at (answers .told-by);
+          zeros = λ u h. rw (sym (answers .refusal) ∙ h) at (answers .told-by);
         }
       where
-        passed : told-answer given ≡ none → answer checks ≡ none
+        passed : told-answer given ≡ none → t ≡ none
         passed h = sym (answers .refusal) ∙ h
 
         few : told-answer given ≡ none → length m ≤ mask-bits
@@ -152,16 +152,16 @@ module _ (w l : List ℕ) where
   marked-number n is = record { flags = marks w l; are-marks = are-marks w l; number = is }
 
   -- what is told of a list that is shortened to such a reduction
-  shortened-truly : (checks : List Check) (m : Reduction) (before : List ℕ) (r : Shortened) (after : List ℕ) → Answers checks w l m before (r .answer) (r .mask .words) after
-      → (answer checks ≡ none → Flags-each l m (length before)) → r .lodged ≡ unless-refused (answer checks) (lodged-tally w l) nothing
-      → r .marked ≡ unless-refused (answer checks) (marked w l) 0 → Shortened-truly w l m r
-  shortened-truly checks m before r after answers each lodged marks =
+  shortened-truly : (t : Option Told) (m : Reduction) (before : List ℕ) (r : Shortened) (after : List ℕ) → Answers t w l m before (r .answer) (r .mask .words) after
+      → (t ≡ none → Flags-each l m (length before)) → r .lodged ≡ unless-refused t (lodged-tally w l) nothing
+      → r .marked ≡ unless-refused t (marked w l) 0 → Shortened-truly w l m r
+  shortened-truly t m before r after answers each lodged marks =
       record {
-        tally = tallied-truly checks m before (r .answer) (r .mask .words) after answers;
-        mask = masked-truly checks m before (r .answer) (r .mask .words) after answers each;
+        tally = tallied-truly t m before (r .answer) (r .mask .words) after answers;
+        mask = masked-truly t m before (r .answer) (r .mask .words) after answers each;
         lodged = tally-truly (whole l) (told-answer (r .answer)) (r .lodged) (rw (← lodged-whole, answers .refusal) lodged);
         marks = λ h. marked-number (r .marked) (rw (sym (answers .refusal) ∙ h) at marks);
-        no-marks = λ t h. rw (sym (answers .refusal) ∙ h) at marks;
+        no-marks = λ u h. rw (sym (answers .refusal) ∙ h) at marks;
       }
 
 -- the states along a list

@@ -26,7 +26,7 @@ may-be-lodged-printed w l readable plan =
       claim = claim-of w l;
       left = licensed-of w l;
       licence = licence-of w l readable plan;
-      lines = for-list ∙ rw (licensed, checks-pass w l readable plan most-steps (readable .few));
+      told = for-list ∙ rw (licensed, checks-pass w l readable plan most-steps (readable .few));
     }
 
 -- and what is printed for the bytes read is what is printed for the whole input

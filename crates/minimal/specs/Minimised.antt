@@ -42,7 +42,6 @@ module _ (limit : ℕ) (w l before : List ℕ) where
   -- the service: it answers with the minimal reduction of the list l over a lent output, and tells the tally of the
   -- lodged list and the number of its marked steps besides, zero on a refusal
   pub record Minimises (r : Shortened) (after : List ℕ) : Type 0 where
-    pub answers : Answers (minimal-checks limit w l (length before)) w l (minimal-of w l) before
-        (r .answer) (r .mask .words) after
+    pub answers : Answers minimal-refusal w l (minimal-of w l) before (r .answer) (r .mask .words) after
     pub lodged : r .lodged ≡ unless-refused minimal-refusal (lodged-tally w l) nothing
     pub marks : r .marked ≡ unless-refused minimal-refusal (marked w l) 0

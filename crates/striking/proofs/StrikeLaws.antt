@@ -6,7 +6,6 @@ use mathlib.Core.List.{List, _++_}
 use lib.Seq.{sets}
 use Rattle.refusal.specs.declared.Verdict.{Verdict}
 use Rattle.refusal.specs.Refusal.{Told, told}
-use Rattle.refusal.specs.Check.{Check, answer}
 use Rattle.reduction.specs.Reduction.{Reduction}
 use Rattle.tally.specs.declared.Tally.{Tally}
 use Rattle.plan.specs.declared.check.Answer.{Answer}
@@ -14,12 +13,12 @@ use Rattle.plan.specs.Checked.{told-answer, told-tally}
 use Rattle.reduced.specs.Reduced.{Answers}
 use Rattle.cheaper.specs.Cheaper.{Reduces-both}
 use Rattle.minimal.specs.Minimised.{most-unmarked}
-use Rattle.minimal.specs.Statement.{Answered, Refused-unmarked, Demand-three-of, Demand-three}
+use Rattle.minimal.specs.Statement.{Demand-three-of, Demand-three}
 use Rattle.claim.specs.declared.answer.Claim.{Claim}
 use Rattle.claim.specs.declared.answer.Claim.the-variants.{Least, Irreducible, Open}
 use Rattle.claim.specs.declared.answer.Licensed.{Licensed}
 use Rattle.claim.specs.Licensed.{Licenses}
-use Rattle.claim.specs.Statement.{Licensed-with, May-be-lodged}
+use Rattle.claim.specs.Statement.{May-be-lodged}
 use Rattle.lent.specs.Words.{answer-words, tally-words, Writes-reduced}
 use Rattle.striking.specs.Strikes.{Answers-lent, Reduces-both-lent, claim-words, Licenses-lent}
 use Rattle.striking.specs.Statement.{Demand-three-lent, May-be-lodged-lent}
@@ -44,9 +43,9 @@ claim-written l (some t) a Irreducible = refl
 claim-written l (some t) a Least = refl
 
 -- what a service that strikes answers, written to lent words
-pub lent-answers : (checks : List Check) (w l : List ℕ) (m : Reduction) (output output′ mask mask′ out out′ words : List ℕ) (given : Answer)
-    → Answers checks w l m output given words output′ → Writes-reduced words given mask mask′ out out′ → Answers-lent (answer checks) w l m output output′ mask mask′ out out′
-lent-answers checks w l m output output′ mask mask′ out out′ words given answers writes =
+pub lent-answers : (t : Option Told) (w l : List ℕ) (m : Reduction) (output output′ mask mask′ out out′ words : List ℕ) (given : Answer)
+    → Answers t w l m output given words output′ → Writes-reduced words given mask mask′ out out′ → Answers-lent t w l m output output′ mask mask′ out out′
+lent-answers t w l m output output′ mask mask′ out out′ words given answers writes =
     record {
       list-left = answers .output;
       told-by = writes .told-by ∙ rw (answers .told-by);
@@ -57,27 +56,15 @@ lent-answers checks w l m output output′ mask mask′ out out′ words given a
 pub lent-demand : (w l output output′ mask mask′ out out′ words : List ℕ) (given : Answer) → Demand-three most-unmarked w l output given words output′
     → Writes-reduced words given mask mask′ out out′ → Demand-three-lent w l output output′ mask mask′ out out′
 lent-demand w l output output′ mask mask′ out out′ words given demand writes readable plan roomy =
-    let of-list : Demand-three-of w l most-unmarked output given words output′ = demand readable plan roomy in
+    let of-list : Demand-three-of w l most-unmarked (λ t m. Answers t w l m output given words output′) = demand readable plan roomy in
     record {
       marked-kept = of-list .marked-kept;
       flagged = of-list .flagged;
-      answered = λ few.
-          let answered : Answered w l output given words output′ = of-list .answered few in
-          record {
-            left = answered .left;
-            minimal = answered .minimal;
-            plan-left = answered .plan-left;
-            list-left = answered .output;
-            told-by = writes .told-by ∙ rw (answered .told-by);
-            answered = writes .answered ∙ rw (answered .answers, answered .tally);
-          };
-      refused = λ many.
-          let refused : Refused-unmarked w l output given words output′ = of-list .refused many in
-          record {
-            list-left = refused .output;
-            told-by = writes .told-by ∙ rw (refused .told-by);
-            answered = writes .answered ∙ rw (refused .refuses, refused .tally);
-          };
+      left = of-list .left;
+      minimal = of-list .minimal;
+      plan-left = of-list .plan-left;
+      answered = λ few. lent-answers _ w l _ output output′ mask mask′ out out′ words given (of-list .answered few) writes;
+      refused = λ many. lent-answers _ w l _ output output′ mask mask′ out out′ words given (of-list .refused many) writes;
     }
 
 -- the licence of a list, written to lent words
@@ -96,12 +83,16 @@ module _ (w l output output′ mask mask′ out between out′ : List ℕ) (r : 
 
   pub lent-licence : May-be-lodged w l output r output′ → May-be-lodged-lent w l output output′ mask mask′ out out′
   lent-licence may readable plan roomy =
-      let licensed : Licensed-with w l output r output′ = may readable plan roomy in
+      let licensed = may readable plan roomy in
+      let (claims, answers) = licensed .told in
       record {
+        claim = licensed .claim;
         left = licensed .left;
-        claim = r .claim;
         licence = licensed .licence;
-        list-left = licensed .output;
-        told-by = writes .told-by ∙ rw (licensed .told-by);
-        answered = all-written ∙ rw (licensed .answers, licensed .tally);
+        told =
+            record {
+              list-left = answers .output;
+              told-by = writes .told-by ∙ rw (answers .told-by);
+              answered = all-written ∙ rw (answers .refusal, answers .tally, claims);
+            };
       }

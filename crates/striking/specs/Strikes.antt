@@ -45,16 +45,19 @@ claim-words (Open n) = 0 ∷ n ∷ []
 claim-words Irreducible = 1 ∷ 0 ∷ []
 claim-words Least = 2 ∷ 0 ∷ []
 
--- the licence of a list over lent words, of checks that answer t: as a reduction is answered, and the claim behind it
-pub record Licence-lent (t : Option Told) (w l output output′ mask mask′ out out′ : List ℕ) : Type 0 where
-  pub list-left : output′ ≡ unless-refused t (output-left l (licensed-of w l) output) output
-  pub told-by : mask′ ≡ sets mask 0 (unless-refused t (mask-words (licensed-of w l)) (replicate mask-length 0))
+-- the claim c and the reduction m over lent words, of checks that answer t: as a reduction is answered, and the claim
+-- behind it
+pub record Licence-lent (t : Option Told) (w l : List ℕ) (c : Claim) (m : Reduction)
+    (output output′ mask mask′ out out′ : List ℕ) : Type 0 where
+  pub list-left : output′ ≡ unless-refused t (output-left l m output) output
+  pub told-by : mask′ ≡ sets mask 0 (unless-refused t (mask-words m) (replicate mask-length 0))
   pub answered : out′ ≡ sets out 0 (answer-words t
-      ++ (tally-words (unless-refused t (tally-left w l (licensed-of w l)) nothing)
-      ++ claim-words (unless-refused t (claim-of w l) (Open 0))))
+      ++ (tally-words (unless-refused t (tally-left w l m) nothing) ++ claim-words (unless-refused t c (Open 0))))
 
+-- the licence of a list over lent words
 abbrev pub Licenses-lent : List ℕ → List ℕ → List ℕ → List ℕ → List ℕ → List ℕ → List ℕ → List ℕ → Type 0
-Licenses-lent w l output = Licence-lent (answer (reduction-checks w l (length output))) w l output
+Licenses-lent w l output =
+    Licence-lent (answer (reduction-checks w l (length output))) w l (claim-of w l) (licensed-of w l) output
 
 -- both eliminations over lent words, of checks that answer t
 pub record Both-lent (t : Option Told) (w l first first′ second second′ out out′ : List ℕ) : Type 0 where
