@@ -33,7 +33,7 @@ use Rattle.refusal.specs.Check.{answer}
 use Rattle.reduced.specs.between.Tallied.{is-less}
 use Rattle.reduced.proofs.LodgedLaws.{roomy, lodged-valid}
 use Rattle.reduced.proofs.LessLaws.{less-lower}
-use Rattle.elimination.specs.Eliminations.{elimination-of, greedy-elimination-of, left-by}
+use Rattle.elimination.specs.between.Left.{elimination-of, greedy-elimination-of, left-by}
 use Rattle.cheaper.specs.Cheaper.{cheaper-of, Reduces-both, cheaper-part}
 use Rattle.elimination.proofs.LeavesLaws.{left-fits}
 use Rattle.cheaper.proofs.CheaperLaws.{cheaper-taken}

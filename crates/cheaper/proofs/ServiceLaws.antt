@@ -16,7 +16,7 @@ use Rattle.plan.specs.Checked.{told-answer}
 use Rattle.reduction.specs.Reduction.{Reduction}
 use Rattle.reduced.specs.Reduced.{reduction-checks}
 use Rattle.reduced.specs.between.Kept.{Keeps}
-use Rattle.elimination.specs.Eliminations.{elimination-of, greedy-elimination-of}
+use Rattle.elimination.specs.between.Left.{elimination-of, greedy-elimination-of}
 use Rattle.cheaper.specs.Cheaper.{Reduces-both, cheaper-part}
 
 module _ (w l before before′ : List ℕ) (room : ℕ) (given : Answer) (shorter : room ≡ min (length before) (length before′))

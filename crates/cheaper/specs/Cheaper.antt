@@ -12,7 +12,7 @@ use Rattle.tally.specs.declared.Order.the-variants.{Less, Equal, Greater}
 use Rattle.tally.specs.Tally.{nothing, comparison}
 use Rattle.reduction.specs.Reduction.{Reduction}
 use Rattle.reduced.specs.Reduced.{reduction-checks, tally-left, output-left}
-use Rattle.elimination.specs.Eliminations.{elimination-of, greedy-elimination-of}
+use Rattle.elimination.specs.between.Left.{elimination-of, greedy-elimination-of}
 
 -- what the cheaper of the two leaves: "lower price, then fewer steps, then elimination's"
 unfoldable pub cheaper-of : List ℕ → List ℕ → Reduction

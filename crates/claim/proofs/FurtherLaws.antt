@@ -39,7 +39,9 @@ use Rattle.landmark.proofs.MarkTheorem.{marks-length}
 use Rattle.cheaper.specs.Cheaper.{cheaper-of}
 use Rattle.cheaper.proofs.CheaperLaws.{cheaper-valid, cheaper-leaves}
 use Rattle.minimal.specs.declared.within.Shortened.{Shortened}
-use Rattle.minimal.specs.Minimised.{most-unmarked, minimal-checks, minimal-of, Minimises}
+use Rattle.minimal.specs.Minimised.{most-unmarked, minimal-checks, Minimises}
+use Rattle.minimal.specs.between.Computed.{Minimises-of, minimal-of}
+use Rattle.minimal.proofs.ComputedTheorem.{minimises-of}
 use Rattle.minimal.proofs.DemandThree.{is-minimal, many-refused, refused-many, passed-few}
 use Rattle.claim.specs.declared.answer.Claim.{Claim}
 use Rattle.claim.specs.declared.answer.Claim.the-variants.{Irreducible, Open}
@@ -143,8 +145,8 @@ module _ (w l before : List ℕ) (lodged : Tally) (others : ℕ) (further : Goes
       front-long = rw front-is (sym steps-left)
 
       module _ (r : Shortened) (after : List ℕ) (minimises : Minimises most-unmarked w (take (tally .steps) list) before r after) where
-        there : Minimises most-unmarked w (cheaper-list w l) before r after
-        there = subst (λ k. Minimises most-unmarked w k before r after) front-is minimises
+        there : Minimises-of most-unmarked w (cheaper-list w l) before r after
+        there = subst (λ k. Minimises-of most-unmarked w k before r after) front-is (minimises-of most-unmarked w (take (tally .steps) list) before r after minimises)
 
         -- the minimal reduction answers
         pub licenses-irreducible : (least : Tally) (m : Mask) → r .answer ≡ Valid least

@@ -22,12 +22,13 @@ use Rattle.plan.proofs.PlanLaws.{steps-formed}
 use Rattle.reduced.proofs.TalliedLaws.{kept-steps}
 use Rattle.landmark.specs.Marks.{unmarked}
 use Rattle.elimination.specs.declared.single.Elimination.{Elimination}
-use Rattle.elimination.specs.Eliminations.{left-by}
+use Rattle.elimination.specs.between.Left.{left-by}
 use Rattle.cheaper.specs.Cheaper.{cheaper-of}
 use Rattle.elimination.proofs.LeavesLaws.{rule-leaves, left-valid}
 use Rattle.cheaper.proofs.CheaperLaws.{cheaper-valid}
 use Rattle.cheaper.proofs.CheaperTheorem.{cheaper-no-dearer}
-use Rattle.minimal.specs.Minimised.{most-unmarked, minimal-of}
+use Rattle.minimal.specs.Minimised.{most-unmarked}
+use Rattle.minimal.specs.between.Computed.{minimal-of}
 use Rattle.minimal.specs.Statement.{Valid-striking}
 use Rattle.minimal.proofs.DemandThree.{valid-list, is-minimal, are-marks}
 use Rattle.claim.specs.declared.answer.Claim.{Claim}

@@ -33,6 +33,8 @@ use Rattle.reduced.proofs.AnswerLaws.{answers-refused}
 use Rattle.landmark.specs.Marks.{marks, marked, unmarked}
 use Rattle.minimal.specs.declared.within.Shortened.{Shortened}
 use Rattle.minimal.specs.Minimised.{most-unmarked, unmarked-checks, minimal-checks, minimal-refusal, Minimises}
+use Rattle.minimal.specs.between.Computed.{Minimises-of}
+use Rattle.minimal.proofs.ComputedTheorem.{minimises-of}
 use Rattle.minimal.proofs.DemandThree.{checks-pass, many-refused, refused-many, passed-few}
 use Rattle.claim.specs.declared.answer.Claim.the-variants.{Least}
 use Rattle.claim.specs.declared.answer.Licensed.{Licensed}
@@ -65,7 +67,7 @@ module _ (w l before : List ℕ) (passed : licence-refusal w l before ≡ none) 
   room = roomy w l (length before) passed
 
   -- the minimal reduction answers
-  pub licenses-least : (r : Shortened) (tally : Tally) (after : List ℕ) → Minimises most-unmarked w l before r after → r .answer ≡ Valid tally
+  pub licenses-least : (r : Shortened) (tally : Tally) (after : List ℕ) → Minimises-of most-unmarked w l before r after → r .answer ≡ Valid tally
       → Licenses w l before (record { claim = Least; told = r }) after
   licenses-least r tally after minimises valid =
       let passes : answer (minimal-checks most-unmarked w l (length before)) ≡ none = sym (minimises .answers .refusal) ∙ ap told-answer valid in
@@ -117,7 +119,10 @@ module _ (w l before : List ℕ) (v : Verdict) (given : Answer) (state : List �
       goes-further w l before passed refusal lodged others refuses (rw (passed, is) at (checks .checked (room-checks (length l) (length before)) asked .tally)) counted
 
 -- what the service answers, by what the minimal reduction does
-module _ (w l before : List ℕ) (r : Shortened) (after : List ℕ) (minimises : Minimises most-unmarked w l before r after) where
+module _ (w l before : List ℕ) (r : Shortened) (after : List ℕ) (answered : Minimises most-unmarked w l before r after) where
+  minimises : Minimises-of most-unmarked w l before r after
+  minimises = minimises-of most-unmarked w l before r after answered
+
   pub answers-least : (tally : Tally) → r .answer ≡ Valid tally → Licenses w l before (record { claim = Least; told = r }) after
   unfolding minimal-checks
   answers-least tally valid =

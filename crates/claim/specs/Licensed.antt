@@ -15,7 +15,8 @@ use Rattle.plan.specs.Checked.{lodged-tally}
 use Rattle.landmark.specs.Marks.{marked, unmarked}
 use Rattle.reduced.specs.Reduced.{reduction-checks, Reduces}
 use Rattle.cheaper.specs.Cheaper.{cheaper-of}
-use Rattle.minimal.specs.Minimised.{most-unmarked, minimal-of}
+use Rattle.minimal.specs.Minimised.{most-unmarked}
+use Rattle.minimal.specs.between.Computed.{minimal-of}
 use Rattle.claim.specs.declared.answer.Claim.{Claim}
 use Rattle.claim.specs.declared.answer.Claim.the-variants.{Least, Irreducible, Open}
 use Rattle.claim.specs.declared.answer.Licensed.{Licensed}

@@ -25,9 +25,9 @@ use Rattle.mask.proofs.MaskTheorem.{front-and-rest}
 use Rattle.course.specs.Course.{course-checks}
 use Rattle.reduced.specs.Reduced.{room-checks, reduction-checks, output-left}
 use Rattle.elimination.specs.declared.single.Elimination.the-variants.{Plain, Greedy}
-use Rattle.elimination.specs.Eliminations.{elimination-of, greedy-elimination-of, left-by}
+use Rattle.elimination.specs.between.Left.{elimination-of, greedy-elimination-of}
 use Rattle.cheaper.specs.Cheaper.{cheaper-part}
-use Rattle.minimal.specs.Minimised.{most-unmarked, unmarked-checks, minimal-checks, minimal-of}
+use Rattle.minimal.specs.Minimised.{most-unmarked, unmarked-checks, minimal-checks}
 use Rattle.claim.specs.Licensed.{licensed-of}
 use Rattle.sas.specs.Task.{Task}
 use Rattle.translation.specs.declared.translate.Translated.{Translated}
@@ -36,7 +36,7 @@ use Rattle.translation.specs.Translation.{text-task, task-checks, translation-c
 use Rattle.demands.specs.One.{Output-lent, Demand-one}
 use Rattle.demands.specs.One.{sheet-numbers, step-numbers, read-numbers, list-numbers, greedy-numbers, exact-numbers, text-numbers}
 use Rattle.demands.proofs.FireLaws.{refuses-just}
-use Rattle.demands.proofs.FitLaws.{Flags-each, elimination-flags, minimal-flags, licensed-flags}
+use Rattle.demands.proofs.FitLaws.{Flags-each, elimination-flags, computed-flags, minimal-flags, licensed-flags}
 
 abbrev number-of : Check → ℕ
 number-of c = c .number
@@ -115,24 +115,26 @@ demand-one =
         λ t h. rw (← courses .refusal, h) at (courses .states),
       );
       marks = λ w l verdict mask masks. refuses-just _ _ _ (list-numbered w l) (masks .refusal);
-      elimination = λ by w l before given mask after reduces. (
-        refuses-just _ _ _ (greedy-numbered w l (length before)) (reduces .refusal),
-        output-lent _ l (left-by by w l) before after (rw (← reduces .refusal) at (reduces .output))
-            (λ h. (length before, omega arith, elimination-flags w l (length before) by (sym (reduces .refusal) ∙ h))),
-      );
+      elimination = λ by w l before given mask after eliminates.
+          let reduces = eliminates .told in (
+            refuses-just _ _ _ (greedy-numbered w l (length before)) (reduces .refusal),
+            output-lent _ l (eliminates .left) before after (rw (← reduces .refusal) at (reduces .output))
+                (λ h. let passed = sym (reduces .refusal) ∙ h in (length before, omega arith, elimination-flags w l (length before) by _ passed (eliminates .is-left passed))),
+          );
       both-eliminations = λ w l before before′ verdict first second after after′ both. (
         refuses-just _ _ _ (greedy-numbered w l (min (length before) (length before′))) (both .refusal),
         output-lent _ l (elimination-of w l) before after (both .first-output)
-            (λ h. (_, min-le-left (length before) (length before′), elimination-flags w l _ Plain (sym (both .refusal) ∙ h))),
+            (λ h. (_, min-le-left (length before) (length before′), computed-flags w l _ Plain (sym (both .refusal) ∙ h))),
         output-lent _ l (greedy-elimination-of w l) before′ after′ (both .second-output)
-            (λ h. (_, min-le-right (length before) (length before′), elimination-flags w l _ Greedy (sym (both .refusal) ∙ h))),
+            (λ h. (_, min-le-right (length before) (length before′), computed-flags w l _ Greedy (sym (both .refusal) ∙ h))),
       );
       cheaper-shown = λ first second t u part is. rw is (part-shown first second t u _ refl);
-      exact-reduction = λ w l before r after minimises. (
-        refuses-just _ _ _ (exact-numbered most-unmarked w l (length before)) (minimises .answers .refusal),
-        output-lent _ l (minimal-of w l) before after (rw (← minimises .answers .refusal) at (minimises .answers .output))
-            (λ h. (length before, omega arith, minimal-flags w l (length before) (sym (minimises .answers .refusal) ∙ h))),
-      );
+      exact-reduction = λ w l before r after minimises.
+          let answers = minimises .answers .told in (
+            refuses-just _ _ _ (exact-numbered most-unmarked w l (length before)) (answers .refusal),
+            output-lent _ l (minimises .answers .left) before after (rw (← answers .refusal) at (answers .output))
+                (λ h. let passed = sym (answers .refusal) ∙ h in (length before, omega arith, minimal-flags w l (length before) _ passed (minimises .answers .is-left passed))),
+          );
       licence = λ w l before r after licenses. (
         refuses-just _ _ _ (greedy-numbered w l (length before)) (licenses .answers .refusal),
         output-lent _ l (licensed-of w l) before after (rw (← licenses .answers .refusal) at (licenses .answers .output))

@@ -2,7 +2,7 @@
 -- and `tally` say that the definition is the rule. Nothing here is about the code: its contracts cite the same definitions. Assumes nothing.
 use Prim.Native.Nat.{ℕ, _+_, _≤_}
 use native.Mathlib.Omega.{arith}
-use mathlib.Core.Path.{_≡_, refl, sym, _∙_, ap}
+use mathlib.Core.Path.{_≡_, refl, sym, _∙_, ap, subst}
 use mathlib.Core.Bool.{Bool, true, false}
 use mathlib.Core.Option.{Option, none, some, Option·some-ne-none}
 use mathlib.Core.List.{List}
@@ -37,17 +37,17 @@ use Rattle.landmark.proofs.MarkTheorem.{bits-just-marked}
 use Rattle.minimal.proofs.DemandThree.{are-marks}
 use Rattle.elimination.specs.declared.single.Elimination.{Elimination}
 use Rattle.elimination.specs.declared.single.Elimination.the-variants.{Plain, Greedy}
-use Rattle.elimination.specs.Eliminations.{elimination-of, greedy-elimination-of, left-by, Rule-leaves}
+use Rattle.elimination.specs.Eliminations.{Rule-leaves}
+use Rattle.elimination.specs.between.Left.{elimination-of, greedy-elimination-of, left-by}
 use Rattle.elimination.proofs.LeavesLaws.{rule-leaves}
 use Rattle.cheaper.specs.Cheaper.{Reduces-both, cheaper-part}
 use Rattle.cheaper.proofs.CheaperTheorem.{greedy-shown, elimination-shown, nothing-shown}
 use Rattle.minimal.specs.declared.within.Shortened.{Shortened}
-use Rattle.minimal.specs.Minimised.{minimal-of}
 use Rattle.claim.specs.Licensed.{licensed-of}
 use Rattle.demands.specs.Two.{Checked-truly, Course-truly, Marks-truly, Marked-number, Tally-truly, Cheaper, Shown-truly}
 use Rattle.demands.specs.Two.{Mask-truly, Shortened-truly, Demand-two}
 use Rattle.demands.proofs.OrderLaws.{compared-truly}
-use Rattle.demands.proofs.FitLaws.{Flags-each, elimination-flags, minimal-flags, licensed-flags}
+use Rattle.demands.proofs.FitLaws.{Flags-each, left-computed, elimination-flags, computed-flags, minimal-flags, licensed-flags}
 
 -- a verdict that tells nothing passes, and one that tells something refuses
 none-passed : (v : Verdict) → told v ≡ none → v ≡ Passed
@@ -146,7 +146,7 @@ module _ (w l : List ℕ) where
       }
     where
       fits : told verdict ≡ none → (by : Elimination) → length (left-by by w l) ≡ length l
-      fits h by = elimination-flags w l _ by (sym (both .refusal) ∙ h) .fits
+      fits h by = computed-flags w l _ by (sym (both .refusal) ∙ h) .fits
 
   marked-number : (n : ℕ) → n ≡ count (marks w l) → Marked-number w l n
   marked-number n is = record { flags = marks w l; are-marks = are-marks w l; number = is }
@@ -187,11 +187,12 @@ demand-two =
       list-check = checked-truly;
       course = course-truly;
       marks = marks-truly;
-      elimination = λ by w l before given mask after reduces. (
-        λ h. left-truly w l (length before) (sym (reduces .refusal) ∙ h) by,
-        tallied-truly w l _ (left-by by w l) before given mask after reduces,
-        masked-truly w l _ (left-by by w l) before given mask after reduces (elimination-flags w l (length before) by),
-      );
+      elimination = λ by w l before given mask after eliminates.
+          let reduces = eliminates .told in (
+            λ h. let passed = sym (reduces .refusal) ∙ h in subst (Rule-leaves by w l) (sym (left-computed w l (length before) by _ passed (eliminates .is-left passed))) (left-truly w l (length before) passed by),
+            tallied-truly w l _ (eliminates .left) before given mask after reduces,
+            masked-truly w l _ (eliminates .left) before given mask after reduces (λ passed. elimination-flags w l (length before) by _ passed (eliminates .is-left passed)),
+          );
       both-eliminations = λ w l before before′ verdict first second after after′ both. (
         λ h. left-truly w l _ (sym (both .refusal) ∙ h) Plain,
         λ h. left-truly w l _ (sym (both .refusal) ∙ h) Greedy,
@@ -201,7 +202,8 @@ demand-two =
       cheaper-shown = λ w l before before′ verdict first second after after′ part both is.
           rw is (shown-truly w l before before′ verdict first second after after′ both);
       exact-reduction = λ w l before r after minimises.
-          shortened-truly w l _ (minimal-of w l) before r after (minimises .answers) (minimal-flags w l (length before)) (minimises .lodged) (minimises .marks);
+          shortened-truly w l _ (minimises .answers .left) before r after (minimises .answers .told)
+          (λ passed. minimal-flags w l (length before) _ passed (minimises .answers .is-left passed)) (minimises .lodged) (minimises .marks);
       licence = λ w l before r after licenses.
           shortened-truly w l _ (licensed-of w l) before (r .told) after (licenses .answers) (licensed-flags w l (length before)) (licenses .lodged) (licenses .marks);
       tally-compare = λ t u r is. rw is (compared-truly t u);

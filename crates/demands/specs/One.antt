@@ -19,13 +19,14 @@ use Rattle.step.specs.Step.{step-checks, Steps, After}
 use Rattle.plan.specs.declared.check.Answer.{Answer}
 use Rattle.plan.specs.Checked.{plan-checks, told-answer, Checks}
 use Rattle.course.specs.Course.{course-checks, Courses}
-use Rattle.reduced.specs.Reduced.{reduction-checks, Reduces}
+use Rattle.reduced.specs.Reduced.{reduction-checks}
 use Rattle.landmark.specs.Marks.{Masks}
 use Rattle.elimination.specs.declared.single.Elimination.{Elimination}
-use Rattle.elimination.specs.Eliminations.{elimination-of, greedy-elimination-of, left-by}
+use Rattle.elimination.specs.Eliminations.{Eliminates}
+use Rattle.elimination.specs.between.Left.{elimination-of, greedy-elimination-of}
 use Rattle.cheaper.specs.Cheaper.{Reduces-both, cheaper-part}
 use Rattle.minimal.specs.declared.within.Shortened.{Shortened}
-use Rattle.minimal.specs.Minimised.{most-unmarked, minimal-checks, minimal-of, Minimises}
+use Rattle.minimal.specs.Minimised.{most-unmarked, minimal-checks, Minimises}
 use Rattle.claim.specs.declared.answer.Licensed.{Licensed}
 use Rattle.claim.specs.Licensed.{licensed-of, Licenses}
 use Rattle.translation.specs.declared.translate.Translated.{Translated}
@@ -109,9 +110,9 @@ pub record Demand-one : Type 0 where
       → Refuses-just list-numbers (plan-checks w l) (told verdict)
   -- elimination, or greedy elimination
   pub elimination : (by : Elimination) (w l before : List ℕ) (given : Answer) (mask after : List ℕ)
-      → Reduces w l (left-by by w l) before given mask after
+      (eliminates : Eliminates by w l before given mask after)
       → Refuses-just greedy-numbers (reduction-checks w l (length before)) (told-answer given)
-      × Output-lent (told-answer given) l (left-by by w l) before after
+      × Output-lent (told-answer given) l (eliminates .left) before after
   -- both eliminations, whose room is that of the shorter output
   pub both-eliminations : (w l before before′ : List ℕ) (verdict : Verdict) (first second : Tally)
       (after after′ : List ℕ) → Reduces-both w l before before′ verdict first second after after′
@@ -124,9 +125,9 @@ pub record Demand-one : Type 0 where
       → (part ≡ take (of-first .steps) first) ⊎ (part ≡ take (of-second .steps) second)
   -- the exact reduction
   pub exact-reduction : (w l before : List ℕ) (r : Shortened) (after : List ℕ)
-      → Minimises most-unmarked w l before r after
+      (minimises : Minimises most-unmarked w l before r after)
       → Refuses-just exact-numbers (minimal-checks most-unmarked w l (length before)) (told-answer (r .answer))
-      × Output-lent (told-answer (r .answer)) l (minimal-of w l) before after
+      × Output-lent (told-answer (r .answer)) l (minimises .answers .left) before after
   -- the licence, with the refusals of the eliminations
   pub licence : (w l before : List ℕ) (r : Licensed) (after : List ℕ) → Licenses w l before r after
       → Refuses-just greedy-numbers (reduction-checks w l (length before)) (told-answer (r .told .answer))

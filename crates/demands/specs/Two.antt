@@ -29,14 +29,14 @@ use Rattle.plan.specs.Valid.{steps}
 use Rattle.plan.specs.Checked.{plan-checks, told-answer, told-tally, no-state, Checks}
 use Rattle.plan.specs.Valid.{Fails-at}
 use Rattle.course.specs.Course.{Courses}
-use Rattle.reduced.specs.Reduced.{Reduces}
 use Rattle.landmark.specs.Marks.{Masks}
 use Rattle.elimination.specs.declared.single.Elimination.{Elimination}
 use Rattle.elimination.specs.declared.single.Elimination.the-variants.{Plain, Greedy}
-use Rattle.elimination.specs.Eliminations.{elimination-of, greedy-elimination-of, left-by, Rule-leaves}
+use Rattle.elimination.specs.Eliminations.{Rule-leaves, Eliminates}
+use Rattle.elimination.specs.between.Left.{elimination-of, greedy-elimination-of}
 use Rattle.cheaper.specs.Cheaper.{Reduces-both, cheaper-part}
 use Rattle.minimal.specs.declared.within.Shortened.{Shortened}
-use Rattle.minimal.specs.Minimised.{most-unmarked, minimal-of, Minimises}
+use Rattle.minimal.specs.Minimised.{most-unmarked, Minimises}
 use Rattle.minimal.specs.Statement.{Is-marked, Are-marks}
 use Rattle.claim.specs.declared.answer.Licensed.{Licensed}
 use Rattle.claim.specs.Licensed.{licensed-of, Licenses}
@@ -148,10 +148,10 @@ pub record Demand-two : Type 0 where
       → Marks-truly w l (told verdict) mask
   -- elimination, or greedy elimination
   pub elimination : (by : Elimination) (w l before : List ℕ) (given : Answer) (mask after : List ℕ)
-      → Reduces w l (left-by by w l) before given mask after
-      → (told-answer given ≡ none → Rule-leaves by w l (left-by by w l))
-      × Tally-truly w l (left-by by w l) (told-answer given) (told-tally given)
-      × Mask-truly (left-by by w l) (told-answer given) mask
+      (eliminates : Eliminates by w l before given mask after)
+      → (told-answer given ≡ none → Rule-leaves by w l (eliminates .left))
+      × Tally-truly w l (eliminates .left) (told-answer given) (told-tally given)
+      × Mask-truly (eliminates .left) (told-answer given) mask
   -- both eliminations
   pub both-eliminations : (w l before before′ : List ℕ) (verdict : Verdict) (first second : Tally)
       (after after′ : List ℕ) → Reduces-both w l before before′ verdict first second after after′
@@ -165,7 +165,7 @@ pub record Demand-two : Type 0 where
       → part ≡ cheaper-part after after′ first second → Shown-truly w l (told verdict) part
   -- the exact reduction, of which demand 3 says what it leaves
   pub exact-reduction : (w l before : List ℕ) (r : Shortened) (after : List ℕ)
-      → Minimises most-unmarked w l before r after → Shortened-truly w l (minimal-of w l) r
+      (minimises : Minimises most-unmarked w l before r after) → Shortened-truly w l (minimises .answers .left) r
   -- the licence, of which `May-be-lodged` says what it leaves
   pub licence : (w l before : List ℕ) (r : Licensed) (after : List ℕ) → Licenses w l before r after
       → Shortened-truly w l (licensed-of w l) (r .told)

@@ -25,7 +25,8 @@ use Rattle.plan.specs.Checked.{plan-checks}
 use Rattle.plan.proofs.PlanTheorem.{plan-theorem}
 use Rattle.reduced.specs.Reduced.{room-checks, reduction-checks, Answers}
 use Rattle.minimal.specs.declared.within.Shortened.{Shortened}
-use Rattle.minimal.specs.Minimised.{unmarked-checks, minimal-checks, minimal-of, Minimises}
+use Rattle.minimal.specs.Minimised.{unmarked-checks, minimal-checks}
+use Rattle.minimal.specs.between.Computed.{Minimises-of, minimal-of}
 use Rattle.minimal.specs.Statement.{Are-marks, Demand-three-of, Demand-three}
 use Rattle.plan.specs.Readable.{Readable}
 use Rattle.plan.proofs.PlanLaws.{steps-formed, faultless-passes, passes-faultless}
@@ -98,7 +99,7 @@ demand-three-of limit w l room Tells readable plan roomy told =
       refused = λ many. subst (λ t. Tells t (minimal-of w l)) (many-refused w l readable plan limit room roomy many) told;
     }
 
-pub demand-three : (limit : ℕ) (w l before : List ℕ) (r : Shortened) (after : List ℕ) → Minimises limit w l before r after
+pub demand-three : (limit : ℕ) (w l before : List ℕ) (r : Shortened) (after : List ℕ) → Minimises-of limit w l before r after
     → Demand-three limit w l before (r .answer) (r .mask .words) after
 demand-three limit w l before r after minimises readable plan roomy =
     demand-three-of limit w l (length before) (λ t m. Answers t w l m before (r .answer) (r .mask .words) after) readable plan roomy (minimises .answers)

@@ -2,8 +2,8 @@
 -- the tally is plain by those of tallies. Assumes nothing.
 use Prim.Native.Nat.{ℕ, _≤_}
 use native.Mathlib.Omega.{arith}
-use mathlib.Core.Path.{_≡_, sym, _∙_, ap}
-use mathlib.Core.Option.{Option, none}
+use mathlib.Core.Path.{_≡_, refl, sym, _∙_, ap, subst}
+use mathlib.Core.Option.{Option, none, some}
 use mathlib.Core.List.{List}
 use lib.ListN.{length, replicate}
 use Rattle.refusal.specs.declared.Refusal.{Refusal}
@@ -31,6 +31,13 @@ keeps w l m before after words tally readable fits x =
       told-by = x .told-by;
       written = x .written ∙ rw (x .told-by, mask-keeps m l few fits);
     }
+
+-- of a refusal the reduction does not matter
+pub answers-same : (t : Option Told) (w l : List ℕ) (m n : Reduction) (before : List ℕ) (given : Answer) (mask after : List ℕ) → (t ≡ none → m ≡ n)
+    → Answers t w l m before given mask after → Answers t w l n before given mask after
+answers-same none w l m n before given mask after same answers = subst (λ k. Answers none w l k before given mask after) (same refl) answers
+answers-same (some r) w l m n before given mask after same answers =
+    record { refusal = answers .refusal; tally = answers .tally; told-by = answers .told-by; output = answers .output }
 
 module _ (t : Option Told) (w l : List ℕ) (m : Reduction) (before : List ℕ) (given : Answer) (checked : told-answer given ≡ t) where
   -- a service refuses, with zeros, and touches nothing

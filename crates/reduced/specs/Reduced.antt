@@ -1,7 +1,7 @@
 -- What a service that answers with a reduction of a list answers. Assumes nothing.
 use Prim.Native.Nat.{ℕ}
 use mathlib.Core.Path.{_≡_}
-use mathlib.Core.Option.{Option}
+use mathlib.Core.Option.{Option, none}
 use mathlib.Core.List.{List, [], _∷_}
 use lib.ListN.{length, replicate}
 use lib.Seq.{sets}
@@ -44,6 +44,13 @@ pub record Answers (t : Option Told) (w l : List ℕ) (m : Reduction) (before : 
   pub told-by : mask ≡ unless-refused t (mask-words m) (replicate mask-length 0)
   pub output : after ≡ unless-refused t (output-left l m before) before
 
--- such a service with refusals 1 to 11
+-- a service whose checks answer t tells, by what `Tells` says, of some reduction, which is as `Left` says where nothing
+-- is refused
+pub record Tells-left (Left Tells : Reduction → Type 0) (t : Option Told) : Type 0 where
+  pub left : Reduction
+  pub is-left : t ≡ none → Left left
+  pub told : Tells left
+
+-- a service with refusals 1 to 11
 abbrev pub Reduces : List ℕ → List ℕ → Reduction → List ℕ → Answer → List ℕ → List ℕ → Type 0
 Reduces w l m before = Answers (answer (reduction-checks w l (length before))) w l m before

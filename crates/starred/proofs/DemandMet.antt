@@ -26,7 +26,8 @@ use Rattle.plan.specs.Valid.{steps}
 use Rattle.plan.specs.Checked.{told-answer, told-tally}
 use Rattle.plan.proofs.PlanTheorem.{passes-exactly}
 use Rattle.reduction.proofs.minimal.MinimalTheorem.{minimal-once}
-use Rattle.minimal.specs.Minimised.{most-unmarked, minimal-of}
+use Rattle.minimal.specs.Minimised.{most-unmarked}
+use Rattle.minimal.specs.between.Computed.{minimal-of}
 use Rattle.minimal.specs.Statement.{Demand-three-of, Demand-three}
 use Rattle.reduced.specs.Reduced.{Answers}
 use Rattle.minimal.proofs.DemandThree.{is-minimal}

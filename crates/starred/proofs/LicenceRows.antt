@@ -27,7 +27,7 @@ use Rattle.reduced.specs.Reduced.{tally-left}
 use Rattle.landmark.specs.Marks.{marks, unmarked}
 use Rattle.landmark.proofs.MarkTheorem.{marks-theorem}
 use Rattle.cheaper.specs.Cheaper.{cheaper-of}
-use Rattle.minimal.specs.Minimised.{minimal-of}
+use Rattle.minimal.specs.between.Computed.{minimal-of}
 use Rattle.claim.specs.declared.answer.Claim.the-variants.{Irreducible}
 use Rattle.claim.specs.Licensed.{cheaper-list, claim-of, claimed-by, licensed-of}
 use Rattle.claim.specs.Statement.{All-marked}

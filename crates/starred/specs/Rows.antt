@@ -21,8 +21,10 @@ use Rattle.plan.specs.Checked.{plan-checks, lodged-tally}
 use Rattle.reduced.specs.Reduced.{reduction-checks, tally-left}
 use Rattle.landmark.specs.Marks.{marks}
 use Rattle.elimination.specs.declared.single.Elimination.the-variants.{Plain, Greedy}
-use Rattle.elimination.specs.Eliminations.{elimination-of, greedy-elimination-of, Rule-leaves}
-use Rattle.minimal.specs.Minimised.{most-unmarked, minimal-checks, minimal-of}
+use Rattle.elimination.specs.Eliminations.{Rule-leaves}
+use Rattle.elimination.specs.between.Left.{elimination-of, greedy-elimination-of}
+use Rattle.minimal.specs.Minimised.{most-unmarked, minimal-checks}
+use Rattle.minimal.specs.between.Computed.{minimal-of}
 use Rattle.minimal.specs.Statement.{Is-marked, Valid-striking}
 use Rattle.starred.specs.Sheets.{sheet-p, gate-alone, two-writers, one-for-both}
 

@@ -12,8 +12,9 @@ use Rattle.reduction.specs.Reduction.{Reduction}
 use Rattle.mask.specs.Mask.{mask-length, mask-words}
 use Rattle.reduced.specs.Reduced.{reduction-checks, tally-left, output-left}
 use Rattle.elimination.specs.declared.single.Elimination.{Elimination}
-use Rattle.elimination.specs.Eliminations.{elimination-of, greedy-elimination-of, left-by}
-use Rattle.minimal.specs.Minimised.{most-unmarked, minimal-checks, minimal-of}
+use Rattle.elimination.specs.between.Left.{elimination-of, greedy-elimination-of, left-by}
+use Rattle.minimal.specs.Minimised.{most-unmarked, minimal-checks}
+use Rattle.minimal.specs.between.Computed.{minimal-of}
 use Rattle.claim.specs.declared.answer.Claim.{Claim}
 use Rattle.claim.specs.declared.answer.Claim.the-variants.{Least, Irreducible, Open}
 use Rattle.claim.specs.Licensed.{claim-of, licensed-of}
