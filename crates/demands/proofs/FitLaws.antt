@@ -13,13 +13,13 @@ use Rattle.plan.proofs.PlanLaws.{passed-readable}
 use Rattle.reduction.specs.Reduction.{Reduction}
 use Rattle.reduction.specs.Minimal.{Minimal-reduction}
 use Rattle.reduced.specs.Reduced.{reduction-checks}
-use Rattle.reduced.proofs.LodgedLaws.{lodged-plan, lodged-valid, roomy}
+use Rattle.reduced.proofs.LodgedLaws.{lodged-valid, roomy}
 use Rattle.elimination.specs.declared.single.Elimination.{Elimination}
 use Rattle.elimination.specs.Eliminations.{Left-by-rule}
 use Rattle.elimination.specs.between.Left.{left-by}
 use Rattle.elimination.proofs.LeavesLaws.{rule-leaves, left-fits}
-use Rattle.claim.specs.Licensed.{licensed-of}
-use Rattle.claim.proofs.LicenceTheorem.{licence-of}
+use Rattle.claim.specs.declared.answer.Claim.{Claim}
+use Rattle.claim.specs.Statement.{Licence}
 use Rattle.minimal.specs.Minimised.{most-unmarked, minimal-checks}
 use Rattle.minimal.proofs.ComputedTheorem.{first-pass}
 
@@ -48,5 +48,5 @@ module _ (w l : List ℕ) (room : ℕ) where
   pub minimal-flags : (m : Reduction) → answer (minimal-checks most-unmarked w l room) ≡ none → Minimal-reduction (initial w) (goal w) (steps w l) m → Flags-each l m room
   minimal-flags m passes minimal = passed-flags m (first-pass most-unmarked w l room passes) (minimal .valid .fits)
 
-  pub licensed-flags : answer (reduction-checks w l room) ≡ none → Flags-each l (licensed-of w l) room
-  licensed-flags passed = passed-flags (licensed-of w l) passed (licence-of w l (passed-readable _ _ w l passed) (lodged-plan _ w l passed) .valid-left .fits)
+  pub licensed-flags : (c : Claim) (m : Reduction) → answer (reduction-checks w l room) ≡ none → Licence w l c m → Flags-each l m room
+  licensed-flags c m passed licence = passed-flags m passed (licence .valid-left .fits)

@@ -28,7 +28,6 @@ use Rattle.elimination.specs.declared.single.Elimination.the-variants.{Plain, G
 use Rattle.elimination.specs.between.Left.{elimination-of, greedy-elimination-of}
 use Rattle.cheaper.specs.Cheaper.{cheaper-part}
 use Rattle.minimal.specs.Minimised.{most-unmarked, unmarked-checks, minimal-checks}
-use Rattle.claim.specs.Licensed.{licensed-of}
 use Rattle.sas.specs.Task.{Task}
 use Rattle.translation.specs.declared.translate.Translated.{Translated}
 use Rattle.translation.specs.declared.translate.Translated.the-variants.{Refused, Written}
@@ -135,11 +134,12 @@ demand-one =
             output-lent _ l (minimises .answers .left) before after (rw (← answers .refusal) at (answers .output))
                 (λ h. let passed = sym (answers .refusal) ∙ h in (length before, omega arith, minimal-flags w l (length before) _ passed (minimises .answers .is-left passed))),
           );
-      licence = λ w l before r after licenses. (
-        refuses-just _ _ _ (greedy-numbered w l (length before)) (licenses .answers .refusal),
-        output-lent _ l (licensed-of w l) before after (rw (← licenses .answers .refusal) at (licenses .answers .output))
-            (λ h. (length before, omega arith, licensed-flags w l (length before) (sym (licenses .answers .refusal) ∙ h))),
-      );
+      licence = λ w l before r after licenses.
+          let answers = licenses .answers .told in (
+            refuses-just _ _ _ (greedy-numbered w l (length before)) (answers .refusal),
+            output-lent _ l (licenses .answers .left) before after (rw (← answers .refusal) at (answers .output))
+                (λ h. let passed = sym (answers .refusal) ∙ h in (length before, omega arith, licensed-flags w l (length before) _ _ passed (licenses .answers .is-left passed))),
+          );
       planner-text = λ text before r after translates. (
         refuses-just _ _ _ (text-numbered text (length before)) (translates .answers),
         refused-leaves (text-task text) before after r (translates .leaves),

@@ -43,7 +43,6 @@ use Rattle.elimination.proofs.LeavesLaws.{rule-leaves}
 use Rattle.cheaper.specs.Cheaper.{Reduces-both, cheaper-part}
 use Rattle.cheaper.proofs.CheaperTheorem.{greedy-shown, elimination-shown, nothing-shown}
 use Rattle.minimal.specs.declared.within.Shortened.{Shortened}
-use Rattle.claim.specs.Licensed.{licensed-of}
 use Rattle.demands.specs.Two.{Checked-truly, Course-truly, Marks-truly, Marked-number, Tally-truly, Cheaper, Shown-truly}
 use Rattle.demands.specs.Two.{Mask-truly, Shortened-truly, Demand-two}
 use Rattle.demands.proofs.OrderLaws.{compared-truly}
@@ -205,7 +204,8 @@ demand-two =
           shortened-truly w l _ (minimises .answers .left) before r after (minimises .answers .told)
           (λ passed. minimal-flags w l (length before) _ passed (minimises .answers .is-left passed)) (minimises .lodged) (minimises .marks);
       licence = λ w l before r after licenses.
-          shortened-truly w l _ (licensed-of w l) before (r .told) after (licenses .answers) (licensed-flags w l (length before)) (licenses .lodged) (licenses .marks);
+          shortened-truly w l _ (licenses .answers .left) before (r .told) after (licenses .answers .told)
+          (λ passed. licensed-flags w l (length before) _ _ passed (licenses .answers .is-left passed)) (licenses .lodged) (licenses .marks);
       tally-compare = λ t u r is. rw is (compared-truly t u);
       tally-add = λ t price r is.
           record {

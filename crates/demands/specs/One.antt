@@ -28,7 +28,7 @@ use Rattle.cheaper.specs.Cheaper.{Reduces-both, cheaper-part}
 use Rattle.minimal.specs.declared.within.Shortened.{Shortened}
 use Rattle.minimal.specs.Minimised.{most-unmarked, minimal-checks, Minimises}
 use Rattle.claim.specs.declared.answer.Licensed.{Licensed}
-use Rattle.claim.specs.Licensed.{licensed-of, Licenses}
+use Rattle.claim.specs.Licensed.{Licenses}
 use Rattle.translation.specs.declared.translate.Translated.{Translated}
 use Rattle.translation.specs.Translation.{translation-checks, told-translated, Translates}
 
@@ -129,9 +129,9 @@ pub record Demand-one : Type 0 where
       → Refuses-just exact-numbers (minimal-checks most-unmarked w l (length before)) (told-answer (r .answer))
       × Output-lent (told-answer (r .answer)) l (minimises .answers .left) before after
   -- the licence, with the refusals of the eliminations
-  pub licence : (w l before : List ℕ) (r : Licensed) (after : List ℕ) → Licenses w l before r after
+  pub licence : (w l before : List ℕ) (r : Licensed) (after : List ℕ) (licenses : Licenses w l before r after)
       → Refuses-just greedy-numbers (reduction-checks w l (length before)) (told-answer (r .told .answer))
-      × Output-lent (told-answer (r .told .answer)) l (licensed-of w l) before after
+      × Output-lent (told-answer (r .told .answer)) l (licenses .answers .left) before after
   -- a planner's text read into a sheet; what an answer writes is `Writes-sheet`
   pub planner-text : (text before : List ℕ) (r : Translated) (after : List ℕ) → Translates text before r after
       → Refuses-just text-numbers (translation-checks text (length before)) (told-translated r)

@@ -39,7 +39,7 @@ use Rattle.minimal.specs.declared.within.Shortened.{Shortened}
 use Rattle.minimal.specs.Minimised.{most-unmarked, Minimises}
 use Rattle.minimal.specs.Statement.{Is-marked, Are-marks}
 use Rattle.claim.specs.declared.answer.Licensed.{Licensed}
-use Rattle.claim.specs.Licensed.{licensed-of, Licenses}
+use Rattle.claim.specs.Licensed.{Licenses}
 
 -- a mask tells the reduction m: bit i is one exactly where step i + 1 is kept, and the number of ones is that of the
 -- kept steps; in a refusal it is zero
@@ -167,8 +167,8 @@ pub record Demand-two : Type 0 where
   pub exact-reduction : (w l before : List ℕ) (r : Shortened) (after : List ℕ)
       (minimises : Minimises most-unmarked w l before r after) → Shortened-truly w l (minimises .answers .left) r
   -- the licence, of which `May-be-lodged` says what it leaves
-  pub licence : (w l before : List ℕ) (r : Licensed) (after : List ℕ) → Licenses w l before r after
-      → Shortened-truly w l (licensed-of w l) (r .told)
+  pub licence : (w l before : List ℕ) (r : Licensed) (after : List ℕ) (licenses : Licenses w l before r after)
+      → Shortened-truly w l (licenses .answers .left) (r .told)
   -- a tally with one step more, and which of two tallies is the lower
   pub tally-add : (t : Tally) (price : ℕ) (r : Tally) → r ≡ one-more t price → Added-truly t price r
   pub tally-compare : (t u : Tally) (r : Order) → r ≡ comparison t u → Compared-truly t u r

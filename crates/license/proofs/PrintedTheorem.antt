@@ -6,7 +6,7 @@ use mathlib.Core.List.{List}
 use lib.ListN.{take}
 use Rattle.plan.specs.Limits.{most-steps}
 use Rattle.minimal.proofs.DemandThree.{checks-pass}
-use Rattle.claim.specs.Licensed.{claim-of, licensed-of}
+use Rattle.claim.specs.between.Computed.{claim-of, licensed-of}
 use Rattle.claim.proofs.LicenceTheorem.{licence-of}
 use Rattle.records.specs.Bytes.{input-of}
 use Rattle.program.specs.Printed.{refusal-line, Has-read, Read-from}

@@ -29,8 +29,8 @@ use Rattle.landmark.proofs.MarkTheorem.{marks-theorem}
 use Rattle.cheaper.specs.Cheaper.{cheaper-of}
 use Rattle.minimal.specs.between.Computed.{minimal-of}
 use Rattle.claim.specs.declared.answer.Claim.the-variants.{Irreducible}
-use Rattle.claim.specs.Licensed.{cheaper-list, claim-of, claimed-by, licensed-of}
-use Rattle.claim.specs.Statement.{All-marked}
+use Rattle.claim.specs.between.Computed.{claim-of, claimed-by, licensed-of}
+use Rattle.claim.specs.Statement.{cheaper-list, All-marked}
 use Rattle.claim.proofs.LicenceTheorem.{marked-is-whole}
 use Rattle.starred.specs.Sheets.{sheet-p}
 use Rattle.starred.specs.Rounds.{list-3}

@@ -15,8 +15,8 @@ use Rattle.landmark.specs.Marks.{unmarked}
 use Rattle.minimal.specs.Statement.{Valid-striking}
 use Rattle.claim.specs.declared.answer.Claim.{Claim}
 use Rattle.claim.specs.declared.answer.Claim.the-variants.{Least, Irreducible, Open}
-use Rattle.claim.specs.Licensed.{cheaper-list, claim-of, licensed-of}
-use Rattle.claim.specs.Statement.{All-marked}
+use Rattle.claim.specs.between.Computed.{claim-of, licensed-of}
+use Rattle.claim.specs.Statement.{cheaper-list, All-marked}
 use Rattle.starred.specs.Sheets.{sheet-p}
 use Rattle.starred.specs.Rows.{Each, Just-at}
 use Rattle.starred.specs.Rounds.{list-3}

@@ -18,6 +18,8 @@ use Rattle.claim.specs.declared.answer.Claim.{Claim}
 use Rattle.claim.specs.declared.answer.Claim.the-variants.{Least, Irreducible, Open}
 use Rattle.claim.specs.declared.answer.Licensed.{Licensed}
 use Rattle.claim.specs.Licensed.{Licenses}
+use Rattle.claim.specs.between.Computed.{Licenses-of}
+use Rattle.claim.proofs.ComputedTheorem.{licenses-of}
 use Rattle.claim.specs.Statement.{May-be-lodged}
 use Rattle.lent.specs.Words.{answer-words, tally-words, Writes-reduced}
 use Rattle.striking.specs.Strikes.{Answers-lent, Reduces-both-lent, claim-words, Licenses-lent}
@@ -74,7 +76,8 @@ module _ (w l output output′ mask mask′ out between out′ : List ℕ) (r : 
   all-written = claimed ∙ rw (writes .answered) (claim-written out (told-answer (r .told .answer)) (told-tally (r .told .answer)) (r .claim))
 
   pub lent-licenses : Licenses w l output r output′ → Licenses-lent w l output output′ mask mask′ out out′
-  lent-licenses licenses =
+  lent-licenses answered =
+      let licenses : Licenses-of w l output r output′ = licenses-of w l output r output′ answered in
       record {
         list-left = licenses .answers .output;
         told-by = writes .told-by ∙ rw (licenses .answers .told-by);

@@ -17,7 +17,7 @@ use Rattle.minimal.specs.Minimised.{most-unmarked, minimal-checks}
 use Rattle.minimal.specs.between.Computed.{minimal-of}
 use Rattle.claim.specs.declared.answer.Claim.{Claim}
 use Rattle.claim.specs.declared.answer.Claim.the-variants.{Least, Irreducible, Open}
-use Rattle.claim.specs.Licensed.{claim-of, licensed-of}
+use Rattle.claim.specs.between.Computed.{claim-of, licensed-of}
 use Rattle.lent.specs.Words.{answer-words, tally-words}
 
 -- the reduction m of the list l over lent words, from a service whose checks answer t: the list left over `output`, the
