@@ -25,7 +25,6 @@ use Rattle.mask.proofs.MaskTheorem.{front-and-rest}
 use Rattle.course.specs.Course.{course-checks}
 use Rattle.reduced.specs.Reduced.{room-checks, reduction-checks, output-left}
 use Rattle.elimination.specs.declared.single.Elimination.the-variants.{Plain, Greedy}
-use Rattle.elimination.specs.between.Left.{elimination-of, greedy-elimination-of}
 use Rattle.cheaper.specs.Cheaper.{cheaper-part}
 use Rattle.minimal.specs.Minimised.{most-unmarked, unmarked-checks, minimal-checks}
 use Rattle.sas.specs.Task.{Task}
@@ -35,7 +34,7 @@ use Rattle.translation.specs.Translation.{text-task, task-checks, translation-c
 use Rattle.demands.specs.One.{Output-lent, Demand-one}
 use Rattle.demands.specs.One.{sheet-numbers, step-numbers, read-numbers, list-numbers, greedy-numbers, exact-numbers, text-numbers}
 use Rattle.demands.proofs.FireLaws.{refuses-just}
-use Rattle.demands.proofs.FitLaws.{Flags-each, elimination-flags, computed-flags, minimal-flags, licensed-flags}
+use Rattle.demands.proofs.FitLaws.{Flags-each, elimination-flags, minimal-flags, licensed-flags}
 
 abbrev number-of : Check → ℕ
 number-of c = c .number
@@ -122,10 +121,10 @@ demand-one =
           );
       both-eliminations = λ w l before before′ verdict first second after after′ both. (
         refuses-just _ _ _ (greedy-numbered w l (min (length before) (length before′))) (both .refusal),
-        output-lent _ l (elimination-of w l) before after (both .first-output)
-            (λ h. (_, min-le-left (length before) (length before′), computed-flags w l _ Plain (sym (both .refusal) ∙ h))),
-        output-lent _ l (greedy-elimination-of w l) before′ after′ (both .second-output)
-            (λ h. (_, min-le-right (length before) (length before′), computed-flags w l _ Greedy (sym (both .refusal) ∙ h))),
+        output-lent _ l (both .elimination .left) before after (both .elimination .told .1)
+            (λ h. (_, min-le-left (length before) (length before′), elimination-flags w l _ Plain _ (sym (both .refusal) ∙ h) (both .elimination .is-left h))),
+        output-lent _ l (both .greedy .left) before′ after′ (both .greedy .told .1)
+            (λ h. (_, min-le-right (length before) (length before′), elimination-flags w l _ Greedy _ (sym (both .refusal) ∙ h) (both .greedy .is-left h))),
       );
       cheaper-shown = λ first second t u part is. rw is (part-shown first second t u _ refl);
       exact-reduction = λ w l before r after minimises.

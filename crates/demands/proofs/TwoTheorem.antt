@@ -37,8 +37,8 @@ use Rattle.landmark.proofs.MarkTheorem.{bits-just-marked}
 use Rattle.minimal.proofs.DemandThree.{are-marks}
 use Rattle.elimination.specs.declared.single.Elimination.{Elimination}
 use Rattle.elimination.specs.declared.single.Elimination.the-variants.{Plain, Greedy}
-use Rattle.elimination.specs.Eliminations.{Rule-leaves}
-use Rattle.elimination.specs.between.Left.{elimination-of, greedy-elimination-of, left-by}
+use Rattle.elimination.specs.Eliminations.{Left-by-rule, Rule-leaves}
+use Rattle.elimination.specs.between.Left.{left-by}
 use Rattle.elimination.proofs.LeavesLaws.{rule-leaves}
 use Rattle.cheaper.specs.Cheaper.{Reduces-both, cheaper-part}
 use Rattle.cheaper.proofs.CheaperTheorem.{greedy-shown, elimination-shown, nothing-shown}
@@ -115,8 +115,8 @@ module _ (w l : List ℕ) where
         few : told-answer given ≡ none → length m ≤ mask-bits
         few h = omega (arith, each (passed h) .fits, each (passed h) .few)
 
-  left-truly : (room : ℕ) → answer (reduction-checks w l room) ≡ none → (by : Elimination) → Rule-leaves by w l (left-by by w l)
-  left-truly room passed by = rule-leaves w l (lodged-valid _ w l passed) by
+  rule-truly : (room : ℕ) (by : Elimination) (m : Reduction) → answer (reduction-checks w l room) ≡ none → Left-by-rule by w l m → Rule-leaves by w l m
+  rule-truly room by m passed leaves = subst (Rule-leaves by w l) (sym (left-computed w l room by m passed leaves)) (rule-leaves w l (lodged-valid _ w l passed) by)
 
   -- of two lists left the cheaper is the lower
   module _ (m n : Reduction) (fits : length m ≡ length l) (fits′ : length n ≡ length l) where
@@ -134,16 +134,23 @@ module _ (w l : List ℕ) where
     cheaper-or-not none-is false e = e
 
   shown-truly : (before before′ : List ℕ) (verdict : Verdict) (first second : Tally) (after after′ : List ℕ)
-      → Reduces-both w l before before′ verdict first second after after′ → Shown-truly w l (told verdict) (cheaper-part after after′ first second)
+      (both : Reduces-both w l before before′ verdict first second after after′)
+      → Shown-truly w l (both .elimination .left) (both .greedy .left) (told verdict) (cheaper-part after after′ first second)
   shown-truly before before′ verdict first second after after′ both =
       record {
-        of-greedy = λ h less. greedy-shown w l before before′ verdict first second after after′ both (none-passed verdict h)
-            (cheaper-lower _ _ (fits h Greedy) (fits h Plain) less);
-        of-elimination = λ h not-cheaper. elimination-shown w l before before′ verdict first second after after′ both (none-passed verdict h)
-            (cheaper-or-not _ _ (fits h Greedy) (fits h Plain) not-cheaper _ refl);
+        of-greedy = λ h less. rw (second-is h) (greedy-shown w l before before′ verdict first second after after′ both (none-passed verdict h)
+            (cheaper-lower _ _ (fits h Greedy) (fits h Plain) (rw (first-is h, second-is h) at less)));
+        of-elimination = λ h not-cheaper. rw (first-is h) (elimination-shown w l before before′ verdict first second after after′ both (none-passed verdict h)
+            (cheaper-or-not _ _ (fits h Greedy) (fits h Plain) (rw (first-is h, second-is h) at not-cheaper) _ refl));
         of-neither = λ t h. let (r, refused) = some-refused verdict t h in nothing-shown w l before before′ verdict first second after after′ both r refused;
       }
     where
+      first-is : told verdict ≡ none → both .elimination .left ≡ left-by Plain w l
+      first-is h = left-computed w l _ Plain _ (sym (both .refusal) ∙ h) (both .elimination .is-left h)
+
+      second-is : told verdict ≡ none → both .greedy .left ≡ left-by Greedy w l
+      second-is h = left-computed w l _ Greedy _ (sym (both .refusal) ∙ h) (both .greedy .is-left h)
+
       fits : told verdict ≡ none → (by : Elimination) → length (left-by by w l) ≡ length l
       fits h by = computed-flags w l _ by (sym (both .refusal) ∙ h) .fits
 
@@ -188,15 +195,15 @@ demand-two =
       marks = marks-truly;
       elimination = λ by w l before given mask after eliminates.
           let reduces = eliminates .told in (
-            λ h. let passed = sym (reduces .refusal) ∙ h in subst (Rule-leaves by w l) (sym (left-computed w l (length before) by _ passed (eliminates .is-left passed))) (left-truly w l (length before) passed by),
+            λ h. let passed = sym (reduces .refusal) ∙ h in rule-truly w l _ by _ passed (eliminates .is-left passed),
             tallied-truly w l _ (eliminates .left) before given mask after reduces,
             masked-truly w l _ (eliminates .left) before given mask after reduces (λ passed. elimination-flags w l (length before) by _ passed (eliminates .is-left passed)),
           );
       both-eliminations = λ w l before before′ verdict first second after after′ both. (
-        λ h. left-truly w l _ (sym (both .refusal) ∙ h) Plain,
-        λ h. left-truly w l _ (sym (both .refusal) ∙ h) Greedy,
-        tally-truly w l (elimination-of w l) (told verdict) first (both .first-tally),
-        tally-truly w l (greedy-elimination-of w l) (told verdict) second (both .second-tally),
+        λ h. rule-truly w l _ Plain _ (sym (both .refusal) ∙ h) (both .elimination .is-left h),
+        λ h. rule-truly w l _ Greedy _ (sym (both .refusal) ∙ h) (both .greedy .is-left h),
+        tally-truly w l (both .elimination .left) (told verdict) first (both .elimination .told .0),
+        tally-truly w l (both .greedy .left) (told verdict) second (both .greedy .told .0),
       );
       cheaper-shown = λ w l before before′ verdict first second after after′ part both is.
           rw is (shown-truly w l before before′ verdict first second after after′ both);

@@ -23,7 +23,6 @@ use Rattle.reduced.specs.Reduced.{reduction-checks}
 use Rattle.landmark.specs.Marks.{Masks}
 use Rattle.elimination.specs.declared.single.Elimination.{Elimination}
 use Rattle.elimination.specs.Eliminations.{Eliminates}
-use Rattle.elimination.specs.between.Left.{elimination-of, greedy-elimination-of}
 use Rattle.cheaper.specs.Cheaper.{Reduces-both, cheaper-part}
 use Rattle.minimal.specs.declared.within.Shortened.{Shortened}
 use Rattle.minimal.specs.Minimised.{most-unmarked, minimal-checks, Minimises}
@@ -115,10 +114,10 @@ pub record Demand-one : Type 0 where
       × Output-lent (told-answer given) l (eliminates .left) before after
   -- both eliminations, whose room is that of the shorter output
   pub both-eliminations : (w l before before′ : List ℕ) (verdict : Verdict) (first second : Tally)
-      (after after′ : List ℕ) → Reduces-both w l before before′ verdict first second after after′
+      (after after′ : List ℕ) (both : Reduces-both w l before before′ verdict first second after after′)
       → Refuses-just greedy-numbers (reduction-checks w l (min (length before) (length before′))) (told verdict)
-      × Output-lent (told verdict) l (elimination-of w l) before after
-      × Output-lent (told verdict) l (greedy-elimination-of w l) before′ after′
+      × Output-lent (told verdict) l (both .elimination .left) before after
+      × Output-lent (told verdict) l (both .greedy .left) before′ after′
   -- the cheaper of both: the two outputs are lent to be read, and the part shown is the front of one of them
   pub cheaper-shown : (first second : List ℕ) (of-first of-second : Tally) (part : List ℕ)
       → part ≡ cheaper-part first second of-first of-second

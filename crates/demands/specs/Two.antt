@@ -33,7 +33,6 @@ use Rattle.landmark.specs.Marks.{Masks}
 use Rattle.elimination.specs.declared.single.Elimination.{Elimination}
 use Rattle.elimination.specs.declared.single.Elimination.the-variants.{Plain, Greedy}
 use Rattle.elimination.specs.Eliminations.{Rule-leaves, Eliminates}
-use Rattle.elimination.specs.between.Left.{elimination-of, greedy-elimination-of}
 use Rattle.cheaper.specs.Cheaper.{Reduces-both, cheaper-part}
 use Rattle.minimal.specs.declared.within.Shortened.{Shortened}
 use Rattle.minimal.specs.Minimised.{most-unmarked, Minimises}
@@ -109,13 +108,11 @@ module _ (w l : List ℕ) where
       (cost (kept m (steps w l)) < cost (kept n (steps w l)))
       ⊎ ((cost (kept m (steps w l)) ≡ cost (kept n (steps w l))) × (count m < count n))
 
-  -- the part shown of what both eliminations leave: the list of the cheaper, elimination's where greedy elimination's
-  -- is not cheaper; nothing after a refusal
-  pub record Shown-truly (refusal : Option Told) (part : List ℕ) : Type 0 where
-    pub of-greedy : refusal ≡ none → Cheaper (greedy-elimination-of w l) (elimination-of w l)
-        → part ≡ kept (greedy-elimination-of w l) l
-    pub of-elimination : refusal ≡ none → (Cheaper (greedy-elimination-of w l) (elimination-of w l) → ⊥)
-        → part ≡ kept (elimination-of w l) l
+  -- the part shown of two reductions, elimination's and greedy elimination's: the list of the cheaper, elimination's
+  -- where greedy elimination's is not cheaper; nothing after a refusal
+  pub record Shown-truly (first second : Reduction) (refusal : Option Told) (part : List ℕ) : Type 0 where
+    pub of-greedy : refusal ≡ none → Cheaper second first → part ≡ kept second l
+    pub of-elimination : refusal ≡ none → (Cheaper second first → ⊥) → part ≡ kept first l
     pub of-neither : (t : Told) → refusal ≡ some t → part ≡ []
 
 -- one step more on a tally: "It comes back unchanged when it already has 255 steps or more or its price would pass
@@ -154,15 +151,16 @@ pub record Demand-two : Type 0 where
       × Mask-truly (eliminates .left) (told-answer given) mask
   -- both eliminations
   pub both-eliminations : (w l before before′ : List ℕ) (verdict : Verdict) (first second : Tally)
-      (after after′ : List ℕ) → Reduces-both w l before before′ verdict first second after after′
-      → (told verdict ≡ none → Rule-leaves Plain w l (elimination-of w l))
-      × (told verdict ≡ none → Rule-leaves Greedy w l (greedy-elimination-of w l))
-      × Tally-truly w l (elimination-of w l) (told verdict) first
-      × Tally-truly w l (greedy-elimination-of w l) (told verdict) second
+      (after after′ : List ℕ) (both : Reduces-both w l before before′ verdict first second after after′)
+      → (told verdict ≡ none → Rule-leaves Plain w l (both .elimination .left))
+      × (told verdict ≡ none → Rule-leaves Greedy w l (both .greedy .left))
+      × Tally-truly w l (both .elimination .left) (told verdict) first
+      × Tally-truly w l (both .greedy .left) (told verdict) second
   -- the cheaper of what both leave
   pub cheaper-shown : (w l before before′ : List ℕ) (verdict : Verdict) (first second : Tally)
-      (after after′ part : List ℕ) → Reduces-both w l before before′ verdict first second after after′
-      → part ≡ cheaper-part after after′ first second → Shown-truly w l (told verdict) part
+      (after after′ part : List ℕ) (both : Reduces-both w l before before′ verdict first second after after′)
+      → part ≡ cheaper-part after after′ first second
+      → Shown-truly w l (both .elimination .left) (both .greedy .left) (told verdict) part
   -- the exact reduction, of which demand 3 says what it leaves
   pub exact-reduction : (w l before : List ℕ) (r : Shortened) (after : List ℕ)
       (minimises : Minimises most-unmarked w l before r after) → Shortened-truly w l (minimises .answers .left) r

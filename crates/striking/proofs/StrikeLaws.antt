@@ -12,6 +12,8 @@ use Rattle.plan.specs.declared.check.Answer.{Answer}
 use Rattle.plan.specs.Checked.{told-answer, told-tally}
 use Rattle.reduced.specs.Reduced.{Answers}
 use Rattle.cheaper.specs.Cheaper.{Reduces-both}
+use Rattle.cheaper.specs.between.Computed.{Reduces-both-of}
+use Rattle.cheaper.proofs.ComputedTheorem.{both-of}
 use Rattle.minimal.specs.Minimised.{most-unmarked}
 use Rattle.minimal.specs.Statement.{Demand-three-of, Demand-three}
 use Rattle.claim.specs.declared.answer.Claim.{Claim}
@@ -28,7 +30,8 @@ use Rattle.striking.specs.Statement.{Demand-three-lent, May-be-lodged-le
 -- both eliminations, written to lent words
 pub lent-both : (w l first first′ second second′ out out′ : List ℕ) (verdict : Verdict) (a b : Tally) → Reduces-both w l first second verdict a b first′ second′
     → out′ ≡ sets out 0 (answer-words (told verdict) ++ (tally-words a ++ tally-words b)) → Reduces-both-lent w l first first′ second second′ out out′
-lent-both w l first first′ second second′ out out′ verdict a b both answered =
+lent-both w l first first′ second second′ out out′ verdict a b given answered =
+    let both : Reduces-both-of w l first second verdict a b first′ second′ = both-of w l first second verdict a b first′ second′ given in
     record {
       first-left = both .first-output ∙ rw (both .refusal);
       second-left = both .second-output ∙ rw (both .refusal);

@@ -1,5 +1,5 @@
--- What the two eliminations leave of a list as it is computed. `rule-leaves` says that it is what their rules leave, and
--- nothing else. Assumes nothing.
+-- What the two eliminations leave of a list as it is computed. `rule-leaves` says that it is what their rules leave,
+-- and nothing else. Assumes nothing.
 use Prim.Native.Nat.{ℕ}
 use mathlib.Core.List.{List}
 use Rattle.sheet.specs.Decode.{goal, initial}

@@ -21,6 +21,7 @@ minimal-of w l = minimal (meets (goal w)) (initial w) (steps w l)
 
 -- what is answered with it
 pub record Minimises-of (limit : ℕ) (w l before : List ℕ) (r : Shortened) (after : List ℕ) : Type 0 where
-  pub answers : Answers (minimal-refusal limit w l before) w l (minimal-of w l) before (r .answer) (r .mask .words) after
+  pub answers : Answers (minimal-refusal limit w l before) w l (minimal-of w l) before
+      (r .answer) (r .mask .words) after
   pub lodged : r .lodged ≡ unless-refused (minimal-refusal limit w l before) (lodged-tally w l) nothing
   pub marks : r .marked ≡ unless-refused (minimal-refusal limit w l before) (marked w l) 0
