@@ -43,7 +43,7 @@ use Rattle.elimination.proofs.LeavesLaws.{rule-leaves}
 use Rattle.cheaper.specs.Cheaper.{Reduces-both, cheaper-part}
 use Rattle.cheaper.proofs.CheaperTheorem.{greedy-shown, elimination-shown, nothing-shown}
 use Rattle.minimal.specs.declared.within.Shortened.{Shortened}
-use Rattle.demands.specs.Two.{Checked-truly, Course-truly, Marks-truly, Marked-number, Tally-truly, Cheaper, Shown-truly}
+use Rattle.demands.specs.Two.{Checked-truly, Course-truly, Marks-truly, Tally-truly, Cheaper, Shown-truly}
 use Rattle.demands.specs.Two.{Mask-truly, Shortened-truly, Demand-two}
 use Rattle.demands.proofs.OrderLaws.{compared-truly}
 use Rattle.demands.proofs.FitLaws.{Flags-each, left-computed, elimination-flags, computed-flags, minimal-flags, licensed-flags}
@@ -154,20 +154,18 @@ module _ (w l : List ℕ) where
       fits : told verdict ≡ none → (by : Elimination) → length (left-by by w l) ≡ length l
       fits h by = computed-flags w l _ by (sym (both .refusal) ∙ h) .fits
 
-  marked-number : (n : ℕ) → n ≡ count (marks w l) → Marked-number w l n
-  marked-number n is = record { flags = marks w l; are-marks = are-marks w l; number = is }
-
   -- what is told of a list that is shortened to such a reduction
   shortened-truly : (t : Option Told) (m : Reduction) (before : List ℕ) (r : Shortened) (after : List ℕ) → Answers t w l m before (r .answer) (r .mask .words) after
       → (t ≡ none → Flags-each l m (length before)) → r .lodged ≡ unless-refused t (lodged-tally w l) nothing
       → r .marked ≡ unless-refused t (marked w l) 0 → Shortened-truly w l m r
-  shortened-truly t m before r after answers each lodged marks =
+  shortened-truly t m before r after answers each lodged counted-marks =
       record {
         tally = tallied-truly t m before (r .answer) (r .mask .words) after answers;
         mask = masked-truly t m before (r .answer) (r .mask .words) after answers each;
         lodged = tally-truly (whole l) (told-answer (r .answer)) (r .lodged) (rw (← lodged-whole, answers .refusal) lodged);
-        marks = λ h. marked-number (r .marked) (rw (sym (answers .refusal) ∙ h) at marks);
-        no-marks = λ u h. rw (sym (answers .refusal) ∙ h) at marks;
+        flagged = are-marks w l;
+        marked = λ h. rw (sym (answers .refusal) ∙ h) at counted-marks;
+        no-marks = λ u h. rw (sym (answers .refusal) ∙ h) at counted-marks;
       }
 
 -- the states along a list

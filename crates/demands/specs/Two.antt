@@ -29,7 +29,8 @@ use Rattle.plan.specs.Valid.{steps}
 use Rattle.plan.specs.Checked.{plan-checks, told-answer, told-tally, no-state, Checks}
 use Rattle.plan.specs.Valid.{Fails-at}
 use Rattle.course.specs.Course.{Courses}
-use Rattle.landmark.specs.Marks.{Masks}
+use Rattle.reduced.specs.Reduced.{tally-left}
+use Rattle.landmark.specs.Marks.{marks, Masks}
 use Rattle.elimination.specs.declared.single.Elimination.{Elimination}
 use Rattle.elimination.specs.declared.single.Elimination.the-variants.{Plain, Greedy}
 use Rattle.elimination.specs.Eliminations.{Rule-leaves, Eliminates}
@@ -46,6 +47,10 @@ pub record Mask-truly (m : Reduction) (refusal : Option Told) (mask : List ℕ) 
   pub bits : refusal ≡ none → (i : ℕ) → bit-up mask i ≡ true ↔ keeps m i
   pub ones : refusal ≡ none → ones-of mask ≡ count m
   pub zeros : (t : Told) → refusal ≡ some t → mask ≡ replicate mask-length 0
+
+-- a tally is lower than another: lower price, then fewer steps
+abbrev pub Tally-lower : Tally → Tally → Type 0
+Tally-lower t u = (t .cost < u .cost) ⊎ ((t .cost ≡ u .cost) × (t .steps < u .steps))
 
 -- of the list l of the sheet w
 module _ (w l : List ℕ) where
@@ -87,26 +92,19 @@ module _ (w l : List ℕ) where
     pub bits : refusal ≡ none → (i : ℕ) → bit-up mask i ≡ true ↔ Is-marked w l i
     pub zeros : (t : Told) → refusal ≡ some t → mask ≡ replicate mask-length 0
 
-  -- so many steps are marked: of the flags that are the marks so many are up
-  pub record Marked-number (n : ℕ) : Type 0 where
-    pub flags : Reduction
-    pub are-marks : Are-marks w l flags
-    pub number : n ≡ count flags
-
   -- what is told of the list that is shortened to the reduction m: its tally and its mask, the tally of the lodged list
   -- and how many of its steps are marked
   pub record Shortened-truly (m : Reduction) (r : Shortened) : Type 0 where
     pub tally : Tally-truly m (told-answer (r .answer)) (told-tally (r .answer))
     pub mask : Mask-truly m (told-answer (r .answer)) (r .mask .words)
     pub lodged : Tally-truly (whole l) (told-answer (r .answer)) (r .lodged)
-    pub marks : told-answer (r .answer) ≡ none → Marked-number (r .marked)
+    pub flagged : Are-marks w l (marks w l)
+    pub marked : told-answer (r .answer) ≡ none → r .marked ≡ count (marks w l)
     pub no-marks : (t : Told) → told-answer (r .answer) ≡ some t → r .marked ≡ 0
 
-  -- of two reductions the first leaves the cheaper list: lower price, then fewer steps
+  -- of two reductions the first leaves the cheaper list
   abbrev pub Cheaper : Reduction → Reduction → Type 0
-  Cheaper m n =
-      (cost (kept m (steps w l)) < cost (kept n (steps w l)))
-      ⊎ ((cost (kept m (steps w l)) ≡ cost (kept n (steps w l))) × (count m < count n))
+  Cheaper m n = Tally-lower (tally-left w l m) (tally-left w l n)
 
   -- the part shown of two reductions, elimination's and greedy elimination's: the list of the cheaper, elimination's
   -- where greedy elimination's is not cheaper; nothing after a refusal
@@ -122,10 +120,6 @@ pub record Added-truly (t : Tally) (price : ℕ) (r : Tally) : Type 0 where
       → r ≡ record { cost = t .cost + price; steps = t .steps + 1 }
   pub full : bounds .steps ≤ t .steps → r ≡ t
   pub dear : bounds .cost < t .cost + price → r ≡ t
-
--- a tally is lower than another: lower price, then fewer steps
-abbrev pub Tally-lower : Tally → Tally → Type 0
-Tally-lower t u = (t .cost < u .cost) ⊎ ((t .cost ≡ u .cost) × (t .steps < u .steps))
 
 -- two tallies compared
 pub record Compared-truly (t u : Tally) (r : Order) : Type 0 where

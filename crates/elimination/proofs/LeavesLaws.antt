@@ -16,7 +16,6 @@ use Rattle.reduction.proofs.trials.EliminationTheorem.{eliminate-shortens, gree
 use Rattle.reduced.specs.Reduced.{tally-left, Reduces}
 use Rattle.reduced.specs.between.Held.{mask, flags-of, Leaves}
 use Rattle.reduced.specs.between.Tallied.{tallied}
-use Rattle.reduced.proofs.AnswerLaws.{answers-same}
 use Rattle.reduced.proofs.HeldLaws.{leaves}
 use Rattle.reduced.proofs.LodgedLaws.{lodged-valid}
 use Rattle.reduced.proofs.TalliedLaws.{plainly}
@@ -29,16 +28,11 @@ pub rule-leaves : (w l : List ℕ) → valid (initial w) (goal w) (steps w l) �
 rule-leaves w l valid-list Plain = elimination-in-words (initial w) (goal w) (steps w l) valid-list
 rule-leaves w l valid-list Greedy = greedy-in-words (initial w) (goal w) (steps w l) valid-list
 
--- what the service answers, and what is computed
-module _ (by : Elimination) (w l before : List ℕ) (given : Answer) (words after : List ℕ) where
-  pub eliminates-so : Reduces w l (left-by by w l) before given words after → Eliminates by w l before given words after
-  eliminates-so reduces =
-      record { left = left-by by w l; is-left = λ passed. rule-leaves w l (lodged-valid _ w l passed) by (left-by by w l) .0 refl; told = reduces }
-
-  pub eliminates-of : Eliminates by w l before given words after → Reduces w l (left-by by w l) before given words after
-  eliminates-of eliminates =
-      answers-same _ w l (eliminates .left) (left-by by w l) before given words after
-      (λ passed. rule-leaves w l (lodged-valid _ w l passed) by (eliminates .left) .1 (eliminates .is-left passed)) (eliminates .told)
+-- what is computed is what the service may answer
+pub eliminates-so : (by : Elimination) (w l before : List ℕ) (given : Answer) (words after : List ℕ) → Reduces w l (left-by by w l) before given words after
+    → Eliminates by w l before given words after
+eliminates-so by w l before given words after reduces =
+    record { left = left-by by w l; is-left = λ passed. rule-leaves w l (lodged-valid _ w l passed) by (left-by by w l) .0 refl; told = reduces }
 
 module _ (w l : List ℕ) (readable : Readable w l) (valid-list : valid (initial w) (goal w) (steps w l) ≡ true) where
   pub left-valid : (by : Elimination) → Valid-reduction (initial w) (goal w) (steps w l) (left-by by w l)
