@@ -9,6 +9,7 @@ use Rattle.refusal.specs.declared.Verdict.{Verdict}
 use Rattle.refusal.specs.Refusal.{Told, told}
 use Rattle.refusal.specs.Check.{answer, unless-refused}
 use Rattle.tally.specs.declared.Tally.{Tally}
+use Rattle.tally.specs.declared.Order.{Order}
 use Rattle.tally.specs.declared.Order.the-variants.{Less, Equal, Greater}
 use Rattle.tally.specs.Tally.{nothing, comparison}
 use Rattle.reduction.specs.Reduction.{Reduction}
@@ -18,14 +19,18 @@ use Rattle.elimination.specs.declared.single.Elimination.the-variants.{Plain, G
 use Rattle.elimination.specs.Eliminations.{Left-by-rule}
 use Rattle.elimination.specs.between.Left.{elimination-of, greedy-elimination-of}
 
--- what the cheaper of the two leaves: "lower price, then fewer steps, then elimination's"
+-- "lower price, then fewer steps, then elimination's": of elimination's and greedy elimination's, by how the second
+-- tally compares with the first
+abbrev pub cheaper-one : {A : Type 0} → Order → A → A → A
+cheaper-one Less first second = second
+cheaper-one Equal first second = first
+cheaper-one Greater first second = first
+
+-- what the cheaper of the two leaves
 unfoldable pub cheaper-of : List ℕ → List ℕ → Reduction
 cheaper-of w l =
-    elim (comparison (tally-left w l (greedy-elimination-of w l)) (tally-left w l (elimination-of w l))) [
-      | Less ↦ greedy-elimination-of w l
-      | Equal ↦ elimination-of w l
-      | Greater ↦ elimination-of w l
-    ]
+    cheaper-one (comparison (tally-left w l (greedy-elimination-of w l)) (tally-left w l (elimination-of w l)))
+    (elimination-of w l) (greedy-elimination-of w l)
 
 -- what one of the two leaves by its rule, of checks that answer t: its tally, and its list over a lent output
 abbrev pub Left-with : Option Told → Elimination → List ℕ → List ℕ → List ℕ → Tally → List ℕ → Type 0
@@ -45,8 +50,4 @@ pub record Reduces-both (w l before before′ : List ℕ) (verdict : Verdict) (f
 -- at the output's first word and has as many words as the tally has steps, or the whole output if that is shorter."
 unfoldable pub cheaper-part : List ℕ → List ℕ → Tally → Tally → List ℕ
 cheaper-part first second of-first of-second =
-    elim (comparison of-second of-first) [
-      | Less ↦ take (of-second .steps) second
-      | Equal ↦ take (of-first .steps) first
-      | Greater ↦ take (of-first .steps) first
-    ]
+    cheaper-one (comparison of-second of-first) (take (of-first .steps) first) (take (of-second .steps) second)

@@ -20,8 +20,8 @@ module _ (w l before : List ℕ) where
   abbrev pub licence-refusal : Option Told
   licence-refusal = answer (reduction-checks w l (length before))
 
-  -- the service: it answers with a licence over a lent output, of which there is just one, and tells the tally of the
-  -- lodged list and the number of its marked steps besides; a refusal has zeros, and claims nothing
+  -- the service: it answers with a licence over a lent output, of which there is just one (`licence-once`), and tells
+  -- the tally of the lodged list and the number of its marked steps besides; a refusal has zeros, and claims nothing
   pub record Licenses (r : Licensed) (after : List ℕ) : Type 0 where
     pub answers : Tells-left (Licence w l (r .claim))
         (λ m. Reduces w l m before (r .told .answer) (r .told .mask .words) after) licence-refusal

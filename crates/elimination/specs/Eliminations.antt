@@ -23,7 +23,7 @@ Left-by-rule Greedy w l m = Greedy-leaves (initial w) (goal w) (steps w l) (whol
 abbrev pub Rule-leaves : Elimination → List ℕ → List ℕ → Reduction → Type 0
 Rule-leaves by w l m = (n : Reduction) → n ≡ m ↔ Left-by-rule by w l n
 
--- the service: it answers with what the rule leaves
+-- the service: it answers with what the rule leaves, which is one reduction (`rule-leaves`)
 abbrev pub Eliminates : Elimination → List ℕ → List ℕ → List ℕ → Answer → List ℕ → List ℕ → Type 0
 Eliminates by w l before given mask after =
     Tells-left (Left-by-rule by w l) (λ m. Reduces w l m before given mask after)

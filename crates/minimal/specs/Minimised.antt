@@ -34,8 +34,9 @@ module _ (limit : ℕ) (w l before : List ℕ) where
   abbrev pub minimal-refusal : Option Told
   minimal-refusal = answer (minimal-checks limit w l (length before))
 
-  -- the service: it answers with the minimal reduction of the list l over a lent output, of which there is just one,
-  -- and tells the tally of the lodged list and the number of its marked steps besides, zero on a refusal
+  -- the service: it answers with the minimal reduction of the list l over a lent output, of which there is just one
+  -- (`minimal-once`), and tells the tally of the lodged list and the number of its marked steps besides, zero on a
+  -- refusal
   pub record Minimises (r : Shortened) (after : List ℕ) : Type 0 where
     pub answers : Tells-left (Minimal-reduction (initial w) (goal w) (steps w l))
         (λ m. Answers minimal-refusal w l m before (r .answer) (r .mask .words) after) minimal-refusal

@@ -1,5 +1,6 @@
 -- The room suffices: the bytes of a sheet are no more than the array that `main` lends has, since a longer sheet is refused. So does the room for the input:
--- a text that is cut behind more bytes than one may have is answered as it would be whole. Assumes nothing.
+-- a text that is cut behind more bytes than one may have is answered as it would be whole, and so what is answered to the bytes read is what is answered to the
+-- whole input. Assumes nothing.
 use Prim.Native.Nat.{ℕ, _*_, _≤_, _<_}
 use native.Mathlib.Omega.{arith}
 use mathlib.Core.Path.{_≡_, refl, sym, _∙_, ap}
