@@ -16,7 +16,7 @@ use Rattle.reduced.specs.between.Held.{mask, flags-of, Leaves}
 use Rattle.reduced.specs.between.Tallied.{tallied}
 use Rattle.elimination.specs.declared.single.Elimination.{Elimination}
 use Rattle.elimination.specs.declared.single.Elimination.the-variants.{Plain, Greedy}
-use Rattle.elimination.specs.Eliminations.{left-by}
+use Rattle.elimination.specs.between.Left.{left-by}
 use Rattle.elimination.proofs.LeavesLaws.{left-valid, left-leaves, counted-left}
 use Rattle.cheaper.specs.Cheaper.{cheaper-of}
 

@@ -33,8 +33,10 @@ use Rattle.refusal.specs.Check.{answer}
 use Rattle.reduced.specs.between.Tallied.{is-less}
 use Rattle.reduced.proofs.LodgedLaws.{roomy, lodged-valid}
 use Rattle.reduced.proofs.LessLaws.{less-lower}
-use Rattle.elimination.specs.Eliminations.{elimination-of, greedy-elimination-of, left-by}
+use Rattle.elimination.specs.between.Left.{elimination-of, greedy-elimination-of, left-by}
 use Rattle.cheaper.specs.Cheaper.{cheaper-of, Reduces-both, cheaper-part}
+use Rattle.cheaper.specs.between.Computed.{Reduces-both-of}
+use Rattle.cheaper.proofs.ComputedTheorem.{both-of}
 use Rattle.elimination.proofs.LeavesLaws.{left-fits}
 use Rattle.cheaper.proofs.CheaperLaws.{cheaper-taken}
 use Rattle.elimination.specs.declared.single.Elimination.{Elimination}
@@ -101,7 +103,10 @@ shown-first first second t u not-less = by-case (comparison u t) refl
     by-case Equal e = rw (e, cheaper-part)
     by-case Greater e = rw (e, cheaper-part)
 
-module _ (w l before before′ : List ℕ) (v : Verdict) (first second : Tally) (after after′ : List ℕ) (both : Reduces-both w l before before′ v first second after after′) where
+module _ (w l before before′ : List ℕ) (v : Verdict) (first second : Tally) (after after′ : List ℕ) (answered : Reduces-both w l before before′ v first second after after′) where
+  both : Reduces-both-of w l before before′ v first second after after′
+  both = both-of w l before before′ v first second after after′ answered
+
   -- the list that is shown where nothing is refused
   module _ (passed : v ≡ Passed) where
     nothing-refused : answer (reduction-checks w l (min (length before) (length before′))) ≡ none

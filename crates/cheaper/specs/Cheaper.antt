@@ -2,43 +2,52 @@
 -- shown of it. Assumes nothing.
 use Prim.Native.Nat.{ℕ, min}
 use mathlib.Core.Path.{_≡_}
+use mathlib.Core.Option.{Option}
 use mathlib.Core.List.{List}
 use lib.ListN.{length, take}
 use Rattle.refusal.specs.declared.Verdict.{Verdict}
-use Rattle.refusal.specs.Refusal.{told}
+use Rattle.refusal.specs.Refusal.{Told, told}
 use Rattle.refusal.specs.Check.{answer, unless-refused}
 use Rattle.tally.specs.declared.Tally.{Tally}
+use Rattle.tally.specs.declared.Order.{Order}
 use Rattle.tally.specs.declared.Order.the-variants.{Less, Equal, Greater}
 use Rattle.tally.specs.Tally.{nothing, comparison}
 use Rattle.reduction.specs.Reduction.{Reduction}
-use Rattle.reduced.specs.Reduced.{reduction-checks, tally-left, output-left}
-use Rattle.elimination.specs.Eliminations.{elimination-of, greedy-elimination-of}
+use Rattle.reduced.specs.Reduced.{reduction-checks, tally-left, output-left, Tells-left}
+use Rattle.elimination.specs.declared.single.Elimination.{Elimination}
+use Rattle.elimination.specs.declared.single.Elimination.the-variants.{Plain, Greedy}
+use Rattle.elimination.specs.Eliminations.{Left-by-rule}
+use Rattle.elimination.specs.between.Left.{elimination-of, greedy-elimination-of}
 
--- what the cheaper of the two leaves: "lower price, then fewer steps, then elimination's"
+-- "lower price, then fewer steps, then elimination's": of elimination's and greedy elimination's, by how the second
+-- tally compares with the first
+abbrev pub cheaper-one : {A : Type 0} → Order → A → A → A
+cheaper-one Less first second = second
+cheaper-one Equal first second = first
+cheaper-one Greater first second = first
+
+-- what the cheaper of the two leaves
 unfoldable pub cheaper-of : List ℕ → List ℕ → Reduction
 cheaper-of w l =
-    elim (comparison (tally-left w l (greedy-elimination-of w l)) (tally-left w l (elimination-of w l))) [
-      | Less ↦ greedy-elimination-of w l
-      | Equal ↦ elimination-of w l
-      | Greater ↦ elimination-of w l
-    ]
+    cheaper-one (comparison (tally-left w l (greedy-elimination-of w l)) (tally-left w l (elimination-of w l)))
+    (elimination-of w l) (greedy-elimination-of w l)
+
+-- what one of the two leaves by its rule, of checks that answer t: its tally, and its list over a lent output
+abbrev pub Left-with : Option Told → Elimination → List ℕ → List ℕ → List ℕ → Tally → List ℕ → Type 0
+Left-with t by w l before tally after =
+    Tells-left (Left-by-rule by w l) (λ m. (tally ≡ unless-refused t (tally-left w l m) nothing)
+    × (after ≡ unless-refused t (output-left l m before) before)) t
 
 -- "The cheaper-of-both service fills two lent outputs, elimination's first, and returns both tallies or a refusal";
 -- both outputs must have room
 pub record Reduces-both (w l before before′ : List ℕ) (verdict : Verdict) (first second : Tally)
     (after after′ : List ℕ) : Type 0 where
   pub refusal : told verdict ≡ answer (reduction-checks w l (min (length before) (length before′)))
-  pub first-tally : first ≡ unless-refused (told verdict) (tally-left w l (elimination-of w l)) nothing
-  pub second-tally : second ≡ unless-refused (told verdict) (tally-left w l (greedy-elimination-of w l)) nothing
-  pub first-output : after ≡ unless-refused (told verdict) (output-left l (elimination-of w l) before) before
-  pub second-output : after′ ≡ unless-refused (told verdict) (output-left l (greedy-elimination-of w l) before′) before′
+  pub elimination : Left-with (told verdict) Plain w l before first after
+  pub greedy : Left-with (told verdict) Greedy w l before′ second after′
 
 -- "the kept part of whichever lent list is cheaper: lower price, then fewer steps, then elimination's. That part begins
 -- at the output's first word and has as many words as the tally has steps, or the whole output if that is shorter."
 unfoldable pub cheaper-part : List ℕ → List ℕ → Tally → Tally → List ℕ
 cheaper-part first second of-first of-second =
-    elim (comparison of-second of-first) [
-      | Less ↦ take (of-second .steps) second
-      | Equal ↦ take (of-first .steps) first
-      | Greater ↦ take (of-first .steps) first
-    ]
+    cheaper-one (comparison of-second of-first) (take (of-first .steps) first) (take (of-second .steps) second)

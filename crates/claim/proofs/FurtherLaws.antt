@@ -39,12 +39,15 @@ use Rattle.landmark.proofs.MarkTheorem.{marks-length}
 use Rattle.cheaper.specs.Cheaper.{cheaper-of}
 use Rattle.cheaper.proofs.CheaperLaws.{cheaper-valid, cheaper-leaves}
 use Rattle.minimal.specs.declared.within.Shortened.{Shortened}
-use Rattle.minimal.specs.Minimised.{most-unmarked, minimal-checks, minimal-of, Minimises}
+use Rattle.minimal.specs.Minimised.{most-unmarked, minimal-checks, Minimises}
+use Rattle.minimal.specs.between.Computed.{Minimises-of, minimal-of}
+use Rattle.minimal.proofs.ComputedTheorem.{minimises-of}
 use Rattle.minimal.proofs.DemandThree.{is-minimal, many-refused, refused-many, passed-few}
 use Rattle.claim.specs.declared.answer.Claim.{Claim}
 use Rattle.claim.specs.declared.answer.Claim.the-variants.{Irreducible, Open}
 use Rattle.claim.specs.declared.answer.Licensed.{Licensed}
-use Rattle.claim.specs.Licensed.{cheaper-list, claim-of, claimed-by, Licenses}
+use Rattle.claim.specs.between.Computed.{Licenses-of, claim-of, claimed-by}
+use Rattle.claim.specs.Statement.{cheaper-list}
 use Rattle.claim.specs.between.Further.{Goes-further}
 use Rattle.claim.proofs.LicenceTheorem.{cheaper-readable, cheaper-plan, claims-irreducible, claims-open}
 
@@ -74,7 +77,7 @@ module _ (w l before : List ℕ) (lodged : Tally) (others : ℕ) (further : Goes
 
   -- the claim and all that is told of its reduction
   licenses : (claim : Claim) (tally : Tally) (m : Mask) (after : List ℕ) → claim-of w l ≡ claim → Keeps w l (claimed-by claim w l) before tally (m .words) after
-      → Licenses w l before (record { claim = claim; told = record { answer = Valid tally; mask = m; lodged = lodged; marked = length l - others } }) after
+      → Licenses-of w l before (record { claim = claim; told = record { answer = Valid tally; mask = m; lodged = lodged; marked = length l - others } }) after
   licenses claim tally m after is keeps =
       record {
         answers = answers-kept _ w l _ before (Valid lodged) (sym (further .passes)) lodged (claimed-by claim w l) after (m .words) tally refl (ap (λ c. claimed-by c w l) (sym is)) keeps;
@@ -143,19 +146,19 @@ module _ (w l before : List ℕ) (lodged : Tally) (others : ℕ) (further : Goes
       front-long = rw front-is (sym steps-left)
 
       module _ (r : Shortened) (after : List ℕ) (minimises : Minimises most-unmarked w (take (tally .steps) list) before r after) where
-        there : Minimises most-unmarked w (cheaper-list w l) before r after
-        there = subst (λ k. Minimises most-unmarked w k before r after) front-is minimises
+        there : Minimises-of most-unmarked w (cheaper-list w l) before r after
+        there = subst (λ k. Minimises-of most-unmarked w k before r after) front-is (minimises-of most-unmarked w (take (tally .steps) list) before r after minimises)
 
         -- the minimal reduction answers
         pub licenses-irreducible : (least : Tally) (m : Mask) → r .answer ≡ Valid least
             → ((n : Reduction) → r .mask .words ≡ mask-words n → length n ≤ mask-bits → m .words ≡ mask-words (compose (mask l flags) n))
             → (given : Licensed) → given ≡ record { claim = Irreducible; told = record { answer = Valid least; mask = m; lodged = lodged; marked = length l - others } }
-            → Licenses w l before given after
+            → Licenses-of w l before given after
         licenses-irreducible least m is through given granted =
             let passes : answer (minimal-checks most-unmarked w (cheaper-list w l) (length before)) ≡ none = sym (there .answers .refusal) ∙ ap told-answer is in
             let few : unmarked w (cheaper-list w l) ≤ most-unmarked = passed-few w (cheaper-list w l) there-readable there-plan most-unmarked (length before) there-room passes in
             let short : length (minimal-of w (cheaper-list w l)) ≤ mask-bits = omega (arith, minimal-fits, there-readable .few) in
-            subst (λ g. Licenses w l before g after) (sym granted)
+            subst (λ g. Licenses-of w l before g after) (sym granted)
             (licenses Irreducible least m after
             (claims-irreducible w l readable plan (lt-leb (unmarked w l) most-unmarked (further .many)) (le-leb (unmarked w (cheaper-list w l)) most-unmarked few))
             (record {
@@ -168,7 +171,7 @@ module _ (w l before : List ℕ) (lodged : Tally) (others : ℕ) (further : Goes
         pub licenses-open : (refusal : Refusal) (n : ℕ) (m : Mask) (after′ : List ℕ) → r .answer ≡ Refused refusal → n ≡ told-refusal refusal .place → m .words ≡ words
             → after′ ≡ sets after 0 (take (tally .steps) list)
             → (given : Licensed) → given ≡ record { claim = Open n; told = record { answer = Valid tally; mask = m; lodged = lodged; marked = length l - others } }
-            → Licenses w l before given after′
+            → Licenses-of w l before given after′
         licenses-open refusal n m after′ is counted told-by written given granted =
             let refuses : answer (minimal-checks most-unmarked w (cheaper-list w l) (length before)) ≡ some (told-refusal refusal) =
             sym (there .answers .refusal) ∙ ap told-answer is in
@@ -179,7 +182,7 @@ module _ (w l before : List ℕ) (lodged : Tally) (others : ℕ) (further : Goes
             claims-open w l readable plan (lt-leb (unmarked w l) most-unmarked (further .many)) (lt-leb (unmarked w (cheaper-list w l)) most-unmarked many)
             ∙ ap Open (sym (counted ∙ ap (λ t. t .place) told)) in
             let stays : after ≡ before = rw refuses at (there .answers .output) in
-            subst (λ g. Licenses w l before g after′) (sym granted)
+            subst (λ g. Licenses-of w l before g after′) (sym granted)
             (licenses (Open n) tally m after′ claims
             (record {
               counted = keeps-cheaper .counted;

@@ -8,12 +8,13 @@ use mathlib.Core.Bool.{Bool, true, false}
 use mathlib.Core.List.{List}
 use lib.ListN.{length, replicate, length-map}
 use lib.Dec.{leb}
+use borrow.Author.Tests.{leb-true, leb-false, le-leb, lt-leb}
 use Rattle.sas.specs.Plan.{Plan, cost}
-use Rattle.reduction.specs.Reduction.{Reduction, kept, whole, valid, Valid-reduction}
+use Rattle.reduction.specs.Reduction.{Reduction, kept, whole, compose, valid, Valid-reduction}
 use Rattle.reduction.specs.Landmark.{Landmark}
 use Rattle.reduction.specs.Minimal.{Minimal-reduction}
 use Rattle.reduction.proofs.ReductionLaws.{kept-lodged, left-length, left-cost, reduced-plan, kept-compose, compose-valid}
-use Rattle.reduction.proofs.minimal.MinimalTheorem.{nothing-more}
+use Rattle.reduction.proofs.minimal.MinimalTheorem.{minimal-once, nothing-more}
 use Rattle.reduction.proofs.marks.LandmarksKept.{all-marked-whole}
 use Rattle.sheet.specs.Decode.{goal, initial, action, task}
 use Rattle.plan.specs.Valid.{steps}
@@ -22,18 +23,19 @@ use Rattle.plan.proofs.PlanLaws.{steps-formed}
 use Rattle.reduced.proofs.TalliedLaws.{kept-steps}
 use Rattle.landmark.specs.Marks.{unmarked}
 use Rattle.elimination.specs.declared.single.Elimination.{Elimination}
-use Rattle.elimination.specs.Eliminations.{left-by}
+use Rattle.elimination.specs.between.Left.{left-by}
 use Rattle.cheaper.specs.Cheaper.{cheaper-of}
-use Rattle.elimination.proofs.LeavesLaws.{left-valid}
+use Rattle.elimination.proofs.LeavesLaws.{rule-leaves, left-valid}
 use Rattle.cheaper.proofs.CheaperLaws.{cheaper-valid}
 use Rattle.cheaper.proofs.CheaperTheorem.{cheaper-no-dearer}
-use Rattle.minimal.specs.Minimised.{most-unmarked, minimal-of}
+use Rattle.minimal.specs.Minimised.{most-unmarked}
+use Rattle.minimal.specs.between.Computed.{minimal-of}
 use Rattle.minimal.specs.Statement.{Valid-striking}
-use Rattle.minimal.proofs.DemandThree.{valid-list, is-minimal}
+use Rattle.minimal.proofs.DemandThree.{valid-list, is-minimal, are-marks}
 use Rattle.claim.specs.declared.answer.Claim.{Claim}
 use Rattle.claim.specs.declared.answer.Claim.the-variants.{Least, Irreducible, Open}
-use Rattle.claim.specs.Licensed.{cheaper-list, claim-of, claimed-by, licensed-of}
-use Rattle.claim.specs.Statement.{Nothing-to-strike, Marked-is-whole, Claimed, Licence}
+use Rattle.claim.specs.between.Computed.{claim-of, claimed-by, licensed-of}
+use Rattle.claim.specs.Statement.{cheaper-list, Nothing-to-strike, Marked-is-whole, Claimed, Licence}
 
 whole-steps : (w l : List ℕ) → whole (steps w l) ≡ whole l
 whole-steps w l = ap (λ n. replicate n true) (length-map l (action w))
@@ -125,11 +127,13 @@ module _ (w l : List ℕ) (readable : Readable w l) (plan : Plan (task w) (steps
   licence-for claim is valid-left no-dearer claimed =
       subst (λ c. Licence w l c (claimed-by c w l)) (sym is)
       (record {
-        strongest = sym is;
+        claimed = claimed;
+        flagged = are-marks w;
+        eliminated = rule-leaves w l (valid-list w l readable plan);
         valid-left = valid-left;
         plan-left = reduced-plan (task w) (steps w l) (claimed-by claim w l) plan valid-left;
-        no-dearer = no-dearer;
-        claimed = claimed;
+        no-dearer = λ by m leaves. subst (λ n. cost (kept (claimed-by claim w l) (steps w l)) ≤ cost (kept n (steps w l)))
+            (sym (rule-leaves w l (valid-list w l readable plan) by m .1 leaves)) (no-dearer by);
       })
 
   pub licence-of : Licence w l (claim-of w l) (licensed-of w l)
@@ -140,6 +144,26 @@ module _ (w l : List ℕ) (readable : Readable w l) (plan : Plan (task w) (steps
 
       by-case : (b : Bool) → leb (unmarked w l) most-unmarked ≡ b → (c : Bool) → leb (unmarked w (cheaper-list w l)) most-unmarked ≡ c
           → Licence w l (claim-of w l) (licensed-of w l)
-      by-case true e c f = licence-for Least (claims-least e) (least .valid) minimal-dear (least, nothing-left w l readable plan (minimal-of w l) least)
-      by-case false e true f = licence-for Irreducible (claims-irreducible e f) both-valid both-dear both-nothing
-      by-case false e false f = licence-for (Open (unmarked w (cheaper-list w l))) (claims-open e f) cheaper-reduction cheaper-dear refl
+      by-case true e c f = licence-for Least (claims-least e) (least .valid) minimal-dear (leb-true (unmarked w l) most-unmarked e, least, nothing-left w l readable plan (minimal-of w l) least)
+      by-case false e true f = licence-for Irreducible (claims-irreducible e f) both-valid both-dear
+          (leb-false (unmarked w l) most-unmarked e, leb-true (unmarked w (cheaper-list w l)) most-unmarked f, (minimal-of w (cheaper-list w l), minimal-there, refl), both-nothing)
+      by-case false e false f = licence-for (Open (unmarked w (cheaper-list w l))) (claims-open e f) cheaper-reduction cheaper-dear
+          (leb-false (unmarked w l) most-unmarked e, leb-false (unmarked w (cheaper-list w l)) most-unmarked f, refl, refl)
+
+  -- and there is no other licence
+  pub licence-once : (claim : Claim) (left : Reduction) → Licence w l claim left → (claim ≡ claim-of w l) × (left ≡ licensed-of w l)
+  licence-once Least left licence =
+      let (few, minimal, nothing) = licence .claimed in
+      let claims : claim-of w l ≡ Least = claims-least (le-leb (unmarked w l) most-unmarked few) in
+      (sym claims, minimal-once (λ m v. v .fits) minimal (is-minimal w l readable plan) ∙ ap (λ c. claimed-by c w l) (sym claims))
+  licence-once Irreducible left licence =
+      let (many, few, (m, minimal, through), nothing) = licence .claimed in
+      let claims : claim-of w l ≡ Irreducible =
+      claims-irreducible (lt-leb (unmarked w l) most-unmarked many) (le-leb (unmarked w (cheaper-list w l)) most-unmarked few) in
+      (sym claims, through ∙ ap (compose (cheaper-of w l)) (minimal-once (λ n v. v .fits) minimal minimal-there) ∙ ap (λ c. claimed-by c w l) (sym claims))
+  licence-once (Open n) left licence =
+      let (many, still, counted, is) = licence .claimed in
+      let there : n ≡ unmarked w (cheaper-list w l) = counted ∙ ap (λ m. unmarked w (kept m l)) is in
+      let claims : claim-of w l ≡ Open n =
+      claims-open (lt-leb (unmarked w l) most-unmarked many) (lt-leb (unmarked w (cheaper-list w l)) most-unmarked (subst (λ k. most-unmarked < k) there still)) ∙ ap Open (sym there) in
+      (sym claims, is ∙ ap (λ c. claimed-by c w l) (sym claims))

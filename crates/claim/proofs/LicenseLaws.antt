@@ -26,25 +26,28 @@ use Rattle.plan.specs.declared.check.Answer.the-variants.{Valid, Refused}
 use Rattle.plan.specs.Checked.{told-answer, lodged-tally}
 use Rattle.plan.specs.between.Lodged.{Checks-lodged}
 use Rattle.plan.proofs.PlanLaws.{passed-readable}
-use Rattle.reduced.specs.Reduced.{room-checks, reduction-checks}
+use Rattle.reduced.specs.Reduced.{room-checks, reduction-checks, Answers}
 use Rattle.reduced.specs.between.Held.{mask}
 use Rattle.reduced.proofs.LodgedLaws.{lodged-plan, room-checked, nothing-refused, roomy}
 use Rattle.reduced.proofs.AnswerLaws.{answers-refused}
 use Rattle.landmark.specs.Marks.{marks, marked, unmarked}
 use Rattle.minimal.specs.declared.within.Shortened.{Shortened}
 use Rattle.minimal.specs.Minimised.{most-unmarked, unmarked-checks, minimal-checks, minimal-refusal, Minimises}
+use Rattle.minimal.specs.between.Computed.{Minimises-of}
+use Rattle.minimal.proofs.ComputedTheorem.{minimises-of}
 use Rattle.minimal.proofs.DemandThree.{checks-pass, many-refused, refused-many, passed-few}
 use Rattle.claim.specs.declared.answer.Claim.the-variants.{Least}
 use Rattle.claim.specs.declared.answer.Licensed.{Licensed}
-use Rattle.claim.specs.Licensed.{claim-of, licensed-of, licence-refusal, Licenses}
-use Rattle.claim.specs.Statement.{Licence, May-be-lodged}
+use Rattle.claim.specs.Licensed.{licence-refusal}
+use Rattle.claim.specs.between.Computed.{Licenses-of, claim-of, licensed-of}
+use Rattle.claim.specs.Statement.{May-be-lodged}
 use Rattle.claim.specs.between.Refused.{Refuses-licence}
 use Rattle.claim.specs.between.Further.{Goes-further}
 use Rattle.claim.proofs.LicenceTheorem.{licence-of, claims-least}
 
 -- one of the checks 1 to 11 refuses
 pub refuses-all : (w l before : List ℕ) (refusal : Refusal) (r : Licensed) → licence-refusal w l before ≡ some (told-refusal refusal) → Refuses-licence refusal r
-    → Licenses w l before r before
+    → Licenses-of w l before r before
 refuses-all w l before refusal r fires refuses =
     record {
       answers = rw (refuses .told .answer, refuses .told .mask) (answers-refused _ w l (licensed-of w l) before (Refused refusal) (sym fires) refusal refl);
@@ -65,8 +68,8 @@ module _ (w l before : List ℕ) (passed : licence-refusal w l before ≡ none) 
   room = roomy w l (length before) passed
 
   -- the minimal reduction answers
-  pub licenses-least : (r : Shortened) (tally : Tally) (after : List ℕ) → Minimises most-unmarked w l before r after → r .answer ≡ Valid tally
-      → Licenses w l before (record { claim = Least; told = r }) after
+  pub licenses-least : (r : Shortened) (tally : Tally) (after : List ℕ) → Minimises-of most-unmarked w l before r after → r .answer ≡ Valid tally
+      → Licenses-of w l before (record { claim = Least; told = r }) after
   licenses-least r tally after minimises valid =
       let passes : answer (minimal-checks most-unmarked w l (length before)) ≡ none = sym (minimises .answers .refusal) ∙ ap told-answer valid in
       let few : unmarked w l ≤ most-unmarked = passed-few w l readable plan most-unmarked (length before) room passes in
@@ -94,26 +97,20 @@ module _ (w l before : List ℕ) (passed : licence-refusal w l before ≡ none) 
       record { passes = passed; tally = is; counted = counted ∙ ap (λ t. t .place) told; many = many }
 
 -- what is answered meets the one statement
-pub may-be-lodged : (w l before : List ℕ) (r : Licensed) (after : List ℕ) → Licenses w l before r after → May-be-lodged w l before r after
+pub may-be-lodged : (w l before : List ℕ) (r : Licensed) (after : List ℕ) → Licenses-of w l before r after → May-be-lodged w l before r after
 may-be-lodged w l before r after licenses readable plan roomy =
     let passed : licence-refusal w l before ≡ none = checks-pass w l readable plan (length before) roomy in
-    let licence : Licence w l (claim-of w l) (licensed-of w l) = licence-of w l readable plan in
-    let fits : length (licensed-of w l) ≡ length l = licence .valid-left .fits ∙ length-map l (action w) in
-    let long : length (licensed-of w l) ≤ mask-bits = omega (arith, fits, readable .few) in
-    let room : count (licensed-of w l) ≤ length before = omega (arith, kept-length (licensed-of w l) l fits, left-length (licensed-of w l) l fits) in
     record {
+      claim = claim-of w l;
       left = licensed-of w l;
-      licence = subst (λ c. Licence w l c (licensed-of w l)) (sym (rw passed at (licenses .claims))) licence;
-      answers = licenses .answers .refusal ∙ passed;
-      tally = rw passed at (licenses .answers .tally);
-      told-by = rw passed at (licenses .answers .told-by);
-      output = rw passed at (licenses .answers .output) ∙ front-and-rest (licensed-of w l) l long fits before room;
+      licence = licence-of w l readable plan;
+      told = (rw passed at (licenses .claims), subst (λ t. Answers t w l (licensed-of w l) before (r .told .answer) (r .told .mask .words) after) passed (licenses .answers));
     }
 
 -- what the check of a list answers where its room is asked besides
 module _ (w l before : List ℕ) (v : Verdict) (given : Answer) (state : List ℕ) (asked : told v ≡ answer (room-checks (length l) (length before)))
     (checks : Checks-lodged most-steps w l v given state) where
-  pub lodged-refuses : (refusal : Refusal) (r : Licensed) → given ≡ Refused refusal → Refuses-licence refusal r → Licenses w l before r before
+  pub lodged-refuses : (refusal : Refusal) (r : Licensed) → given ≡ Refused refusal → Refuses-licence refusal r → Licenses-of w l before r before
   lodged-refuses refusal r is = refuses-all w l before refusal r (sym (room-checked w l (length before) v given state asked checks) ∙ ap told-answer is)
 
   pub lodged-further : (lodged : Tally) (refusal : Refusal) (others : ℕ) → given ≡ Valid lodged → minimal-refusal most-unmarked w l before ≡ some (told-refusal refusal)
@@ -123,8 +120,11 @@ module _ (w l before : List ℕ) (v : Verdict) (given : Answer) (state : List �
       goes-further w l before passed refusal lodged others refuses (rw (passed, is) at (checks .checked (room-checks (length l) (length before)) asked .tally)) counted
 
 -- what the service answers, by what the minimal reduction does
-module _ (w l before : List ℕ) (r : Shortened) (after : List ℕ) (minimises : Minimises most-unmarked w l before r after) where
-  pub answers-least : (tally : Tally) → r .answer ≡ Valid tally → Licenses w l before (record { claim = Least; told = r }) after
+module _ (w l before : List ℕ) (r : Shortened) (after : List ℕ) (answered : Minimises most-unmarked w l before r after) where
+  minimises : Minimises-of most-unmarked w l before r after
+  minimises = minimises-of most-unmarked w l before r after answered
+
+  pub answers-least : (tally : Tally) → r .answer ≡ Valid tally → Licenses-of w l before (record { claim = Least; told = r }) after
   unfolding minimal-checks
   answers-least tally valid =
       let passes : answer (minimal-checks most-unmarked w l (length before)) ≡ none = sym (minimises .answers .refusal) ∙ ap told-answer valid in
@@ -142,5 +142,5 @@ module _ (w l before : List ℕ) (r : Shortened) (after : List ℕ) (minimises :
     pub refuses-there : minimal-refusal most-unmarked w l after ≡ some (told-refusal refusal)
     refuses-there = rw stays refuses
 
-    pub answers-there : (given : Licensed) (last : List ℕ) → Licenses w l after given last → Licenses w l before given last
-    answers-there given last licenses = subst (λ b. Licenses w l b given last) stays licenses
+    pub answers-there : (given : Licensed) (last : List ℕ) → Licenses-of w l after given last → Licenses-of w l before given last
+    answers-there given last licenses = subst (λ b. Licenses-of w l b given last) stays licenses

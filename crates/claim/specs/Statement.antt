@@ -1,27 +1,27 @@
--- May this list be lodged? What `license` answers and writes, as one statement. Assumes nothing.
+-- May this list be lodged? A licence, as whatever tells one has it, and as `license` does. Assumes nothing.
 use Prim.Native.Nat.{ℕ, _≤_, _<_}
 use mathlib.Core.Path.{_≡_}
 use mathlib.Core.Logic.{_↔_}
 use mathlib.Core.Option.{none}
-use mathlib.Core.List.{List, _++_}
-use lib.ListN.{length, drop}
+use mathlib.Core.List.{List}
+use lib.ListN.{length}
 use Rattle.sas.specs.Plan.{Plan, cost}
-use Rattle.reduction.specs.Reduction.{Reduction, kept, count, whole}
+use Rattle.reduction.specs.Reduction.{Reduction, kept, whole, compose}
 use Rattle.reduction.specs.Minimal.{Minimal-reduction}
-use Rattle.mask.specs.Mask.{mask-words}
 use Rattle.sheet.specs.Decode.{goal, initial, task}
 use Rattle.plan.specs.Valid.{steps}
 use Rattle.plan.specs.Readable.{Readable}
-use Rattle.plan.specs.Checked.{told-answer, told-tally}
-use Rattle.reduced.specs.Reduced.{tally-left}
-use Rattle.landmark.specs.Marks.{unmarked}
+use Rattle.reduced.specs.Reduced.{Answers}
+use Rattle.landmark.specs.Marks.{marks, unmarked}
 use Rattle.elimination.specs.declared.single.Elimination.{Elimination}
-use Rattle.elimination.specs.Eliminations.{left-by}
-use Rattle.minimal.specs.Statement.{Is-marked, Valid-striking}
+use Rattle.elimination.specs.Eliminations.{Left-by-rule, Rule-leaves}
+use Rattle.elimination.specs.between.Left.{left-by}
+use Rattle.cheaper.specs.Cheaper.{cheaper-of}
+use Rattle.minimal.specs.Minimised.{most-unmarked}
+use Rattle.minimal.specs.Statement.{Is-marked, Are-marks, Valid-striking}
 use Rattle.claim.specs.declared.answer.Claim.{Claim}
 use Rattle.claim.specs.declared.answer.Claim.the-variants.{Least, Irreducible, Open}
 use Rattle.claim.specs.declared.answer.Licensed.{Licensed}
-use Rattle.claim.specs.Licensed.{claim-of}
 
 module _ (w l : List ℕ) where
   -- what the licence asks of the list l of the sheet w: every valid striking of it strikes nothing
@@ -37,40 +37,51 @@ module _ (w l : List ℕ) where
   Marked-is-whole =
       Readable w l → Plan (task w) (steps w l) → All-marked → (m : Reduction) → Valid-striking w l m ↔ (m ≡ whole l)
 
+-- the list that the cheaper elimination leaves of the list l of the sheet w
+abbrev pub cheaper-list : List ℕ → List ℕ → List ℕ
+cheaper-list w l = kept (cheaper-of w l) l
+
 module _ (w l : List ℕ) where
-  -- what a claim says of the reduction `left` of the lodged list l. Least: it is document 01's exact reduction, and so
-  -- nothing can be struck from what it leaves. Irreducible: nothing can be. Open: so many moves are unmarked there, and
-  -- nothing is said of what could be struck
+  -- when a claim is made, and what it says of the reduction `left` of the lodged list l. Least: at most 20 moves are
+  -- unmarked, and `left` is document 01's exact reduction. Irreducible: more are, but at most 20 of what the cheaper
+  -- elimination leaves, and `left` is that and of it the exact reduction. Of both, nothing can be struck from what is
+  -- left. Open: there too more are, so many, and `left` is what the cheaper elimination leaves
   abbrev pub Claimed : Claim → Reduction → Type 0
   Claimed Least left =
-      Minimal-reduction (initial w) (goal w) (steps w l) left × Nothing-to-strike w (kept left l)
-  Claimed Irreducible left = Nothing-to-strike w (kept left l)
-  Claimed (Open n) left = n ≡ unmarked w (kept left l)
+      (unmarked w l ≤ most-unmarked) × Minimal-reduction (initial w) (goal w) (steps w l) left
+      × Nothing-to-strike w (kept left l)
+  Claimed Irreducible left =
+      (most-unmarked < unmarked w l) × (unmarked w (cheaper-list w l) ≤ most-unmarked)
+      × ((m : Reduction) × Minimal-reduction (initial w) (goal w) (steps w (cheaper-list w l)) m
+      × (left ≡ compose (cheaper-of w l) m)) × Nothing-to-strike w (kept left l)
+  Claimed (Open n) left =
+      (most-unmarked < unmarked w l) × (most-unmarked < n) × (n ≡ unmarked w (kept left l)) × (left ≡ cheaper-of w l)
 
   -- a claim and the reduction that it is made of
   pub record Licence (claim : Claim) (left : Reduction) : Type 0 where
     -- of the three claims it is the strongest whose condition is met
-    pub strongest : claim ≡ claim-of w l
+    pub claimed : Claimed claim left
+    -- `unmarked` is the number of all moves that are not marked, of any list of the sheet
+    pub flagged : (some : List ℕ) → Are-marks w some (marks w some)
+    -- what each elimination is said to leave is left by its rule, and nothing else is
+    pub eliminated : (by : Elimination) → Rule-leaves by w l (left-by by w l)
     -- the list left is valid: a plan of the task, and the lodged list with steps struck
     pub valid-left : Valid-striking w l left
     pub plan-left : Plan (task w) (kept left (steps w l))
-    -- it costs no more than what either elimination leaves
-    pub no-dearer : (by : Elimination)
-        → cost (kept left (steps w l)) ≤ cost (kept (left-by by w l) (steps w l))
-    pub claimed : Claimed claim left
+    -- it costs no more than what either elimination leaves by its rule
+    pub no-dearer : (by : Elimination) (m : Reduction) → Left-by-rule by w l m
+        → cost (kept left (steps w l)) ≤ cost (kept m (steps w l))
 
-  -- the service answers with a licence, and all that is told and written is that of its reduction
-  pub record Licensed-with (before : List ℕ) (r : Licensed) (after : List ℕ) : Type 0 where
+  -- a licence, told by what `Tells` says of its claim and its reduction
+  pub record Licensed-with (Tells : Claim → Reduction → Type 0) : Type 0 where
+    pub claim : Claim
     pub left : Reduction
-    pub licence : Licence (r .claim) left
-    pub answers : told-answer (r .told .answer) ≡ none
-    pub tally : told-tally (r .told .answer) ≡ tally-left w l left
-    pub told-by : r .told .mask .words ≡ mask-words left
-    -- the kept action numbers are the output's first words, one for each kept step, and every other word stays
-    pub output : after ≡ kept left l ++ drop (count left) before
+    pub licence : Licence claim left
+    pub told : Tells claim left
 
--- for every accepted sheet, every valid list of no more steps than a list may have, and every output that has as many
--- words as the list has steps
+-- by the service: for every accepted sheet, every valid list of no more steps than a list may have, and every output
+-- that has as many words as the list has steps
 abbrev pub May-be-lodged : List ℕ → List ℕ → List ℕ → Licensed → List ℕ → Type 0
 May-be-lodged w l before r after =
-    Readable w l → Plan (task w) (steps w l) → length l ≤ length before → Licensed-with w l before r after
+    Readable w l → Plan (task w) (steps w l) → length l ≤ length before → Licensed-with w l
+    (λ c m. (r .claim ≡ c) × Answers none w l m before (r .told .answer) (r .told .mask .words) after)

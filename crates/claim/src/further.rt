@@ -11,7 +11,7 @@ use plan::limits::Plan;
 use reduced::finish::finish;
 use reduced::through::mask_through;
 use tally::Tally;
-ghost use Rattle.claim.specs.Licensed.{Licenses};
+ghost use Rattle.claim.specs.between.Computed.{Licenses-of};
 ghost use Rattle.claim.specs.between.Further.{Goes-further};
 
 // Licenses a plan of this tally, of which so many steps are unmarked.
@@ -23,7 +23,7 @@ pub(crate) fn license_further(
     unmarked: usize,
 ) -> Licensed
     requires { ⌜ Goes-further (now words) (now plan) (now out) lodged unmarked ⌝ }
-    ensures { λ r. ⌜ Licenses (now (words .entry)) (now (plan .entry)) (now (out .entry)) r (now (out .exit)) ⌝ }
+    ensures { λ r. ⌜ Licenses-of (now (words .entry)) (now (plan .entry)) (now (out .entry)) r (now (out .exit)) ⌝ }
 {
     let n = plan.len();
     let marked = (n - unmarked) as u32;

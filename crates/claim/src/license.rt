@@ -14,12 +14,13 @@ ghost use mathlib.Core.Option.{some};
 ghost use Rattle.refusal.specs.Refusal.{told-refusal};
 ghost use Rattle.minimal.specs.Minimised.{most-unmarked, minimal-refusal};
 ghost use Rattle.claim.specs.Licensed.{Licenses};
+ghost use Rattle.claim.specs.between.Computed.{Licenses-of};
 ghost use Rattle.claim.specs.Statement.{May-be-lodged};
 
 // Licenses a plan that the minimal reduction refuses, unless one of the checks 1 to 11 refuses it.
 fn license_refused(words: &[u32], plan: &[u32], out: &mut [u32], refusal: Refusal) -> Licensed
     requires { ⌜ minimal-refusal most-unmarked (now words) (now plan) (now out) ≡ some (told-refusal refusal) ⌝ }
-    ensures { λ r. ⌜ Licenses (now (words .entry)) (now (plan .entry)) (now (out .entry)) r (now (out .exit)) ⌝ }
+    ensures { λ r. ⌜ Licenses-of (now (words .entry)) (now (plan .entry)) (now (out .entry)) r (now (out .exit)) ⌝ }
 {
     let checked = check_lodged(words, plan, Plan::STEPS, check_room(plan.len(), out.len()));
     let answer = checked.answer;

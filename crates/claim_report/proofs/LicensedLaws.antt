@@ -21,7 +21,9 @@ use Rattle.reduced.specs.Reduced.{room-checks, reduction-checks}
 use Rattle.reduced.proofs.LodgedLaws.{lodged-plan}
 use Rattle.claim.specs.declared.answer.Claim.{Claim}
 use Rattle.claim.specs.declared.answer.Licensed.{Licensed}
-use Rattle.claim.specs.Licensed.{claim-of, licensed-of, Licenses}
+use Rattle.claim.specs.Licensed.{Licenses}
+use Rattle.claim.specs.between.Computed.{claim-of, licensed-of, Licenses-of}
+use Rattle.claim.proofs.ComputedTheorem.{licenses-of}
 use Rattle.claim.specs.Statement.{Licence}
 use Rattle.claim.proofs.LicenceTheorem.{licence-of}
 use Rattle.program.specs.Printed.{refusal-line}
@@ -37,7 +39,10 @@ pub claim-put : {claim case : Claim} {at : ℕ} {before after : List ℕ} {end :
     → length (claim-line case) ≤ line-room → Puts-lines 1 (claim-line claim) at before after end
 claim-put is prints short = rw is (record { prints = prints; short = omega (arith, short) })
 
-module _ (w l before : List ℕ) (r : Licensed) (after : List ℕ) (room : length before ≡ most-steps) (licenses : Licenses w l before r after) where
+module _ (w l before : List ℕ) (r : Licensed) (after : List ℕ) (room : length before ≡ most-steps) (answered : Licenses w l before r after) where
+  licenses : Licenses-of w l before r after
+  licenses = licenses-of w l before r after answered
+
   -- the list is licensed
   module _ (kept : Tally) (is : r .told .answer ≡ Valid kept) where
     passes : answer (reduction-checks w l (length before)) ≡ none

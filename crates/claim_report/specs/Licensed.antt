@@ -10,7 +10,7 @@ use Rattle.plan.specs.Limits.{most-steps}
 use Rattle.reduced.specs.Reduced.{reduction-checks}
 use Rattle.claim.specs.declared.answer.Claim.{Claim}
 use Rattle.claim.specs.declared.answer.Claim.the-variants.{Least, Irreducible, Open}
-use Rattle.claim.specs.Licensed.{claim-of, licensed-of}
+use Rattle.claim.specs.between.Computed.{claim-of, licensed-of}
 use Rattle.program.specs.Printed.{refusal-line}
 use Rattle.report.specs.Report.{report}
 

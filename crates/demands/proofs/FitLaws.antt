@@ -1,26 +1,27 @@
 -- What is left of a list that passes the checks of its service has a flag for each of its steps, and its output has room: by the laws of the checks, and since
 -- each service strikes from a valid list. Assumes nothing.
 use Prim.Native.Nat.{ℕ, _≤_}
-use mathlib.Core.Path.{_≡_, refl, _∙_}
+use mathlib.Core.Path.{_≡_, sym, _∙_, subst}
 use mathlib.Core.Option.{none}
 use mathlib.Core.List.{List}
 use lib.ListN.{length, length-map}
 use Rattle.refusal.specs.Check.{answer}
-use Rattle.refusal.proofs.CheckLaws.{first-none}
 use Rattle.sheet.specs.Decode.{initial, goal, action}
 use Rattle.plan.specs.Limits.{most-steps}
 use Rattle.plan.specs.Valid.{steps}
 use Rattle.plan.proofs.PlanLaws.{passed-readable}
-use Rattle.reduction.specs.Reduction.{Reduction, meets}
-use Rattle.reduction.proofs.minimal.MinimalTheorem.{minimal-found}
+use Rattle.reduction.specs.Reduction.{Reduction}
+use Rattle.reduction.specs.Minimal.{Minimal-reduction}
 use Rattle.reduced.specs.Reduced.{reduction-checks}
-use Rattle.reduced.proofs.LodgedLaws.{lodged-plan, lodged-valid, roomy}
+use Rattle.reduced.proofs.LodgedLaws.{lodged-valid, roomy}
 use Rattle.elimination.specs.declared.single.Elimination.{Elimination}
-use Rattle.elimination.specs.Eliminations.{left-by}
-use Rattle.elimination.proofs.LeavesLaws.{left-fits}
-use Rattle.claim.specs.Licensed.{licensed-of}
-use Rattle.claim.proofs.LicenceTheorem.{licence-of}
-use Rattle.minimal.specs.Minimised.{most-unmarked, unmarked-checks, minimal-checks, minimal-of}
+use Rattle.elimination.specs.Eliminations.{Left-by-rule}
+use Rattle.elimination.specs.between.Left.{left-by}
+use Rattle.elimination.proofs.LeavesLaws.{rule-leaves, left-fits}
+use Rattle.claim.specs.declared.answer.Claim.{Claim}
+use Rattle.claim.specs.Statement.{Licence}
+use Rattle.minimal.specs.Minimised.{most-unmarked, minimal-checks}
+use Rattle.minimal.proofs.ComputedTheorem.{first-pass}
 
 -- a reduction with a flag for each step of a list, for which there is room
 pub record Flags-each (l : List ℕ) (m : Reduction) (room : ℕ) : Type 0 where
@@ -33,18 +34,19 @@ module _ (w l : List ℕ) (room : ℕ) where
   passed-flags m passed fits =
       record { fits = fits ∙ length-map l (action w); few = passed-readable _ _ w l passed .few; roomy = roomy w l room passed }
 
-  pub elimination-flags : (by : Elimination) → answer (reduction-checks w l room) ≡ none → Flags-each l (left-by by w l) room
-  elimination-flags by passed = passed-flags (left-by by w l) passed (left-fits w l (passed-readable _ _ w l passed) (lodged-valid _ w l passed) by)
+  -- what the rule of an elimination leaves is what is computed
+  pub left-computed : (by : Elimination) (m : Reduction) → answer (reduction-checks w l room) ≡ none → Left-by-rule by w l m → m ≡ left-by by w l
+  left-computed by m passed leaves = rule-leaves w l (lodged-valid _ w l passed) by m .1 leaves
 
-  -- what passes all the checks of the minimal reduction passes those of every reduction
-  pub first-pass : answer (minimal-checks most-unmarked w l room) ≡ none → answer (reduction-checks w l room) ≡ none
-  unfolding minimal-checks
-  first-pass passes = first-none _ (unmarked-checks most-unmarked w l) _ passes refl
+  pub computed-flags : (by : Elimination) → answer (reduction-checks w l room) ≡ none → Flags-each l (left-by by w l) room
+  computed-flags by passed = passed-flags (left-by by w l) passed (left-fits w l (passed-readable _ _ w l passed) (lodged-valid _ w l passed) by)
 
-  pub minimal-flags : answer (minimal-checks most-unmarked w l room) ≡ none → Flags-each l (minimal-of w l) room
-  minimal-flags passes =
-      let passed : answer (reduction-checks w l room) ≡ none = first-pass passes in
-      passed-flags (minimal-of w l) passed (minimal-found (meets (goal w)) (initial w) (steps w l) (lodged-valid _ w l passed) .valid .fits)
+  pub elimination-flags : (by : Elimination) (m : Reduction) → answer (reduction-checks w l room) ≡ none → Left-by-rule by w l m → Flags-each l m room
+  elimination-flags by m passed leaves =
+      subst (λ n. Flags-each l n room) (sym (left-computed by m passed leaves)) (computed-flags by passed)
 
-  pub licensed-flags : answer (reduction-checks w l room) ≡ none → Flags-each l (licensed-of w l) room
-  licensed-flags passed = passed-flags (licensed-of w l) passed (licence-of w l (passed-readable _ _ w l passed) (lodged-plan _ w l passed) .valid-left .fits)
+  pub minimal-flags : (m : Reduction) → answer (minimal-checks most-unmarked w l room) ≡ none → Minimal-reduction (initial w) (goal w) (steps w l) m → Flags-each l m room
+  minimal-flags m passes minimal = passed-flags m (first-pass most-unmarked w l room passes) (minimal .valid .fits)
+
+  pub licensed-flags : (c : Claim) (m : Reduction) → answer (reduction-checks w l room) ≡ none → Licence w l c m → Flags-each l m room
+  licensed-flags c m passed licence = passed-flags m passed (licence .valid-left .fits)

@@ -25,10 +25,8 @@ use Rattle.mask.proofs.MaskTheorem.{front-and-rest}
 use Rattle.course.specs.Course.{course-checks}
 use Rattle.reduced.specs.Reduced.{room-checks, reduction-checks, output-left}
 use Rattle.elimination.specs.declared.single.Elimination.the-variants.{Plain, Greedy}
-use Rattle.elimination.specs.Eliminations.{elimination-of, greedy-elimination-of, left-by}
 use Rattle.cheaper.specs.Cheaper.{cheaper-part}
-use Rattle.minimal.specs.Minimised.{most-unmarked, unmarked-checks, minimal-checks, minimal-of}
-use Rattle.claim.specs.Licensed.{licensed-of}
+use Rattle.minimal.specs.Minimised.{most-unmarked, unmarked-checks, minimal-checks}
 use Rattle.sas.specs.Task.{Task}
 use Rattle.translation.specs.declared.translate.Translated.{Translated}
 use Rattle.translation.specs.declared.translate.Translated.the-variants.{Refused, Written}
@@ -116,29 +114,32 @@ demand-one =
         λ t h. rw (← courses .refusal, h) at (courses .states),
       );
       marks = λ w l verdict mask masks. refuses-just _ _ _ (list-numbered w l) (masks .refusal);
-      elimination = λ by w l before given mask after reduces. (
-        refuses-just _ _ _ (greedy-numbered w l (length before)) (reduces .refusal),
-        output-lent _ l (left-by by w l) before after (rw (← reduces .refusal) at (reduces .output))
-            (λ h. (length before, omega arith, elimination-flags w l (length before) by (sym (reduces .refusal) ∙ h))),
-      );
+      elimination = λ by w l before given mask after eliminates.
+          let reduces = eliminates .told in (
+            refuses-just _ _ _ (greedy-numbered w l (length before)) (reduces .refusal),
+            output-lent _ l (eliminates .left) before after (rw (← reduces .refusal) at (reduces .output))
+                (λ h. let passed = sym (reduces .refusal) ∙ h in (length before, omega arith, elimination-flags w l (length before) by _ passed (eliminates .is-left passed))),
+          );
       both-eliminations = λ w l before before′ verdict first second after after′ both. (
         refuses-just _ _ _ (greedy-numbered w l (min (length before) (length before′))) (both .refusal),
-        output-lent _ l (elimination-of w l) before after (both .first-output)
-            (λ h. (_, min-le-left (length before) (length before′), elimination-flags w l _ Plain (sym (both .refusal) ∙ h))),
-        output-lent _ l (greedy-elimination-of w l) before′ after′ (both .second-output)
-            (λ h. (_, min-le-right (length before) (length before′), elimination-flags w l _ Greedy (sym (both .refusal) ∙ h))),
+        output-lent _ l (both .elimination .left) before after (both .elimination .told .1)
+            (λ h. (_, min-le-left (length before) (length before′), elimination-flags w l _ Plain _ (sym (both .refusal) ∙ h) (both .elimination .is-left h))),
+        output-lent _ l (both .greedy .left) before′ after′ (both .greedy .told .1)
+            (λ h. (_, min-le-right (length before) (length before′), elimination-flags w l _ Greedy _ (sym (both .refusal) ∙ h) (both .greedy .is-left h))),
       );
       cheaper-shown = λ first second t u part is. rw is (part-shown first second t u _ refl);
-      exact-reduction = λ w l before r after minimises. (
-        refuses-just _ _ _ (exact-numbered most-unmarked w l (length before)) (minimises .answers .refusal),
-        output-lent _ l (minimal-of w l) before after (rw (← minimises .answers .refusal) at (minimises .answers .output))
-            (λ h. (length before, omega arith, minimal-flags w l (length before) (sym (minimises .answers .refusal) ∙ h))),
-      );
-      licence = λ w l before r after licenses. (
-        refuses-just _ _ _ (greedy-numbered w l (length before)) (licenses .answers .refusal),
-        output-lent _ l (licensed-of w l) before after (rw (← licenses .answers .refusal) at (licenses .answers .output))
-            (λ h. (length before, omega arith, licensed-flags w l (length before) (sym (licenses .answers .refusal) ∙ h))),
-      );
+      exact-reduction = λ w l before r after minimises.
+          let answers = minimises .answers .told in (
+            refuses-just _ _ _ (exact-numbered most-unmarked w l (length before)) (answers .refusal),
+            output-lent _ l (minimises .answers .left) before after (rw (← answers .refusal) at (answers .output))
+                (λ h. let passed = sym (answers .refusal) ∙ h in (length before, omega arith, minimal-flags w l (length before) _ passed (minimises .answers .is-left passed))),
+          );
+      licence = λ w l before r after licenses.
+          let answers = licenses .answers .told in (
+            refuses-just _ _ _ (greedy-numbered w l (length before)) (answers .refusal),
+            output-lent _ l (licenses .answers .left) before after (rw (← answers .refusal) at (answers .output))
+                (λ h. let passed = sym (answers .refusal) ∙ h in (length before, omega arith, licensed-flags w l (length before) _ _ passed (licenses .answers .is-left passed))),
+          );
       planner-text = λ text before r after translates. (
         refuses-just _ _ _ (text-numbered text (length before)) (translates .answers),
         refused-leaves (text-task text) before after r (translates .leaves),

@@ -2,7 +2,7 @@
 -- and `tally` say that the definition is the rule. Nothing here is about the code: its contracts cite the same definitions. Assumes nothing.
 use Prim.Native.Nat.{ℕ, _+_, _≤_}
 use native.Mathlib.Omega.{arith}
-use mathlib.Core.Path.{_≡_, refl, sym, _∙_, ap}
+use mathlib.Core.Path.{_≡_, refl, sym, _∙_, ap, subst}
 use mathlib.Core.Bool.{Bool, true, false}
 use mathlib.Core.Option.{Option, none, some, Option·some-ne-none}
 use mathlib.Core.List.{List}
@@ -11,12 +11,11 @@ use Rattle.refusal.specs.declared.Refusal.{Refusal}
 use Rattle.refusal.specs.declared.Verdict.{Verdict}
 use Rattle.refusal.specs.declared.Verdict.the-variants.{Passed, Refused}
 use Rattle.refusal.specs.Refusal.{Told, told}
-use Rattle.refusal.specs.Check.{Check, answer, unless-refused}
+use Rattle.refusal.specs.Check.{answer, unless-refused}
 use Rattle.reduction.specs.Reduction.{Reduction, kept, count, whole}
 use Rattle.reduction.specs.between.Order.{lower}
 use Rattle.reduction.proofs.ReductionLaws.{kept-whole, count-whole, kept-length}
 use Rattle.reduction.proofs.LowerLaws.{lower-true, true-lower}
-use Rattle.reduction.proofs.trials.EliminationTheorem.{elimination-in-words, greedy-in-words}
 use Rattle.mask.specs.Mask.{mask-bits}
 use Rattle.mask.proofs.MaskTheorem.{up-is-flag, ones-are-kept}
 use Rattle.tally.specs.declared.Tally.{Tally}
@@ -34,19 +33,20 @@ use Rattle.course.proofs.CourseTheorem.{whole-course, stuck-course, course-reac
 use Rattle.reduced.specs.Reduced.{reduction-checks, tally-left, Answers}
 use Rattle.reduced.proofs.LodgedLaws.{lodged-valid}
 use Rattle.landmark.specs.Marks.{marks, marked, Masks}
-use Rattle.landmark.proofs.MarkTheorem.{marks-theorem, marks-length, bits-just-marked}
+use Rattle.landmark.proofs.MarkTheorem.{bits-just-marked}
+use Rattle.minimal.proofs.DemandThree.{are-marks}
 use Rattle.elimination.specs.declared.single.Elimination.{Elimination}
 use Rattle.elimination.specs.declared.single.Elimination.the-variants.{Plain, Greedy}
-use Rattle.elimination.specs.Eliminations.{elimination-of, greedy-elimination-of, left-by}
+use Rattle.elimination.specs.Eliminations.{Left-by-rule, Rule-leaves}
+use Rattle.elimination.specs.between.Left.{left-by}
+use Rattle.elimination.proofs.LeavesLaws.{rule-leaves}
 use Rattle.cheaper.specs.Cheaper.{Reduces-both, cheaper-part}
 use Rattle.cheaper.proofs.CheaperTheorem.{greedy-shown, elimination-shown, nothing-shown}
 use Rattle.minimal.specs.declared.within.Shortened.{Shortened}
-use Rattle.minimal.specs.Minimised.{minimal-of}
-use Rattle.claim.specs.Licensed.{licensed-of}
-use Rattle.demands.specs.Two.{Checked-truly, Course-truly, Marks-truly, Marked-number, Rule-leaves, Tally-truly, Cheaper, Shown-truly}
+use Rattle.demands.specs.Two.{Checked-truly, Course-truly, Marks-truly, Tally-truly, Cheaper, Shown-truly}
 use Rattle.demands.specs.Two.{Mask-truly, Shortened-truly, Demand-two}
 use Rattle.demands.proofs.OrderLaws.{compared-truly}
-use Rattle.demands.proofs.FitLaws.{Flags-each, elimination-flags, minimal-flags, licensed-flags}
+use Rattle.demands.proofs.FitLaws.{Flags-each, left-computed, elimination-flags, computed-flags, minimal-flags, licensed-flags}
 
 -- a verdict that tells nothing passes, and one that tells something refuses
 none-passed : (v : Verdict) → told v ≡ none → v ≡ Passed
@@ -97,27 +97,26 @@ module _ (w l : List ℕ) where
       }
 
   -- what is told of a reduction that has a flag for each step where nothing is refused
-  module _ (checks : List Check) (m : Reduction) (before : List ℕ) (given : Answer) (mask after : List ℕ) (answers : Answers checks w l m before given mask after) where
+  module _ (t : Option Told) (m : Reduction) (before : List ℕ) (given : Answer) (mask after : List ℕ) (answers : Answers t w l m before given mask after) where
     tallied-truly : Tally-truly w l m (told-answer given) (told-tally given)
     tallied-truly = tally-truly m (told-answer given) (told-tally given) (rw (← answers .refusal) at (answers .tally))
 
-    masked-truly : (answer checks ≡ none → Flags-each l m (length before)) → Mask-truly m (told-answer given) mask
+    masked-truly : (t ≡ none → Flags-each l m (length before)) → Mask-truly m (told-answer given) mask
     masked-truly each =
         record {
           bits = λ h i. rw (rw (passed h) at (answers .told-by), up-is-flag m (few h) i) (λ k. k, λ k. k);
           ones = λ h. rw (rw (passed h) at (answers .told-by)) (ones-are-kept m (few h));
-          zeros = λ t h. rw (sym (answers .refusal) ∙ h) at (answers .told-by);
+          zeros = λ u h. rw (sym (answers .refusal) ∙ h) at (answers .told-by);
         }
       where
-        passed : told-answer given ≡ none → answer checks ≡ none
+        passed : told-answer given ≡ none → t ≡ none
         passed h = sym (answers .refusal) ∙ h
 
         few : told-answer given ≡ none → length m ≤ mask-bits
         few h = omega (arith, each (passed h) .fits, each (passed h) .few)
 
-  left-truly : (room : ℕ) → answer (reduction-checks w l room) ≡ none → (by : Elimination) → Rule-leaves w l by (left-by by w l)
-  left-truly room passed Plain = elimination-in-words (initial w) (goal w) (steps w l) (lodged-valid _ w l passed)
-  left-truly room passed Greedy = greedy-in-words (initial w) (goal w) (steps w l) (lodged-valid _ w l passed)
+  rule-truly : (room : ℕ) (by : Elimination) (m : Reduction) → answer (reduction-checks w l room) ≡ none → Left-by-rule by w l m → Rule-leaves by w l m
+  rule-truly room by m passed leaves = subst (Rule-leaves by w l) (sym (left-computed w l room by m passed leaves)) (rule-leaves w l (lodged-valid _ w l passed) by)
 
   -- of two lists left the cheaper is the lower
   module _ (m n : Reduction) (fits : length m ≡ length l) (fits′ : length n ≡ length l) where
@@ -135,33 +134,38 @@ module _ (w l : List ℕ) where
     cheaper-or-not none-is false e = e
 
   shown-truly : (before before′ : List ℕ) (verdict : Verdict) (first second : Tally) (after after′ : List ℕ)
-      → Reduces-both w l before before′ verdict first second after after′ → Shown-truly w l (told verdict) (cheaper-part after after′ first second)
+      (both : Reduces-both w l before before′ verdict first second after after′)
+      → Shown-truly w l (both .elimination .left) (both .greedy .left) (told verdict) (cheaper-part after after′ first second)
   shown-truly before before′ verdict first second after after′ both =
       record {
-        of-greedy = λ h less. greedy-shown w l before before′ verdict first second after after′ both (none-passed verdict h)
-            (cheaper-lower _ _ (fits h Greedy) (fits h Plain) less);
-        of-elimination = λ h not-cheaper. elimination-shown w l before before′ verdict first second after after′ both (none-passed verdict h)
-            (cheaper-or-not _ _ (fits h Greedy) (fits h Plain) not-cheaper _ refl);
+        of-greedy = λ h less. rw (second-is h) (greedy-shown w l before before′ verdict first second after after′ both (none-passed verdict h)
+            (cheaper-lower _ _ (fits h Greedy) (fits h Plain) (rw (first-is h, second-is h) at less)));
+        of-elimination = λ h not-cheaper. rw (first-is h) (elimination-shown w l before before′ verdict first second after after′ both (none-passed verdict h)
+            (cheaper-or-not _ _ (fits h Greedy) (fits h Plain) (rw (first-is h, second-is h) at not-cheaper) _ refl));
         of-neither = λ t h. let (r, refused) = some-refused verdict t h in nothing-shown w l before before′ verdict first second after after′ both r refused;
       }
     where
-      fits : told verdict ≡ none → (by : Elimination) → length (left-by by w l) ≡ length l
-      fits h by = elimination-flags w l _ by (sym (both .refusal) ∙ h) .fits
+      first-is : told verdict ≡ none → both .elimination .left ≡ left-by Plain w l
+      first-is h = left-computed w l _ Plain _ (sym (both .refusal) ∙ h) (both .elimination .is-left h)
 
-  marked-number : (n : ℕ) → n ≡ count (marks w l) → Marked-number w l n
-  marked-number n is = record { flags = marks w l; each-step = marks-length w l; marked = marks-theorem w l; number = is }
+      second-is : told verdict ≡ none → both .greedy .left ≡ left-by Greedy w l
+      second-is h = left-computed w l _ Greedy _ (sym (both .refusal) ∙ h) (both .greedy .is-left h)
+
+      fits : told verdict ≡ none → (by : Elimination) → length (left-by by w l) ≡ length l
+      fits h by = computed-flags w l _ by (sym (both .refusal) ∙ h) .fits
 
   -- what is told of a list that is shortened to such a reduction
-  shortened-truly : (checks : List Check) (m : Reduction) (before : List ℕ) (r : Shortened) (after : List ℕ) → Answers checks w l m before (r .answer) (r .mask .words) after
-      → (answer checks ≡ none → Flags-each l m (length before)) → r .lodged ≡ unless-refused (answer checks) (lodged-tally w l) nothing
-      → r .marked ≡ unless-refused (answer checks) (marked w l) 0 → Shortened-truly w l m r
-  shortened-truly checks m before r after answers each lodged marks =
+  shortened-truly : (t : Option Told) (m : Reduction) (before : List ℕ) (r : Shortened) (after : List ℕ) → Answers t w l m before (r .answer) (r .mask .words) after
+      → (t ≡ none → Flags-each l m (length before)) → r .lodged ≡ unless-refused t (lodged-tally w l) nothing
+      → r .marked ≡ unless-refused t (marked w l) 0 → Shortened-truly w l m r
+  shortened-truly t m before r after answers each lodged counted-marks =
       record {
-        tally = tallied-truly checks m before (r .answer) (r .mask .words) after answers;
-        mask = masked-truly checks m before (r .answer) (r .mask .words) after answers each;
+        tally = tallied-truly t m before (r .answer) (r .mask .words) after answers;
+        mask = masked-truly t m before (r .answer) (r .mask .words) after answers each;
         lodged = tally-truly (whole l) (told-answer (r .answer)) (r .lodged) (rw (← lodged-whole, answers .refusal) lodged);
-        marks = λ h. marked-number (r .marked) (rw (sym (answers .refusal) ∙ h) at marks);
-        no-marks = λ t h. rw (sym (answers .refusal) ∙ h) at marks;
+        flagged = are-marks w l;
+        marked = λ h. rw (sym (answers .refusal) ∙ h) at counted-marks;
+        no-marks = λ u h. rw (sym (answers .refusal) ∙ h) at counted-marks;
       }
 
 -- the states along a list
@@ -187,23 +191,26 @@ demand-two =
       list-check = checked-truly;
       course = course-truly;
       marks = marks-truly;
-      elimination = λ by w l before given mask after reduces. (
-        λ h. left-truly w l (length before) (sym (reduces .refusal) ∙ h) by,
-        tallied-truly w l _ (left-by by w l) before given mask after reduces,
-        masked-truly w l _ (left-by by w l) before given mask after reduces (elimination-flags w l (length before) by),
-      );
+      elimination = λ by w l before given mask after eliminates.
+          let reduces = eliminates .told in (
+            λ h. let passed = sym (reduces .refusal) ∙ h in rule-truly w l _ by _ passed (eliminates .is-left passed),
+            tallied-truly w l _ (eliminates .left) before given mask after reduces,
+            masked-truly w l _ (eliminates .left) before given mask after reduces (λ passed. elimination-flags w l (length before) by _ passed (eliminates .is-left passed)),
+          );
       both-eliminations = λ w l before before′ verdict first second after after′ both. (
-        λ h. left-truly w l _ (sym (both .refusal) ∙ h) Plain,
-        λ h. left-truly w l _ (sym (both .refusal) ∙ h) Greedy,
-        tally-truly w l (elimination-of w l) (told verdict) first (both .first-tally),
-        tally-truly w l (greedy-elimination-of w l) (told verdict) second (both .second-tally),
+        λ h. rule-truly w l _ Plain _ (sym (both .refusal) ∙ h) (both .elimination .is-left h),
+        λ h. rule-truly w l _ Greedy _ (sym (both .refusal) ∙ h) (both .greedy .is-left h),
+        tally-truly w l (both .elimination .left) (told verdict) first (both .elimination .told .0),
+        tally-truly w l (both .greedy .left) (told verdict) second (both .greedy .told .0),
       );
       cheaper-shown = λ w l before before′ verdict first second after after′ part both is.
           rw is (shown-truly w l before before′ verdict first second after after′ both);
       exact-reduction = λ w l before r after minimises.
-          shortened-truly w l _ (minimal-of w l) before r after (minimises .answers) (minimal-flags w l (length before)) (minimises .lodged) (minimises .marks);
+          shortened-truly w l _ (minimises .answers .left) before r after (minimises .answers .told)
+          (λ passed. minimal-flags w l (length before) _ passed (minimises .answers .is-left passed)) (minimises .lodged) (minimises .marks);
       licence = λ w l before r after licenses.
-          shortened-truly w l _ (licensed-of w l) before (r .told) after (licenses .answers) (licensed-flags w l (length before)) (licenses .lodged) (licenses .marks);
+          shortened-truly w l _ (licenses .answers .left) before (r .told) after (licenses .answers .told)
+          (λ passed. licensed-flags w l (length before) _ _ passed (licenses .answers .is-left passed)) (licenses .lodged) (licenses .marks);
       tally-compare = λ t u r is. rw is (compared-truly t u);
       tally-add = λ t price r is.
           record {

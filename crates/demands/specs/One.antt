@@ -18,15 +18,15 @@ use Rattle.step.specs.Step.{step-checks, Steps, After}
 use Rattle.plan.specs.declared.check.Answer.{Answer}
 use Rattle.plan.specs.Checked.{plan-checks, told-answer, Checks}
 use Rattle.course.specs.Course.{course-checks, Courses}
-use Rattle.reduced.specs.Reduced.{reduction-checks, Reduces}
+use Rattle.reduced.specs.Reduced.{reduction-checks}
 use Rattle.landmark.specs.Marks.{Masks}
 use Rattle.elimination.specs.declared.single.Elimination.{Elimination}
-use Rattle.elimination.specs.Eliminations.{elimination-of, greedy-elimination-of, left-by}
+use Rattle.elimination.specs.Eliminations.{Eliminates}
 use Rattle.cheaper.specs.Cheaper.{Reduces-both, cheaper-part}
 use Rattle.minimal.specs.declared.within.Shortened.{Shortened}
-use Rattle.minimal.specs.Minimised.{most-unmarked, minimal-checks, minimal-of, Minimises}
+use Rattle.minimal.specs.Minimised.{most-unmarked, minimal-checks, Minimises}
 use Rattle.claim.specs.declared.answer.Licensed.{Licensed}
-use Rattle.claim.specs.Licensed.{licensed-of, Licenses}
+use Rattle.claim.specs.Licensed.{Licenses}
 use Rattle.translation.specs.declared.translate.Translated.{Translated}
 use Rattle.translation.specs.Translation.{told-translated}
 use Rattle.translation.specs.between.Checks.{translation-checks, Answers-checks}
@@ -113,29 +113,29 @@ pub record Demand-one : Type 0 where
       → Refuses-just list-numbers (plan-checks w l) (told verdict)
   -- 1.2, 1.3, 1.5 and 1.6: elimination, or greedy elimination
   pub elimination : (by : Elimination) (w l before : List ℕ) (given : Answer) (mask after : List ℕ)
-      → Reduces w l (left-by by w l) before given mask after
+      (eliminates : Eliminates by w l before given mask after)
       → Refuses-just greedy-numbers (reduction-checks w l (length before)) (told-answer given)
-      × Output-lent (told-answer given) l (left-by by w l) before after
+      × Output-lent (told-answer given) l (eliminates .left) before after
   -- 1.2, 1.3, 1.5 and 1.6: both eliminations, whose room is that of the shorter output
   pub both-eliminations : (w l before before′ : List ℕ) (verdict : Verdict) (first second : Tally)
-      (after after′ : List ℕ) → Reduces-both w l before before′ verdict first second after after′
+      (after after′ : List ℕ) (both : Reduces-both w l before before′ verdict first second after after′)
       → Refuses-just greedy-numbers (reduction-checks w l (min (length before) (length before′))) (told verdict)
-      × Output-lent (told verdict) l (elimination-of w l) before after
-      × Output-lent (told verdict) l (greedy-elimination-of w l) before′ after′
+      × Output-lent (told verdict) l (both .elimination .left) before after
+      × Output-lent (told verdict) l (both .greedy .left) before′ after′
   -- 1.1: the cheaper of both, to which the two outputs are lent to be read: the part shown is the front of one of them
   pub cheaper-shown : (first second : List ℕ) (of-first of-second : Tally) (part : List ℕ)
       → part ≡ cheaper-part first second of-first of-second
       → (part ≡ take (of-first .steps) first) ⊎ (part ≡ take (of-second .steps) second)
   -- 1.2, 1.3, 1.5 and 1.6: the exact reduction
   pub exact-reduction : (w l before : List ℕ) (r : Shortened) (after : List ℕ)
-      → Minimises most-unmarked w l before r after
+      (minimises : Minimises most-unmarked w l before r after)
       → Refuses-just exact-numbers (minimal-checks most-unmarked w l (length before)) (told-answer (r .answer))
-      × Output-lent (told-answer (r .answer)) l (minimal-of w l) before after
+      × Output-lent (told-answer (r .answer)) l (minimises .answers .left) before after
   -- 1.2, 1.3, 1.5 and 1.6: the licence, with the refusals of the eliminations
-  pub licence : (w l before : List ℕ) (r : Licensed) (after : List ℕ) → Licenses w l before r after
+  pub licence : (w l before : List ℕ) (r : Licensed) (after : List ℕ) (licenses : Licenses w l before r after)
       → Refuses-just greedy-numbers (reduction-checks w l (length before)) (told-answer (r .told .answer))
-      × Output-lent (told-answer (r .told .answer)) l (licensed-of w l) before after
-  -- 1.5 and 1.6: a planner's text read into a sheet; what an answer writes is `Writes-sheet`
+      × Output-lent (told-answer (r .told .answer)) l (licenses .answers .left) before after
+  -- 1.5 and 1.6: a planner's text read into a sheet; what an answer writes is `Translates`
   pub planner-text : (text before : List ℕ) (r : Translated) (after : List ℕ) → Answers-checks text before r after
       → Refuses-just text-numbers (translation-checks text (length before)) (told-translated r)
       × ((t : Told) → told-translated r ≡ some t → after ≡ before)

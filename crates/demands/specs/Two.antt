@@ -14,7 +14,6 @@ use Rattle.refusal.specs.Refusal.{Told, told}
 use Rattle.sas.specs.Task.{State}
 use Rattle.sas.specs.Plan.{run, cost, Plan, Stuck}
 use Rattle.reduction.specs.Reduction.{Reduction, keeps, kept, count, whole}
-use Rattle.reduction.specs.Trials.{Elimination-leaves, Greedy-leaves}
 use Rattle.mask.specs.Mask.{mask-length, ones-of, bit-up}
 use Rattle.tally.specs.declared.Tally.{Tally}
 use Rattle.tally.specs.declared.Order.{Order}
@@ -29,17 +28,17 @@ use Rattle.plan.specs.Valid.{steps}
 use Rattle.plan.specs.Checked.{plan-checks, told-answer, told-tally, no-state, Checks}
 use Rattle.plan.specs.Valid.{Fails-at}
 use Rattle.course.specs.Course.{Courses}
-use Rattle.reduced.specs.Reduced.{Reduces}
-use Rattle.landmark.specs.Marks.{Masks}
+use Rattle.reduced.specs.Reduced.{tally-left}
+use Rattle.landmark.specs.Marks.{marks, Masks}
 use Rattle.elimination.specs.declared.single.Elimination.{Elimination}
 use Rattle.elimination.specs.declared.single.Elimination.the-variants.{Plain, Greedy}
-use Rattle.elimination.specs.Eliminations.{elimination-of, greedy-elimination-of, left-by}
+use Rattle.elimination.specs.Eliminations.{Rule-leaves, Eliminates}
 use Rattle.cheaper.specs.Cheaper.{Reduces-both, cheaper-part}
 use Rattle.minimal.specs.declared.within.Shortened.{Shortened}
-use Rattle.minimal.specs.Minimised.{most-unmarked, minimal-of, Minimises}
-use Rattle.minimal.specs.Statement.{Is-marked}
+use Rattle.minimal.specs.Minimised.{most-unmarked, Minimises}
+use Rattle.minimal.specs.Statement.{Is-marked, Are-marks}
 use Rattle.claim.specs.declared.answer.Licensed.{Licensed}
-use Rattle.claim.specs.Licensed.{licensed-of, Licenses}
+use Rattle.claim.specs.Licensed.{Licenses}
 
 -- a mask tells the reduction m
 pub record Mask-truly (m : Reduction) (refusal : Option Told) (mask : List ℕ) : Type 0 where
@@ -49,6 +48,10 @@ pub record Mask-truly (m : Reduction) (refusal : Option Told) (mask : List ℕ) 
   pub ones : refusal ≡ none → ones-of mask ≡ count m
   -- 2.7: in a refusal it is zero
   pub zeros : (t : Told) → refusal ≡ some t → mask ≡ replicate mask-length 0
+
+-- a tally is lower than another: lower price, then fewer steps
+abbrev pub Tally-lower : Tally → Tally → Type 0
+Tally-lower t u = (t .cost < u .cost) ⊎ ((t .cost ≡ u .cost) × (t .steps < u .steps))
 
 -- of the list l of the sheet w
 module _ (w l : List ℕ) where
@@ -97,44 +100,25 @@ module _ (w l : List ℕ) where
     -- 2.7: in a refusal it is zero
     pub zeros : (t : Told) → refusal ≡ some t → mask ≡ replicate mask-length 0
 
-  -- so many steps are marked (2.6): there is a flag for each step, up exactly where it is marked, and so many are up
-  pub record Marked-number (n : ℕ) : Type 0 where
-    pub flags : Reduction
-    pub each-step : length flags ≡ length l
-    pub marked : (i : ℕ) → keeps flags i ↔ Is-marked w l i
-    pub number : n ≡ count flags
-
   -- what is told of the list that is shortened to the reduction m (2.6): its tally and its mask, the tally of the
   -- lodged list and how many of its steps are marked; in a refusal none
   pub record Shortened-truly (m : Reduction) (r : Shortened) : Type 0 where
     pub tally : Tally-truly m (told-answer (r .answer)) (told-tally (r .answer))
     pub mask : Mask-truly m (told-answer (r .answer)) (r .mask .words)
     pub lodged : Tally-truly (whole l) (told-answer (r .answer)) (r .lodged)
-    pub marks : told-answer (r .answer) ≡ none → Marked-number (r .marked)
+    pub flagged : Are-marks w l (marks w l)
+    pub marked : told-answer (r .answer) ≡ none → r .marked ≡ count (marks w l)
     pub no-marks : (t : Told) → told-answer (r .answer) ≡ some t → r .marked ≡ 0
 
-  -- an elimination leaves the reduction m by its written rule (2.5), trial by trial or round by round
-  abbrev pub Left-by-rule : Elimination → Reduction → Type 0
-  Left-by-rule Plain m = Elimination-leaves (initial w) (goal w) (steps w l) 0 (whole (steps w l)) m
-  Left-by-rule Greedy m = Greedy-leaves (initial w) (goal w) (steps w l) (whole (steps w l)) m
-
-  -- the written rule leaves m, and nothing else
-  abbrev pub Rule-leaves : Elimination → Reduction → Type 0
-  Rule-leaves by m = (n : Reduction) → n ≡ m ↔ Left-by-rule by n
-
-  -- of two reductions the first leaves the cheaper list: lower price, then fewer steps
+  -- of two reductions the first leaves the cheaper list
   abbrev pub Cheaper : Reduction → Reduction → Type 0
-  Cheaper m n =
-      (cost (kept m (steps w l)) < cost (kept n (steps w l)))
-      ⊎ ((cost (kept m (steps w l)) ≡ cost (kept n (steps w l))) × (count m < count n))
+  Cheaper m n = Tally-lower (tally-left w l m) (tally-left w l n)
 
-  -- the part shown of what both eliminations leave (2.5): the list of the cheaper, elimination's where greedy
-  -- elimination's is not cheaper; nothing after a refusal
-  pub record Shown-truly (refusal : Option Told) (part : List ℕ) : Type 0 where
-    pub of-greedy : refusal ≡ none → Cheaper (greedy-elimination-of w l) (elimination-of w l)
-        → part ≡ kept (greedy-elimination-of w l) l
-    pub of-elimination : refusal ≡ none → (Cheaper (greedy-elimination-of w l) (elimination-of w l) → ⊥)
-        → part ≡ kept (elimination-of w l) l
+  -- the part shown of two reductions (2.5), elimination's and greedy elimination's: the list of the cheaper,
+  -- elimination's where greedy elimination's is not cheaper; nothing after a refusal
+  pub record Shown-truly (first second : Reduction) (refusal : Option Told) (part : List ℕ) : Type 0 where
+    pub of-greedy : refusal ≡ none → Cheaper second first → part ≡ kept second l
+    pub of-elimination : refusal ≡ none → (Cheaper second first → ⊥) → part ≡ kept first l
     pub of-neither : (t : Told) → refusal ≡ some t → part ≡ []
 
 -- one step more on a tally (2.6). Document 01: "It comes back unchanged when it already has 255 steps or more or its
@@ -144,10 +128,6 @@ pub record Added-truly (t : Tally) (price : ℕ) (r : Tally) : Type 0 where
       → r ≡ record { cost = t .cost + price; steps = t .steps + 1 }
   pub full : bounds .steps ≤ t .steps → r ≡ t
   pub dear : bounds .cost < t .cost + price → r ≡ t
-
--- a tally is lower than another: lower price, then fewer steps
-abbrev pub Tally-lower : Tally → Tally → Type 0
-Tally-lower t u = (t .cost < u .cost) ⊎ ((t .cost ≡ u .cost) × (t .steps < u .steps))
 
 -- two tallies compared (2.6)
 pub record Compared-truly (t u : Tally) (r : Order) : Type 0 where
@@ -167,27 +147,28 @@ pub record Demand-two : Type 0 where
       → Marks-truly w l (told verdict) mask
   -- 2.5 and 2.6: elimination, or greedy elimination
   pub elimination : (by : Elimination) (w l before : List ℕ) (given : Answer) (mask after : List ℕ)
-      → Reduces w l (left-by by w l) before given mask after
-      → (told-answer given ≡ none → Rule-leaves w l by (left-by by w l))
-      × Tally-truly w l (left-by by w l) (told-answer given) (told-tally given)
-      × Mask-truly (left-by by w l) (told-answer given) mask
+      (eliminates : Eliminates by w l before given mask after)
+      → (told-answer given ≡ none → Rule-leaves by w l (eliminates .left))
+      × Tally-truly w l (eliminates .left) (told-answer given) (told-tally given)
+      × Mask-truly (eliminates .left) (told-answer given) mask
   -- 2.5 and 2.6: both eliminations
   pub both-eliminations : (w l before before′ : List ℕ) (verdict : Verdict) (first second : Tally)
-      (after after′ : List ℕ) → Reduces-both w l before before′ verdict first second after after′
-      → (told verdict ≡ none → Rule-leaves w l Plain (elimination-of w l))
-      × (told verdict ≡ none → Rule-leaves w l Greedy (greedy-elimination-of w l))
-      × Tally-truly w l (elimination-of w l) (told verdict) first
-      × Tally-truly w l (greedy-elimination-of w l) (told verdict) second
+      (after after′ : List ℕ) (both : Reduces-both w l before before′ verdict first second after after′)
+      → (told verdict ≡ none → Rule-leaves Plain w l (both .elimination .left))
+      × (told verdict ≡ none → Rule-leaves Greedy w l (both .greedy .left))
+      × Tally-truly w l (both .elimination .left) (told verdict) first
+      × Tally-truly w l (both .greedy .left) (told verdict) second
   -- 2.5: the cheaper of what both leave
   pub cheaper-shown : (w l before before′ : List ℕ) (verdict : Verdict) (first second : Tally)
-      (after after′ part : List ℕ) → Reduces-both w l before before′ verdict first second after after′
-      → part ≡ cheaper-part after after′ first second → Shown-truly w l (told verdict) part
+      (after after′ part : List ℕ) (both : Reduces-both w l before before′ verdict first second after after′)
+      → part ≡ cheaper-part after after′ first second
+      → Shown-truly w l (both .elimination .left) (both .greedy .left) (told verdict) part
   -- 2.6: the exact reduction, of which demand 3 says what it leaves
   pub exact-reduction : (w l before : List ℕ) (r : Shortened) (after : List ℕ)
-      → Minimises most-unmarked w l before r after → Shortened-truly w l (minimal-of w l) r
+      (minimises : Minimises most-unmarked w l before r after) → Shortened-truly w l (minimises .answers .left) r
   -- 2.6: the licence, of which `May-be-lodged` says what it leaves
-  pub licence : (w l before : List ℕ) (r : Licensed) (after : List ℕ) → Licenses w l before r after
-      → Shortened-truly w l (licensed-of w l) (r .told)
+  pub licence : (w l before : List ℕ) (r : Licensed) (after : List ℕ) (licenses : Licenses w l before r after)
+      → Shortened-truly w l (licenses .answers .left) (r .told)
   -- 2.6: a tally with one step more, and which of two tallies is the lower
   pub tally-add : (t : Tally) (price : ℕ) (r : Tally) → r ≡ one-more t price → Added-truly t price r
   pub tally-compare : (t u : Tally) (r : Order) → r ≡ comparison t u → Compared-truly t u r

@@ -1,4 +1,5 @@
--- What an elimination leaves of a valid list that can be read, as flags: a reduction of the list, and its tally. Assumes nothing.
+-- What an elimination leaves of a valid list: what its written rule leaves, and nothing else; and as flags of a list that can be read, a reduction of the list,
+-- and its tally. Assumes nothing.
 use Prim.Native.Nat.{ℕ}
 use mathlib.Core.Path.{_≡_, refl, _∙_}
 use mathlib.Core.Bool.{true}
@@ -8,17 +9,30 @@ use Rattle.tally.specs.declared.Tally.{Tally}
 use Rattle.sheet.specs.Decode.{initial, goal, action}
 use Rattle.plan.specs.Valid.{steps}
 use Rattle.plan.specs.Readable.{Readable}
+use Rattle.plan.specs.declared.check.Answer.{Answer}
 use Rattle.reduction.specs.Reduction.{Reduction, valid, Valid-reduction}
 use Rattle.reduction.proofs.ReductionLaws.{kept-length}
-use Rattle.reduction.proofs.trials.EliminationTheorem.{eliminate-shortens, greedy-shortens}
-use Rattle.reduced.specs.Reduced.{tally-left}
+use Rattle.reduction.proofs.trials.EliminationTheorem.{eliminate-shortens, greedy-shortens, elimination-in-words, greedy-in-words}
+use Rattle.reduced.specs.Reduced.{tally-left, Reduces}
 use Rattle.reduced.specs.between.Held.{mask, flags-of, Leaves}
 use Rattle.reduced.specs.between.Tallied.{tallied}
 use Rattle.reduced.proofs.HeldLaws.{leaves}
+use Rattle.reduced.proofs.LodgedLaws.{lodged-valid}
 use Rattle.reduced.proofs.TalliedLaws.{plainly}
 use Rattle.elimination.specs.declared.single.Elimination.{Elimination}
 use Rattle.elimination.specs.declared.single.Elimination.the-variants.{Plain, Greedy}
-use Rattle.elimination.specs.Eliminations.{left-by}
+use Rattle.elimination.specs.Eliminations.{Rule-leaves, Eliminates}
+use Rattle.elimination.specs.between.Left.{left-by}
+
+pub rule-leaves : (w l : List ℕ) → valid (initial w) (goal w) (steps w l) ≡ true → (by : Elimination) → Rule-leaves by w l (left-by by w l)
+rule-leaves w l valid-list Plain = elimination-in-words (initial w) (goal w) (steps w l) valid-list
+rule-leaves w l valid-list Greedy = greedy-in-words (initial w) (goal w) (steps w l) valid-list
+
+-- what is computed is what the service may answer
+pub eliminates-so : (by : Elimination) (w l before : List ℕ) (given : Answer) (words after : List ℕ) → Reduces w l (left-by by w l) before given words after
+    → Eliminates by w l before given words after
+eliminates-so by w l before given words after reduces =
+    record { left = left-by by w l; is-left = λ passed. rule-leaves w l (lodged-valid _ w l passed) by (left-by by w l) .0 refl; told = reduces }
 
 module _ (w l : List ℕ) (readable : Readable w l) (valid-list : valid (initial w) (goal w) (steps w l) ≡ true) where
   pub left-valid : (by : Elimination) → Valid-reduction (initial w) (goal w) (steps w l) (left-by by w l)

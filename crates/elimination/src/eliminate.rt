@@ -11,7 +11,7 @@ ghost use Rattle.sheet.specs.Decode.{goal, initial as initial-of};
 ghost use Rattle.plan.specs.Valid.{steps};
 ghost use Rattle.plan.specs.Readable.{Readable};
 ghost use Rattle.reduced.specs.between.Held.{flags-of};
-ghost use Rattle.elimination.specs.Eliminations.{elimination-of};
+ghost use Rattle.elimination.specs.between.Left.{elimination-of};
 
 // The flags that elimination leaves of a valid plan: on success all strikes of a trial stand, otherwise its step is
 // done.

@@ -14,7 +14,7 @@ ghost use Rattle.reduction.specs.Reduction.{valid};
 ghost use Rattle.sheet.specs.Decode.{goal, initial as initial-of};
 ghost use Rattle.plan.specs.Valid.{steps};
 ghost use Rattle.reduced.specs.between.Held.{mask, flags-of};
-ghost use Rattle.elimination.specs.Eliminations.{greedy-elimination-of};
+ghost use Rattle.elimination.specs.between.Left.{greedy-elimination-of};
 ghost use Rattle.trial.specs.between.Current.{Current};
 ghost use Rattle.elimination.specs.between.Round.{Picks, better-of};
 ghost use Rattle.plan.specs.Readable.{Readable};

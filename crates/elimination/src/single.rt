@@ -14,8 +14,8 @@ ghost use Rattle.sheet.specs.Decode.{goal, initial};
 ghost use Rattle.plan.specs.Valid.{steps};
 ghost use Rattle.plan.specs.Readable.{Readable};
 ghost use Rattle.reduced.specs.between.Held.{flags-of};
-ghost use Rattle.reduced.specs.Reduced.{Reduces};
-ghost use Rattle.elimination.specs.Eliminations.{left-by};
+ghost use Rattle.elimination.specs.Eliminations.{Eliminates};
+ghost use Rattle.elimination.specs.between.Left.{left-by};
 
 // Which of document 01's two eliminations.
 pub enum Elimination {
@@ -37,8 +37,7 @@ pub fn flags_left(words: &[u32], plan: &[u32], by: Elimination) -> [bool; Plan::
 
 // An elimination of a plan of a task: writes what it leaves to the front of `out`.
 pub fn eliminate_plan(words: &[u32], plan: &[u32], out: &mut [u32], by: Elimination) -> Reduced
-    ensures { λ r. ⌜ Reduces (now (words .entry)) (now (plan .entry))
-        (left-by by (now (words .entry)) (now (plan .entry)))
+    ensures { λ r. ⌜ Eliminates by (now (words .entry)) (now (plan .entry))
         (now (out .entry)) (r .answer) (r .mask .words) (now (out .exit)) ⌝ }
 {
     let checked = check_lodged(words, plan, Plan::STEPS, check_room(plan.len(), out.len()));

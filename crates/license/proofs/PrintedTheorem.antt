@@ -6,7 +6,7 @@ use mathlib.Core.List.{List}
 use lib.ListN.{take}
 use Rattle.plan.specs.Limits.{most-steps}
 use Rattle.minimal.proofs.DemandThree.{checks-pass}
-use Rattle.claim.specs.Licensed.{claim-of, licensed-of}
+use Rattle.claim.specs.between.Computed.{claim-of, licensed-of}
 use Rattle.claim.proofs.LicenceTheorem.{licence-of}
 use Rattle.records.specs.Bytes.{input-of}
 use Rattle.program.specs.Printed.{refusal-line, Has-read, Read-from}
@@ -20,13 +20,13 @@ use Rattle.license.specs.Statement.{May-be-lodged-printed}
 
 pub may-be-lodged-printed : (w l : List ℕ) → May-be-lodged-printed w l
 unfolding reply-further licensed
-may-be-lodged-printed w l sized sized-list readable plan =
-    let for-list : printed (input-of w l) ≡ licensed w l = rw (record-opened w l sized sized-list readable, reply-further) in
+may-be-lodged-printed w l readable plan =
+    let for-list : printed (input-of w l) ≡ licensed w l = rw (record-opened w l readable, reply-further) in
     record {
       claim = claim-of w l;
       left = licensed-of w l;
       licence = licence-of w l readable plan;
-      lines = for-list ∙ rw (licensed, checks-pass w l readable plan most-steps (readable .few));
+      told = for-list ∙ rw (licensed, checks-pass w l readable plan most-steps (readable .few));
     }
 
 -- and what is printed for the bytes read is what is printed for the whole input

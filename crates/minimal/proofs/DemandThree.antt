@@ -2,38 +2,35 @@
 -- output with room for it, so that only the number of unmarked steps decides; the theorems of `reduction` do the rest. Nothing here is about the
 -- code: its contract cites the same definitions. Assumes nothing.
 use Prim.Native.Nat.{ℕ, _≤_, _<_}
-use native.Mathlib.Omega.{arith}
-use mathlib.Core.Path.{_≡_, refl, sym, _∙_}
+use mathlib.Core.Path.{_≡_, refl, sym, _∙_, subst}
 use mathlib.Core.Bool.{Bool, true, false}
-use mathlib.Core.Option.{none, some, Option·some-ne-none}
+use mathlib.Core.Option.{Option, none, some, Option·some-ne-none}
 use mathlib.Core.List.{List, []}
-use lib.ListN.{length, length-map}
+use lib.ListN.{length}
 use lib.Dec.{ltb}
 use borrow.Author.Tests.{lt-ltb, le-ltb, ltb-true, ltb-false}
 use Rattle.refusal.specs.Refusal.{Told}
 use Rattle.refusal.specs.Check.{answer}
 use Rattle.refusal.proofs.CheckLaws.{answer-fires, answer-passes, answer-nothing, answer-second}
 use Rattle.sas.specs.Plan.{Plan}
-use Rattle.reduction.specs.Reduction.{meets, kept, count, valid}
+use Rattle.reduction.specs.Reduction.{Reduction, meets, kept, valid}
 use Rattle.reduction.proofs.ValidLaws.{plan-valid}
-use Rattle.reduction.proofs.ReductionLaws.{kept-length, left-length, reduced-plan}
+use Rattle.reduction.proofs.ReductionLaws.{reduced-plan}
 use Rattle.reduction.proofs.marks.LandmarksKept.{landmark-kept}
 use Rattle.reduction.specs.Minimal.{Minimal-reduction}
 use Rattle.reduction.proofs.minimal.MinimalTheorem.{minimal-found}
-use Rattle.mask.specs.Mask.{mask-bits}
-use Rattle.mask.proofs.MaskTheorem.{front-and-rest}
-use Rattle.sheet.specs.Decode.{goal, initial, action, task}
-use Rattle.plan.specs.declared.check.Answer.{Answer}
+use Rattle.sheet.specs.Decode.{goal, initial, task}
 use Rattle.plan.specs.Valid.{steps}
-use Rattle.plan.specs.Checked.{plan-checks, told-answer}
+use Rattle.plan.specs.Checked.{plan-checks}
 use Rattle.plan.proofs.PlanTheorem.{plan-theorem}
 use Rattle.reduced.specs.Reduced.{room-checks, reduction-checks, Answers}
 use Rattle.minimal.specs.declared.within.Shortened.{Shortened}
-use Rattle.minimal.specs.Minimised.{unmarked-checks, minimal-checks, minimal-of, Minimises}
-use Rattle.minimal.specs.Statement.{Answered, Refused-unmarked, Demand-three}
+use Rattle.minimal.specs.Minimised.{unmarked-checks, minimal-checks}
+use Rattle.minimal.specs.between.Computed.{Minimises-of, minimal-of}
+use Rattle.minimal.specs.Statement.{Are-marks, Demand-three-of, Demand-three}
 use Rattle.plan.specs.Readable.{Readable}
 use Rattle.plan.proofs.PlanLaws.{steps-formed, faultless-passes, passes-faultless}
-use Rattle.landmark.specs.Marks.{unmarked}
+use Rattle.landmark.specs.Marks.{marks, unmarked}
 use Rattle.landmark.proofs.MarkTheorem.{marks-theorem, marks-length}
 
 module _ (w l : List ℕ) (readable : Readable w l) (plan : Plan (task w) (steps w l)) where
@@ -43,9 +40,6 @@ module _ (w l : List ℕ) (readable : Readable w l) (plan : Plan (task w) (steps
 
   pub is-minimal : Minimal-reduction (initial w) (goal w) (steps w l) (minimal-of w l)
   is-minimal = minimal-found (meets (goal w)) (initial w) (steps w l) valid-list
-
-  fits : length (minimal-of w l) ≡ length l
-  fits = is-minimal .valid .fits ∙ length-map l (action w)
 
   pub plan-left : Plan (task w) (kept (minimal-of w l) (steps w l))
   unfolding task
@@ -88,44 +82,24 @@ module _ (w l : List ℕ) (readable : Readable w l) (plan : Plan (task w) (steps
         by-case true e = absurd (Option·some-ne-none _ (sym (many-refused (ltb-true limit (unmarked w l) e)) ∙ h))
         by-case false e = ltb-false limit (unmarked w l) e
 
-  module _ (limit : ℕ) (before : List ℕ) (roomy : length l ≤ length before) (given : Answer) (mask after : List ℕ)
-      (answers : Answers (minimal-checks limit w l (length before)) w l (minimal-of w l) before given mask after) where
-    answered : unmarked w l ≤ limit → Answered w l before given mask after
-    answered h =
-        let passes : answer (minimal-checks limit w l (length before)) ≡ none = few-pass limit (length before) roomy h in
-        let long : length (minimal-of w l) ≤ mask-bits = omega (arith, fits, readable .few) in
-        let room : count (minimal-of w l) ≤ length before = omega (arith, kept-length (minimal-of w l) l fits, left-length (minimal-of w l) l fits) in
-        record {
-          left = minimal-of w l;
-          answers = answers .refusal ∙ passes;
-          minimal = is-minimal;
-          plan-left = plan-left;
-          tally = rw passes at (answers .tally);
-          told-by = rw passes at (answers .told-by);
-          output = rw passes at (answers .output) ∙ front-and-rest (minimal-of w l) l long fits before room;
-        }
+pub are-marks : (w l : List ℕ) → Are-marks w l (marks w l)
+are-marks w l = record { each-step = marks-length w l; marked = marks-theorem w l }
 
-    refused : limit < unmarked w l → Refused-unmarked w l before given mask after
-    refused h =
-        let refuses : answer (minimal-checks limit w l (length before)) ≡ some (record { number = 12; place = unmarked w l }) = many-refused limit (length before) roomy h in
-        record {
-          refuses = answers .refusal ∙ refuses;
-          tally = rw refuses at (answers .tally);
-          told-by = rw refuses at (answers .told-by);
-          output = rw refuses at (answers .output);
-        }
-
-    only-then : (t : Told) → told-answer given ≡ some t → limit < unmarked w l
-    only-then t h = refused-many limit (length before) roomy t (sym (answers .refusal) ∙ h)
-
-pub demand-three : (limit : ℕ) (w l before : List ℕ) (r : Shortened) (after : List ℕ) → Minimises limit w l before r after
-    → Demand-three limit w l before (r .answer) (r .mask .words) after
-demand-three limit w l before r after minimises readable plan roomy =
+-- demand 3 of whoever tells what the checks answer, and the minimal reduction
+pub demand-three-of : (limit : ℕ) (w l : List ℕ) (room : ℕ) (Tells : Option Told → Reduction → Type 0) → Readable w l → Plan (task w) (steps w l) → length l ≤ room
+    → Tells (answer (minimal-checks limit w l room)) (minimal-of w l) → Demand-three-of w l limit Tells
+demand-three-of limit w l room Tells readable plan roomy told =
     record {
       marked-kept = λ m v i marked. landmark-kept (steps-formed w l (readable .accepted) (readable .known)) v marked;
-      flagged = marks-theorem w l;
-      each-flagged = marks-length w l;
-      answered = answered w l readable plan limit before roomy _ _ after (minimises .answers);
-      refused = refused w l readable plan limit before roomy _ _ after (minimises .answers);
-      only-then = only-then w l readable plan limit before roomy _ _ after (minimises .answers);
+      flagged = are-marks w l;
+      left = minimal-of w l;
+      minimal = is-minimal w l readable plan;
+      plan-left = plan-left w l readable plan;
+      answered = λ few. subst (λ t. Tells t (minimal-of w l)) (few-pass w l readable plan limit room roomy few) told;
+      refused = λ many. subst (λ t. Tells t (minimal-of w l)) (many-refused w l readable plan limit room roomy many) told;
     }
+
+pub demand-three : (limit : ℕ) (w l before : List ℕ) (r : Shortened) (after : List ℕ) → Minimises-of limit w l before r after
+    → Demand-three limit w l before (r .answer) (r .mask .words) after
+demand-three limit w l before r after minimises readable plan roomy =
+    demand-three-of limit w l (length before) (λ t m. Answers t w l m before (r .answer) (r .mask .words) after) readable plan roomy (minimises .answers)

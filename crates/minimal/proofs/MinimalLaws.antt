@@ -45,7 +45,8 @@ use Rattle.packed_state.specs.between.Chosen.{most-choices, open-before}
 use Rattle.packed_state.proofs.ChosenLaws.{open-counted}
 use Rattle.turns.specs.between.Told.{Finds}
 use Rattle.minimal.specs.declared.within.Shortened.{Shortened}
-use Rattle.minimal.specs.Minimised.{unmarked-checks, minimal-checks, minimal-of, Minimises}
+use Rattle.minimal.specs.Minimised.{unmarked-checks, minimal-checks}
+use Rattle.minimal.specs.between.Computed.{Minimises-of, minimal-of}
 use Rattle.minimal.specs.between.Refused.{Refuses}
 
 marks-kept : (w l : List ℕ) → Readable w l → Flags-kept (meets (goal w)) (initial w) (steps w l) (marks w l)
@@ -54,7 +55,7 @@ marks-kept w l readable = landmarks-kept (initial w) (goal w) (steps w l) (steps
 
 -- a refusal, by the check that fires
 refuses-all : (limit : ℕ) (w l before : List ℕ) (refusal : Refusal) (r : Shortened) → answer (minimal-checks limit w l (length before)) ≡ some (told-refusal refusal)
-    → Refuses refusal r → Minimises limit w l before r before
+    → Refuses refusal r → Minimises-of limit w l before r before
 refuses-all limit w l before refusal r fires refuses =
     record {
       answers = rw (refuses .answer, refuses .mask) (answers-refused _ w l (minimal-of w l) before (Refused refusal) (sym fires) refusal refl);
@@ -68,7 +69,7 @@ module _ (limit : ℕ) (w l before : List ℕ) (v : Verdict) (given : Answer) (f
   checked = lodges .checked (room-checks (length l) (length before)) asked
 
   -- one of the checks 1 to 11 refuses
-  pub first-refuses : (refusal : Refusal) (r : Shortened) → given ≡ Refused refusal → Refuses refusal r → Minimises limit w l before r before
+  pub first-refuses : (refusal : Refusal) (r : Shortened) → given ≡ Refused refusal → Refuses refusal r → Minimises-of limit w l before r before
   unfolding minimal-checks
   first-refuses refusal r is refuses =
       refuses-all limit w l before refusal r (answer-first (reduction-checks w l (length before)) _ (sym (checked .refusal) ∙ ap told-answer is)) refuses
@@ -117,7 +118,7 @@ module _ (limit : ℕ) (w l before : List ℕ) (v : Verdict) (given : Answer) (f
       others = rw ones-marked
 
       -- too many steps are unmarked
-      pub last-refuses : (r : Shortened) → limit < length l - ones → Refuses (Unmarked (length l - ones)) r → Minimises limit w l before r before
+      pub last-refuses : (r : Shortened) → limit < length l - ones → Refuses (Unmarked (length l - ones)) r → Minimises-of limit w l before r before
       unfolding unmarked-checks
       last-refuses r h refuses =
           let fires : answer (unmarked-checks limit w l) ≡ some (told-refusal (Unmarked (length l - ones))) =
@@ -141,7 +142,7 @@ module _ (limit : ℕ) (w l before : List ℕ) (v : Verdict) (given : Answer) (f
             (lodged-is ∙ whole-tally)
 
         pub minimises : (left : Kept) (after : List ℕ) → Finishes w l (mask l kept) before (left .tally) (left .mask .words) after
-            → Minimises limit w l before (record { answer = Valid (left .tally); mask = left .mask; lodged = lodged; marked = ones }) after
+            → Minimises-of limit w l before (record { answer = Valid (left .tally); mask = left .mask; lodged = lodged; marked = ones }) after
         unfolding unmarked-checks
         minimises left after finishes =
             let passes : answer (minimal-checks limit w l (length before)) ≡ none =

@@ -10,7 +10,7 @@ use search::best::minimal;
 use tally::Tally;
 ghost use Prim.Native.Nat.{_≤_};
 ghost use Rattle.packed_state.specs.between.Chosen.{most-choices};
-ghost use Rattle.minimal.specs.Minimised.{Minimises};
+ghost use Rattle.minimal.specs.between.Computed.{Minimises-of};
 ghost use Rattle.minimal.specs.between.Refused.{Refuses};
 
 // The tally of the list left or a refusal, the mask of the steps kept, and of the lodged list its tally and the number
@@ -42,7 +42,7 @@ impl Shortened {
 // unmarked. The search has room for so many.
 pub(crate) fn reduce_within(words: &[u32], plan: &[u32], out: &mut [u32], limit: usize) -> Shortened
     requires { ⌜ limit ≤ most-choices ⌝ }
-    ensures { λ r. ⌜ Minimises limit (now (words .entry)) (now (plan .entry)) (now (out .entry)) r (now (out .exit)) ⌝ }
+    ensures { λ r. ⌜ Minimises-of limit (now (words .entry)) (now (plan .entry)) (now (out .entry)) r (now (out .exit)) ⌝ }
 {
     let checked = mark_lodged(words, plan, check_room(plan.len(), out.len()));
     let answer = checked.answer;

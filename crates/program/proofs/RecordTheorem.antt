@@ -14,13 +14,14 @@ use Rattle.sheet.proofs.Parts.{Measured, accepted-measured}
 use Rattle.plan.specs.Readable.{Readable}
 use Rattle.records.specs.declared.frame.Frame.the-variants.{Whole}
 use Rattle.records.specs.RecordForm.{word-bytes, word-at, length-at, task-length, outside, input-form, unpacked, plan-words}
-use Rattle.records.specs.Bytes.{input-of, Word-sized, word}
+use Rattle.records.specs.Bytes.{input-of, word}
 use Rattle.program.specs.Opening.{Lodged, opening}
 use Rattle.records.proofs.BytesTheorem.{bytes-read-back, all-bytes-length, sized-append}
+use Rattle.records.proofs.SizedTheorem.{readable-sized}
 use Rattle.records.proofs.FormLaws.{form-whole, input-ends}
 use Rattle.program.proofs.OpeningLaws.{opening-whole}
 
-module _ (w l : List ℕ) (sized : Word-sized w) (sized-list : Word-sized l) (readable : Readable w l) where
+module _ (w l : List ℕ) (readable : Readable w l) where
   abbrev words : List ℕ
   words = w ++ (length l ∷ l)
 
@@ -31,7 +32,9 @@ module _ (w l : List ℕ) (sized : Word-sized w) (sized-list : Word-sized l) (re
   bytes-count = all-bytes-length words ∙ ap (λ n. word-bytes * n) count-words
 
   read-back : table (word-at (input-of w l)) 0 (length words) ≡ words
-  read-back = bytes-read-back words (sized-append sized (word (omega (arith, readable .few)) sized-list))
+  read-back =
+      let (sized, sized-list) = readable-sized w l readable in
+      bytes-read-back words (sized-append sized (word (omega (arith, readable .few)) sized-list))
 
   measured : Measured w
   measured = accepted-measured w (readable .accepted)

@@ -6,3 +6,5 @@ pub mod FormLaws
 pub mod FormTheorem
 -- BytesTheorem: reading the bytes of words gives the words back.
 pub mod BytesTheorem
+-- SizedTheorem: the words of an accepted sheet and of a list that can be read fit four bytes.
+pub mod SizedTheorem

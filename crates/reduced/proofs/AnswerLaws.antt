@@ -2,12 +2,12 @@
 -- the tally is plain by those of tallies. Assumes nothing.
 use Prim.Native.Nat.{ℕ, _≤_}
 use native.Mathlib.Omega.{arith}
-use mathlib.Core.Path.{_≡_, sym, _∙_, ap}
-use mathlib.Core.Option.{none}
+use mathlib.Core.Path.{_≡_, refl, sym, _∙_, ap, subst}
+use mathlib.Core.Option.{Option, none, some}
 use mathlib.Core.List.{List}
 use lib.ListN.{length, replicate}
 use Rattle.refusal.specs.declared.Refusal.{Refusal}
-use Rattle.refusal.specs.Check.{Check, answer}
+use Rattle.refusal.specs.Refusal.{Told}
 use Rattle.tally.specs.declared.Tally.{Tally}
 use Rattle.tally.proofs.TallyLaws.{same-tally}
 use Rattle.plan.specs.declared.check.Answer.{Answer}
@@ -32,18 +32,25 @@ keeps w l m before after words tally readable fits x =
       written = x .written ∙ rw (x .told-by, mask-keeps m l few fits);
     }
 
-module _ (checks : List Check) (w l : List ℕ) (m : Reduction) (before : List ℕ) (given : Answer) (checked : told-answer given ≡ answer checks) where
+-- of a refusal the reduction does not matter
+pub answers-same : (t : Option Told) (w l : List ℕ) (m n : Reduction) (before : List ℕ) (given : Answer) (mask after : List ℕ) → (t ≡ none → m ≡ n)
+    → Answers t w l m before given mask after → Answers t w l n before given mask after
+answers-same none w l m n before given mask after same answers = subst (λ k. Answers none w l k before given mask after) (same refl) answers
+answers-same (some r) w l m n before given mask after same answers =
+    record { refusal = answers .refusal; tally = answers .tally; told-by = answers .told-by; output = answers .output }
+
+module _ (t : Option Told) (w l : List ℕ) (m : Reduction) (before : List ℕ) (given : Answer) (checked : told-answer given ≡ t) where
   -- a service refuses, with zeros, and touches nothing
-  pub answers-refused : (r : Refusal) → given ≡ Refused r → Answers checks w l m before (Refused r) (replicate mask-length 0) before
+  pub answers-refused : (r : Refusal) → given ≡ Refused r → Answers t w l m before (Refused r) (replicate mask-length 0) before
   answers-refused r refuses =
-      let refused : told-answer (Refused r) ≡ answer checks = sym (ap told-answer refuses) ∙ checked in
+      let refused : told-answer (Refused r) ≡ t = sym (ap told-answer refuses) ∙ checked in
       record { refusal = refused; tally = rw (← refused); told-by = rw (← refused); output = rw (← refused) }
 
   -- or hands on what is told and written of its reduction
   pub answers-kept : (lodged : Tally) (left : Reduction) (after words : List ℕ) (tally : Tally) → given ≡ Valid lodged → left ≡ m → Keeps w l left before tally words after
-      → Answers checks w l m before (Valid tally) words after
+      → Answers t w l m before (Valid tally) words after
   answers-kept lodged left after words tally passes same keeps =
-      let passed : none ≡ answer checks = sym (ap told-answer passes) ∙ checked in
+      let passed : none ≡ t = sym (ap told-answer passes) ∙ checked in
       record {
         refusal = passed;
         tally = rw (← passed, ← same) (keeps .counted);

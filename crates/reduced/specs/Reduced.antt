@@ -1,11 +1,13 @@
 -- What a service that answers with a reduction of a list answers. Assumes nothing.
 use Prim.Native.Nat.{ℕ}
 use mathlib.Core.Path.{_≡_}
+use mathlib.Core.Option.{Option, none}
 use mathlib.Core.List.{List, [], _∷_}
 use lib.ListN.{length, replicate}
 use lib.Seq.{sets}
 use lib.Dec.{ltb}
 use Rattle.refusal.specs.Place.{when}
+use Rattle.refusal.specs.Refusal.{Told}
 use Rattle.refusal.specs.Check.{Check, answer, unless-refused}
 use Rattle.sas.specs.Plan.{cost}
 use Rattle.tally.specs.declared.Tally.{Tally}
@@ -33,16 +35,22 @@ tally-left w l m = record { cost = cost (kept m (steps w l)); steps = count m }
 abbrev pub output-left : List ℕ → Reduction → List ℕ → List ℕ
 output-left l m before = sets before 0 (kept m l)
 
--- a service that answers with the reduction m of the list l, told by its tally and its mask, and writes the list left
--- over a lent output; "counts, prices and masks" in a refusal "are zero", and the output is untouched. The first of the
--- checks that fires refuses.
-pub record Answers (checks : List Check) (w l : List ℕ) (m : Reduction) (before : List ℕ)
+-- what a service whose checks answer t tells and writes of the reduction m of the list l: its tally and its mask, and
+-- the list left over a lent output; "counts, prices and masks" in a refusal "are zero", and the output is untouched
+pub record Answers (t : Option Told) (w l : List ℕ) (m : Reduction) (before : List ℕ)
     (given : Answer) (mask after : List ℕ) : Type 0 where
-  pub refusal : told-answer given ≡ answer checks
-  pub tally : told-tally given ≡ unless-refused (answer checks) (tally-left w l m) nothing
-  pub told-by : mask ≡ unless-refused (answer checks) (mask-words m) (replicate mask-length 0)
-  pub output : after ≡ unless-refused (answer checks) (output-left l m before) before
+  pub refusal : told-answer given ≡ t
+  pub tally : told-tally given ≡ unless-refused t (tally-left w l m) nothing
+  pub told-by : mask ≡ unless-refused t (mask-words m) (replicate mask-length 0)
+  pub output : after ≡ unless-refused t (output-left l m before) before
 
--- such a service with refusals 1 to 11
+-- a service whose checks answer t tells, by what `Tells` says, of some reduction, which is as `Left` says where nothing
+-- is refused
+pub record Tells-left (Left Tells : Reduction → Type 0) (t : Option Told) : Type 0 where
+  pub left : Reduction
+  pub is-left : t ≡ none → Left left
+  pub told : Tells left
+
+-- a service with refusals 1 to 11
 abbrev pub Reduces : List ℕ → List ℕ → Reduction → List ℕ → Answer → List ℕ → List ℕ → Type 0
-Reduces w l m before given mask after = Answers (reduction-checks w l (length before)) w l m before given mask after
+Reduces w l m before = Answers (answer (reduction-checks w l (length before))) w l m before

@@ -25,7 +25,9 @@ use Rattle.plan.specs.Checked.{told-answer}
 use Rattle.plan.proofs.PlanLaws.{passed-readable}
 use Rattle.reduced.specs.Reduced.{room-checks, reduction-checks}
 use Rattle.minimal.specs.declared.within.Shortened.{Shortened}
-use Rattle.minimal.specs.Minimised.{most-unmarked, unmarked-checks, minimal-checks, minimal-of, Minimises}
+use Rattle.minimal.specs.Minimised.{most-unmarked, unmarked-checks, minimal-checks, Minimises}
+use Rattle.minimal.specs.between.Computed.{minimal-of, Minimises-of}
+use Rattle.minimal.proofs.ComputedTheorem.{minimises-of}
 use Rattle.program.specs.Printed.{refusal-line}
 use Rattle.program.specs.between.Room.{line-room}
 use Rattle.report.specs.Report.{report}
@@ -42,7 +44,10 @@ minimal-length ends s p = by-case (found ends s p) refl
     by-case none e = rw e (length-replicate (length p) true)
     by-case (some m) e = rw e (found-minimal ends s p e .valid .fits)
 
-module _ (w l before : List ℕ) (r : Shortened) (after : List ℕ) (room : length before ≡ most-steps) (minimises : Minimises most-unmarked w l before r after) where
+module _ (w l before : List ℕ) (r : Shortened) (after : List ℕ) (room : length before ≡ most-steps) (answered : Minimises most-unmarked w l before r after) where
+  minimises : Minimises-of most-unmarked w l before r after
+  minimises = minimises-of most-unmarked w l before r after answered
+
   -- the list is shortened
   module _ (kept : Tally) (is : r .answer ≡ Valid kept) where
     passes : answer (minimal-checks most-unmarked w l (length before)) ≡ none

@@ -2,10 +2,11 @@
 use Prim.Native.Nat.{ℕ, _≤_}
 use native.Mathlib.Omega.{arith}
 use mathlib.Core.Path.{_≡_, sym, _∙_, ap}
-use mathlib.Core.Option.{none}
+use mathlib.Core.Option.{Option, none}
 use mathlib.Core.List.{List}
 use lib.ListN.{length}
-use Rattle.refusal.specs.Check.{Check, answer, unless-refused}
+use Rattle.refusal.specs.Refusal.{Told}
+use Rattle.refusal.specs.Check.{unless-refused}
 use Rattle.tally.specs.declared.Tally.{Tally}
 use Rattle.tally.specs.Tally.{nothing}
 use Rattle.reduction.specs.Reduction.{Reduction}
@@ -17,12 +18,12 @@ use Rattle.reduced.specs.Reduced.{Answers}
 use Rattle.minimal.specs.declared.within.Shortened.{Shortened}
 use Rattle.report.specs.between.Reported.{Reports}
 
-module _ (checks : List Check) (w l : List ℕ) (m : Reduction) (before : List ℕ) (told : Shortened) (after : List ℕ)
-    (answers : Answers checks w l m before (told .answer) (told .mask .words) after) (kept : Tally) (is : told .answer ≡ Valid kept) where
-  pub nothing-fires : answer checks ≡ none
+module _ (t : Option Told) (w l : List ℕ) (m : Reduction) (before : List ℕ) (told : Shortened) (after : List ℕ)
+    (answers : Answers t w l m before (told .answer) (told .mask .words) after) (kept : Tally) (is : told .answer ≡ Valid kept) where
+  pub nothing-fires : t ≡ none
   nothing-fires = sym (answers .refusal) ∙ ap told-answer is
 
-  pub told-reported : told .lodged ≡ unless-refused (answer checks) (lodged-tally w l) nothing → told .marked ≡ unless-refused (answer checks) (marked w l) 0
+  pub told-reported : told .lodged ≡ unless-refused t (lodged-tally w l) nothing → told .marked ≡ unless-refused t (marked w l) 0
       → length m ≡ length l → length l ≤ most-steps → Reports w l m told kept
   told-reported lodged marks fits few =
       record {

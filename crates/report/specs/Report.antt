@@ -2,15 +2,17 @@
 -- nothing.
 use Prim.Native.Nat.{ℕ, _+_}
 use mathlib.Core.Bool.{true, false}
+use mathlib.Core.Option.{Option, none, some}
 use mathlib.Core.List.{List, [], _∷_, _++_}
 use Rattle.ascii.specs.Bytes.{ascii}
 use Rattle.lines.specs.Lines.{line, row}
+use Rattle.refusal.specs.Refusal.{Told}
 use Rattle.sheet.specs.Layout.{cost-word}
 use Rattle.plan.specs.Checked.{lodged-tally}
 use Rattle.reduction.specs.Reduction.{Reduction}
 use Rattle.landmark.specs.Marks.{marked}
 use Rattle.reduced.specs.Reduced.{tally-left}
-use Rattle.program.specs.Printed.{tally-line}
+use Rattle.program.specs.Printed.{tally-line, refusal-line}
 
 -- "for each kept step its position, action and price": a line for each, where the first step of the list stands at
 -- position i
@@ -28,3 +30,8 @@ report w l m =
     ++ (line (ascii "marked") (marked w l ∷ [])
     ++ (tally-line (ascii "kept") (tally-left w l m)
     ++ step-lines w 1 l m))
+
+-- what is printed where the checks answer t: the report, or the line of the refusal
+abbrev pub reported : Option Told → List ℕ → List ℕ → Reduction → List ℕ
+reported none w l m = report w l m
+reported (some t) w l m = refusal-line t

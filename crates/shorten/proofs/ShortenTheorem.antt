@@ -1,55 +1,28 @@
 -- Demand 3 of what the program prints: the bytes of a sheet and its list are opened as those, so that what is printed for them is what is printed for the list; and
 -- only the number of unmarked steps decides what that is. Assumes nothing.
-use Prim.Native.Nat.{ℕ, _≤_, _<_}
-use mathlib.Core.Path.{_≡_, _∙_}
+use Prim.Native.Nat.{ℕ}
+use mathlib.Core.Path.{_≡_}
 use mathlib.Core.List.{List}
 use lib.ListN.{take}
-use Rattle.sas.specs.Plan.{Plan}
-use Rattle.sheet.specs.Decode.{task}
 use Rattle.plan.specs.Limits.{most-steps}
-use Rattle.plan.specs.Valid.{steps}
-use Rattle.plan.specs.Readable.{Readable}
-use Rattle.reduction.proofs.marks.LandmarksKept.{landmark-kept}
-use Rattle.plan.proofs.PlanLaws.{steps-formed}
-use Rattle.landmark.specs.Marks.{unmarked}
-use Rattle.minimal.specs.Minimised.{most-unmarked, minimal-of}
-use Rattle.minimal.proofs.DemandThree.{is-minimal, plan-left, few-pass, many-refused}
-use Rattle.records.specs.Bytes.{input-of, Word-sized}
+use Rattle.minimal.specs.Minimised.{most-unmarked}
+use Rattle.minimal.proofs.DemandThree.{demand-three-of}
+use Rattle.records.specs.Bytes.{input-of}
 use Rattle.program.specs.Printed.{refusal-line, Has-read, Read-from}
 use Rattle.program.specs.declared.input.Input.{Input}
 use Rattle.program.specs.Reply.{reply-further}
 use Rattle.program.proofs.RecordTheorem.{record-opened}
 use Rattle.program.proofs.ReplyTheorem.{reply-to-all}
+use Rattle.report.specs.Report.{reported}
 use Rattle.report.specs.Shortened.{shortened}
 use Rattle.shorten.specs.Shorten.{printed}
-use Rattle.shorten.specs.Statement.{Reported, Demand-three-printed}
-
-module _ (w l : List ℕ) (sized : Word-sized w) (sized-list : Word-sized l) (readable : Readable w l) (plan : Plan (task w) (steps w l)) where
-  for-list : printed (input-of w l) ≡ shortened w l
-  unfolding reply-further
-  for-list = rw (record-opened w l sized sized-list readable, reply-further)
-
-  reported : unmarked w l ≤ most-unmarked → Reported w l (printed (input-of w l))
-  unfolding shortened
-  reported few =
-      record {
-        left = minimal-of w l;
-        minimal = is-minimal w l readable plan;
-        plan-left = plan-left w l readable plan;
-        lines = for-list ∙ rw (shortened, few-pass w l readable plan most-unmarked most-steps (readable .few) few);
-      }
-
-  refuses : most-unmarked < unmarked w l → printed (input-of w l) ≡ refusal-line (record { number = 12; place = unmarked w l })
-  unfolding shortened
-  refuses many = for-list ∙ rw (shortened, many-refused w l readable plan most-unmarked most-steps (readable .few) many)
+use Rattle.shorten.specs.Statement.{Demand-three-printed}
 
 pub demand-three-printed : (w l : List ℕ) → Demand-three-printed w l
-demand-three-printed w l sized sized-list readable plan =
-    record {
-      marked-kept = λ m v i marked. landmark-kept (steps-formed w l (readable .accepted) (readable .known)) v marked;
-      answered = reported w l sized sized-list readable plan;
-      refused = refuses w l sized sized-list readable plan;
-    }
+unfolding reply-further shortened
+demand-three-printed w l readable plan =
+    let for-list : printed (input-of w l) ≡ shortened w l = rw (record-opened w l readable, reply-further) in
+    demand-three-of most-unmarked w l most-steps (λ t m. printed (input-of w l) ≡ reported t w l m) readable plan (readable .few) for-list
 
 -- and what is printed for the bytes read is what is printed for the whole input
 pub printed-for-all : (whole bytes : List ℕ) (input : Input) → Has-read 0 1 bytes input → Read-from whole bytes input

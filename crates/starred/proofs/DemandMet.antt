@@ -6,7 +6,8 @@ use native.Mathlib.Omega.{arith}
 use mathlib.Core.Path.{_≡_, _∙_}
 use mathlib.Core.Option.{none}
 use mathlib.Core.List.{List, [], _∷_}
-use lib.ListN.{length, drop}
+use lib.ListN.{length}
+use lib.Seq.{sets}
 use lib.Dec.{lit≤}
 use Rattle.sas.specs.Plan.{holds, first-failing, satisfies, applicable, assign, apply, written, needed, cost, Plan}
 use Rattle.reduction.specs.Reduction.{kept, count}
@@ -25,8 +26,10 @@ use Rattle.plan.specs.Valid.{steps}
 use Rattle.plan.specs.Checked.{told-answer, told-tally}
 use Rattle.plan.proofs.PlanTheorem.{passes-exactly}
 use Rattle.reduction.proofs.minimal.MinimalTheorem.{minimal-once}
-use Rattle.minimal.specs.Minimised.{most-unmarked, minimal-of}
-use Rattle.minimal.specs.Statement.{Answered, Demand-three-of, Demand-three}
+use Rattle.minimal.specs.Minimised.{most-unmarked}
+use Rattle.minimal.specs.between.Computed.{minimal-of}
+use Rattle.minimal.specs.Statement.{Demand-three-of, Demand-three}
+use Rattle.reduced.specs.Reduced.{Answers}
 use Rattle.minimal.proofs.DemandThree.{is-minimal}
 use Rattle.starred.specs.Sheets.{sheet-p}
 use Rattle.starred.specs.Rows.{list-1}
@@ -39,15 +42,15 @@ module _ (before : List ℕ) (six : length before ≡ 6) where
       (readable, plan, omega arith)
 
   module _ (given : Answer) (mask after : List ℕ) (demand : Demand-three most-unmarked sheet-p list-1 before given mask after) where
-    pub demand-three-met : Demand-three-of sheet-p list-1 most-unmarked before given mask after
+    pub demand-three-met : Demand-three-of sheet-p list-1 most-unmarked (λ t m. Answers t sheet-p list-1 m before given mask after)
     demand-three-met = let (readable, plan, roomy) = premises-met in demand readable plan roomy
 
     -- and so the service answers as document 01 says of worked list 2
     pub answer-met : (told-answer given ≡ none) × (told-tally given ≡ record { cost = 12; steps = 3 })
-        × (mask ≡ 56 ∷ 0 ∷ 0 ∷ 0 ∷ []) × (after ≡ 0 ∷ 1 ∷ 2 ∷ drop 3 before)
+        × (mask ≡ 56 ∷ 0 ∷ 0 ∷ 0 ∷ []) × (after ≡ sets before 0 (0 ∷ 1 ∷ 2 ∷ []))
     unfolding table facts initial goal action holds first-failing satisfies applicable assign apply written needed cost kept count lower better found minimal some-fact same-fact has values-from framed sets-other passed trace raised round-to mark-rounds landmarks marks binary words-of mask-words
     answer-met =
         let (readable, plan, roomy) = premises-met in
-        let answered : Answered sheet-p list-1 before given mask after = demand-three-met .answered (lit≤ tt) in
-        let only : answered .left ≡ minimal-of sheet-p list-1 = minimal-once (λ m v. v .fits) (answered .minimal) (is-minimal sheet-p list-1 readable plan) in
-        (answered .answers, answered .tally ∙ rw only, answered .told-by ∙ rw only, answered .output ∙ rw only)
+        let answered : Answers none sheet-p list-1 (demand-three-met .left) before given mask after = demand-three-met .answered (lit≤ tt) in
+        let only : demand-three-met .left ≡ minimal-of sheet-p list-1 = minimal-once (λ m v. v .fits) (demand-three-met .minimal) (is-minimal sheet-p list-1 readable plan) in
+        (answered .refusal, answered .tally ∙ rw only, answered .told-by ∙ rw only, answered .output ∙ rw only)

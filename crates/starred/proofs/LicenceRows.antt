@@ -1,7 +1,7 @@
 -- A list of each claim: what is said of it holds, by computing what the definitions give from the words of its sheet. Assumes nothing.
 use Prim.Native.Nat.{ℕ, zero, suc, _<_}
 use native.Mathlib.Omega.{arith}
-use mathlib.Core.Path.{_≡_, refl, _∙_, ap}
+use mathlib.Core.Path.{_≡_, refl, _∙_, ap, subst}
 use mathlib.Core.Bool.{true, false}
 use mathlib.Core.Option.{none}
 use mathlib.Core.List.{[], _∷_, _++_}
@@ -27,11 +27,11 @@ use Rattle.reduced.specs.Reduced.{tally-left}
 use Rattle.landmark.specs.Marks.{marks, unmarked}
 use Rattle.landmark.proofs.MarkTheorem.{marks-theorem}
 use Rattle.cheaper.specs.Cheaper.{cheaper-of}
-use Rattle.minimal.specs.Minimised.{minimal-of}
+use Rattle.minimal.specs.between.Computed.{minimal-of}
 use Rattle.claim.specs.declared.answer.Claim.the-variants.{Irreducible}
-use Rattle.claim.specs.Licensed.{cheaper-list, claim-of, claimed-by, licensed-of}
-use Rattle.claim.specs.Statement.{All-marked}
-use Rattle.claim.proofs.LicenceTheorem.{marked-is-whole}
+use Rattle.claim.specs.between.Computed.{claim-of, claimed-by, licensed-of}
+use Rattle.claim.specs.Statement.{cheaper-list, Licence, All-marked}
+use Rattle.claim.proofs.LicenceTheorem.{licence-of, marked-is-whole}
 use Rattle.starred.specs.Sheets.{sheet-p}
 use Rattle.starred.specs.Rounds.{list-3}
 use Rattle.starred.specs.Licences.{Licence-row, Row-licensed, gates-and-lamp, lamps-between, least-row, irreducible-row, open-row, Licences-hold, List-3-whole}
@@ -46,11 +46,12 @@ licensed r m passes left others claims is positions tally =
     record {
       readable = readable;
       plan = plan;
-      left = left;
+      cheaper-left = left;
       unmarked-there = others;
-      claims = claims;
-      just = rw (is, ← positions) (kept-just m);
-      tally = rw is tally;
+      left = m;
+      licence = subst (λ c. Licence (r .sheet) (r .list) c m) claims (subst (λ n. Licence (r .sheet) (r .list) (claim-of (r .sheet) (r .list)) n) is (licence-of (r .sheet) (r .list) readable plan));
+      just = rw (← positions) (kept-just m);
+      tally = tally;
     }
 
 least : Row-licensed least-row

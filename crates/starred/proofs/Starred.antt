@@ -1,6 +1,6 @@
 -- The worked lists of document 01 that carry a star: what it says of each holds. By computing what the definitions give from the words of the sheets; what is
 -- told by a rule follows by the theorem that ties the rule to what is computed: `passes-exactly` for plans, `first-failing` for lists that are none,
--- `marks-theorem` for marks, `minimal-found` for the minimal reduction. Assumes nothing.
+-- `marks-theorem` for marks, `rule-leaves` for the eliminations, `minimal-found` for the minimal reduction. Assumes nothing.
 use Prim.Native.Nat.{ℕ, zero, suc}
 use native.Mathlib.Omega.{arith}
 use mathlib.Core.Path.{_≡_, refl}
@@ -20,7 +20,6 @@ use Rattle.reduction.specs.between.Wanted.{some-fact, same-fact, has}
 use Rattle.reduction.specs.Landmark.{values-from, framed}
 use Rattle.reduction.specs.between.Landmarks.{sets-other, passed, trace, raised, round-to, rounds as mark-rounds, landmarks}
 use Rattle.reduction.specs.between.Found.{found, minimal}
-use Rattle.reduction.proofs.trials.EliminationTheorem.{eliminate-shortens, greedy-shortens}
 use Rattle.reduction.proofs.minimal.MinimalTheorem.{minimal-found}
 use Rattle.mask.specs.Mask.{binary, words-of, mask-words}
 use Rattle.sheet.specs.Decode.{table, facts, initial, goal, action}
@@ -34,6 +33,8 @@ use Rattle.plan.proofs.PlanTheorem.{plan-theorem, passes-exactly}
 use Rattle.reduced.specs.Reduced.{room-checks, tally-left}
 use Rattle.landmark.specs.Marks.{marks}
 use Rattle.landmark.proofs.MarkTheorem.{marks-theorem}
+use Rattle.elimination.specs.declared.single.Elimination.the-variants.{Plain, Greedy}
+use Rattle.elimination.proofs.LeavesLaws.{rule-leaves}
 use Rattle.minimal.specs.Minimised.{unmarked-checks, minimal-checks}
 use Rattle.minimal.specs.Statement.{Is-marked}
 use Rattle.starred.specs.Sheets.{sheet-p, gate-alone, two-writers, one-for-both}
@@ -63,8 +64,8 @@ module _ (w l : List ℕ) where
       (λ m. listed (from m), λ d. to (flagged d))
 
   way-by-rule : (way : Way) → valid (initial w) (goal w) (steps w l) ≡ true → By-rule w l way
-  way-by-rule elimination v = eliminate-shortens (initial w) (goal w) (steps w l) v .reduction
-  way-by-rule greedily v = greedy-shortens (initial w) (goal w) (steps w l) v .reduction
+  way-by-rule elimination v = rule-leaves w l v Plain
+  way-by-rule greedily v = rule-leaves w l v Greedy
   way-by-rule minimally v = minimal-found (meets (goal w)) (initial w) (steps w l) v
 
   kept-by : {price : ℕ} {words : List ℕ} (way : Way) → answer (checks-of w l way) ≡ none → valid (initial w) (goal w) (steps w l) ≡ true

@@ -15,8 +15,7 @@ use Rattle.landmark.specs.Marks.{unmarked}
 use Rattle.minimal.specs.Statement.{Valid-striking}
 use Rattle.claim.specs.declared.answer.Claim.{Claim}
 use Rattle.claim.specs.declared.answer.Claim.the-variants.{Least, Irreducible, Open}
-use Rattle.claim.specs.Licensed.{cheaper-list, claim-of, licensed-of}
-use Rattle.claim.specs.Statement.{All-marked}
+use Rattle.claim.specs.Statement.{cheaper-list, Licence, All-marked}
 use Rattle.starred.specs.Sheets.{sheet-p}
 use Rattle.starred.specs.Rows.{Each, Just-at}
 use Rattle.starred.specs.Rounds.{list-3}
@@ -32,16 +31,17 @@ pub record Licence-row : Type 0 where
   pub positions : List ℕ
   pub price : ℕ
 
--- a row holds: its list can be read and is a plan, and what is said of it is what the definitions give
+-- a row holds: its list can be read and is a plan, its claim is that of a licence, and what is said of the reduction
+-- that the licence is made of, and of what the cheaper elimination leaves, is what the definitions give
 pub record Row-licensed (r : Licence-row) : Type 0 where
   pub readable : Readable (r .sheet) (r .list)
   pub plan : Plan (task (r .sheet)) (steps (r .sheet) (r .list))
-  pub left : length (cheaper-list (r .sheet) (r .list)) ≡ r .eliminated
+  pub cheaper-left : length (cheaper-list (r .sheet) (r .list)) ≡ r .eliminated
   pub unmarked-there : unmarked (r .sheet) (cheaper-list (r .sheet) (r .list)) ≡ r .others
-  pub claims : claim-of (r .sheet) (r .list) ≡ r .claim
-  pub just : Just-at (r .positions) (keeps (licensed-of (r .sheet) (r .list)))
-  pub tally : tally-left (r .sheet) (r .list) (licensed-of (r .sheet) (r .list))
-      ≡ record { cost = r .price; steps = length (r .positions) }
+  pub left : Reduction
+  pub licence : Licence (r .sheet) (r .list) (r .claim) left
+  pub just : Just-at (r .positions) (keeps left)
+  pub tally : tally-left (r .sheet) (r .list) left ≡ record { cost = r .price; steps = length (r .positions) }
 
 -- two gates are lifted, and one move drops both, for which both must be open; at the end all is as before. Without one
 -- of the lifts the other gate stays open, since the drop can't be done, and without the drop both do: so neither

@@ -20,8 +20,11 @@ use Rattle.plan.specs.Valid.{steps}
 use Rattle.plan.specs.Checked.{plan-checks, lodged-tally}
 use Rattle.reduced.specs.Reduced.{reduction-checks, tally-left}
 use Rattle.landmark.specs.Marks.{marks}
-use Rattle.elimination.specs.Eliminations.{elimination-of, greedy-elimination-of}
-use Rattle.minimal.specs.Minimised.{most-unmarked, minimal-checks, minimal-of}
+use Rattle.elimination.specs.declared.single.Elimination.the-variants.{Plain, Greedy}
+use Rattle.elimination.specs.Eliminations.{Rule-leaves}
+use Rattle.elimination.specs.between.Left.{elimination-of, greedy-elimination-of}
+use Rattle.minimal.specs.Minimised.{most-unmarked, minimal-checks}
+use Rattle.minimal.specs.between.Computed.{minimal-of}
 use Rattle.minimal.specs.Statement.{Is-marked, Valid-striking}
 use Rattle.starred.specs.Sheets.{sheet-p, gate-alone, two-writers, one-for-both}
 
@@ -76,10 +79,10 @@ module _ (w l : List ℕ) where
   checks-of greedily = reduction-checks w l (length l)
   checks-of minimally = minimal-checks most-unmarked w l (length l)
 
-  -- it is valid, and the exact reduction is that of document 01's rule
+  -- what it leaves is left by its rule in document 01, and nothing else is
   abbrev pub By-rule : Way → Type 0
-  By-rule elimination = Valid-striking w l (elimination-of w l)
-  By-rule greedily = Valid-striking w l (greedy-elimination-of w l)
+  By-rule elimination = Rule-leaves Plain w l (elimination-of w l)
+  By-rule greedily = Rule-leaves Greedy w l (greedy-elimination-of w l)
   By-rule minimally = Minimal-reduction (initial w) (goal w) (steps w l) (minimal-of w l)
 
   -- a way of striking answers, and keeps just these positions, at this price, told by these words

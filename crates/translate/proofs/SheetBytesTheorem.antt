@@ -1,14 +1,17 @@
 -- The room suffices: the bytes of a sheet are no more than the array that `main` lends has, since a longer sheet is refused. So does the room for the input:
--- a text that is cut behind more bytes than one may have is answered as it would be whole. Assumes nothing.
+-- a text that is cut behind more bytes than one may have is answered as it would be whole, and so what is answered to the bytes read is what is answered to the
+-- whole input. Assumes nothing.
 use Prim.Native.Nat.{ℕ, _*_, _≤_, _<_}
 use native.Mathlib.Omega.{arith}
 use mathlib.Core.Path.{_≡_, refl, sym, _∙_, ap}
 use mathlib.Core.Bool.{Bool, true, false}
+use mathlib.Core.Logic.{_⊎_, inl, inr}
 use mathlib.Core.Option.{Option, none, some}
 use mathlib.Core.List.{List}
 use lib.ListN.{length, take}
 use lib.Seq.{take-all, length-take-le}
 use lib.Dec.{ltb}
+use lib.IntN.{ℤ, pos, negsuc}
 use borrow.Author.Tests.{lt-ltb, ltb-true, ltb-false}
 use Rattle.refusal.specs.Place.{when}
 use Rattle.refusal.specs.Refusal.{Told}
@@ -20,7 +23,9 @@ use Rattle.planner.specs.Text.{most-bytes}
 use Rattle.records.specs.RecordForm.{word-bytes}
 use Rattle.records.proofs.BytesTheorem.{all-bytes-length}
 use Rattle.translation.specs.between.Checks.{text-sheet, task-checks, translation-checks}
-use Rattle.translate.specs.Translate.{only-refuses, translated}
+use Rattle.translate.specs.declared.input.Input.{Input}
+use Rattle.translate.specs.Input.{Has-read-text, Text-from}
+use Rattle.translate.specs.Translate.{only-refuses, translated, translated-input}
 
 -- where no check fires, the last does not
 sheet-fits : (text : List ℕ) (room : ℕ) → answer (translation-checks text room) ≡ none → length (text-sheet text) ≤ room
@@ -59,3 +64,26 @@ cut-translated text n more = by-case (ltb n (length text)) refl
         let cut : length (take n text) ≡ n = length-take-le n text (omega arith) in
         longer-refused (take n text) (omega arith) ∙ sym (longer-refused text (omega arith))
     by-case false e = ap translated (take-all n text (ltb-false n (length text) e))
+
+-- so what is answered to the bytes read, into more bytes than a text may have, is what is answered to the whole input
+module _ (whole bytes : List ℕ) (input : Input) (more : most-bytes < length bytes) (read : Has-read-text bytes input) (from : Text-from whole bytes input) where
+  read-suffices : (k : ℕ) → input .last ≡ pos k → translated (take (input .count) whole) ≡ translated whole
+  read-suffices k gave = by-room (ltb (input .count) (length bytes)) refl
+    where
+      by-room : (b : Bool) → ltb (input .count) (length bytes) ≡ b → translated (take (input .count) whole) ≡ translated whole
+      by-room true e = by-end (read .to-the-end k gave)
+        where
+          room : input .count < length bytes
+          room = ltb-true (input .count) (length bytes) e
+
+          by-end : (k ≡ 0) ⊎ (input .count ≡ length bytes) → translated (take (input .count) whole) ≡ translated whole
+          by-end (inl no-byte) = ap translated (take-all (input .count) whole (from .at-end (gave ∙ ap pos no-byte) room))
+          by-end (inr full) = absurd (omega (arith, room))
+      by-room false e = cut-translated whole (input .count) (omega (arith, ltb-false (input .count) (length bytes) e))
+
+  pub answered-to-all : translated-input (input .last) (take (input .count) bytes) ≡ translated-input (input .last) whole
+  answered-to-all = by-sign (input .last) refl
+    where
+      by-sign : (z : ℤ) → input .last ≡ z → translated-input z (take (input .count) bytes) ≡ translated-input z whole
+      by-sign (pos k) gave = ap translated (from .in-order) ∙ read-suffices k gave
+      by-sign (negsuc k) gave = refl

@@ -1,11 +1,17 @@
 -- What is answered to a text, by what the service tells of it, and to input, by whether a read failed. Assumes nothing.
 use Prim.Native.Nat.{ℕ, _≤_}
 use native.Mathlib.Omega.{arith}
-use mathlib.Core.Path.{_≡_, sym, _∙_, ap, subst}
-use mathlib.Core.Bool.{Bool, true, false}
+use mathlib.Core.Path.{_≡_, refl, sym, _∙_, ap, subst}
+use mathlib.Core.Bool.{Bool, true, false, false≢true}
 use mathlib.Core.Option.{none, some}
 use mathlib.Core.List.{List}
 use lib.ListN.{length, take}
+use lib.IntN.{ℤ, pos, negsuc}
+use lib.Signed.{ltZ}
+use mir.Syntax.{w64}
+use mir.Val.{toZ, ofZ, SFits}
+use mir.Facts.{toZ-ofZ}
+use borrow.Author.Tests.{le-ltb}
 use Rattle.lines.specs.Prints.{Prints}
 use Rattle.lines.proofs.PrintLaws.{prints-nothing}
 use Rattle.refusal.specs.declared.Refusal.{Refusal}
@@ -16,13 +22,15 @@ use Rattle.records.specs.Bytes.{all-bytes}
 use Rattle.program.specs.Printed.{refusal-line}
 use Rattle.program.specs.between.Room.{line-room}
 use Rattle.translate.specs.declared.answer.Answered.{Answered}
+use Rattle.translate.specs.declared.input.Input.{Input}
+use Rattle.translate.specs.Input.{Has-read-text}
 use Rattle.translate.specs.Answer.{Answer, only-writes, Gives}
 use Rattle.translate.proofs.SayLaws.{answers-writing, answers-as}
 use Rattle.translation.specs.declared.translate.Translated.{Translated}
 use Rattle.translation.specs.declared.translate.Translated.the-variants.{Refused, Written}
 use Rattle.translation.specs.Translation.{told-translated}
 use Rattle.translation.specs.between.Checks.{text-task, text-sheet, translation-checks, Leaves-task, Answers-checks}
-use Rattle.translate.specs.Translate.{only-refuses, translated, translated-input}
+use Rattle.translate.specs.Translate.{only-refuses, translated, translated-input, Has-translated}
 
 -- an answer in lent bytes, of which no more is said than a line has room for
 abbrev Gives-line : Answer → List ℕ → List ℕ → List ℕ → List ℕ → Answered → Type 0
@@ -61,12 +69,33 @@ module _ (text before after : List ℕ) (given : Translated) (room : length befo
       line-as (translated-sheet text (sym told-in-room ∙ ap told-translated is))
       (answers-writing errors (subst (λ l. Prints (all-bytes l) 0 out out′ end) all prints), omega arith)
 
--- what is answered to input
-module _ {out out′ errors errors′ : List ℕ} {r : Answered} (text : List ℕ) (failed : Bool) where
-  pub gives-input : failed ≡ false → Gives-line (translated text) out out′ errors errors′ r
-      → Gives-line (translated-input failed text) out out′ errors errors′ r
-  gives-input is answers = line-as (ap (λ b. translated-input b text) is) answers
+-- what the program has done, of which no more is said than a line has room for
+module _ (bytes : List ℕ) (out out′ errors errors′ : List ℕ) (r : Answered) (input : Input) (read : Has-read-text bytes input)
+    (fits : SFits w64 (input .last)) where
+  abbrev Done-line : Type 0
+  Done-line =
+      Has-translated bytes (record { input = input; answer = r }) out out′ errors errors′
+      × (length (translated-input (input .last) (take (input .count) bytes) .said) ≤ line-room)
 
-  pub gives-failed : failed ≡ true → Gives (translated-input true text) out out′ errors errors′ r
-      → Gives-line (translated-input failed text) out out′ errors errors′ r
-  gives-failed is answers = line-as (ap (λ b. translated-input b text) is) (answers, omega arith)
+  done-with : (a : Answer) → translated-input (input .last) (take (input .count) bytes) ≡ a → Gives-line a out out′ errors errors′ r → Done-line
+  done-with a is answers =
+      let (gives, short) = line-as is answers in
+      (record { read = read; gives = gives }, short)
+
+  -- the last call's number is tested as it is, and goes there by its bits
+  tested : {b : Bool} → ltZ (toZ w64 (ofZ w64 (input .last))) (pos 0) ≡ b → ltZ (input .last) (pos 0) ≡ b
+  tested is = ap (λ z. ltZ z (pos 0)) (sym (toZ-ofZ fits)) ∙ is
+
+  pub done-read : ltZ (toZ w64 (ofZ w64 (input .last))) (pos 0) ≡ false → Gives-line (translated (take (input .count) bytes)) out out′ errors errors′ r → Done-line
+  done-read fine answers = by-sign (input .last) refl
+    where
+      by-sign : (z : ℤ) → input .last ≡ z → Done-line
+      by-sign (pos k) is = done-with _ (ap (λ x. translated-input x (take (input .count) bytes)) is) answers
+      by-sign (negsuc k) is = absurd (false≢true (sym (tested fine) ∙ ap (λ x. ltZ x (pos 0)) is))
+
+  pub done-failed : ltZ (toZ w64 (ofZ w64 (input .last))) (pos 0) ≡ true → Gives (translated-input (negsuc 0) (take (input .count) bytes)) out out′ errors errors′ r → Done-line
+  done-failed fails answers = by-sign (input .last) refl
+    where
+      by-sign : (z : ℤ) → input .last ≡ z → Done-line
+      by-sign (pos k) is = absurd (false≢true (sym (le-ltb k 0 (omega arith)) ∙ sym (ap (λ x. ltZ x (pos 0)) is) ∙ tested fails))
+      by-sign (negsuc k) is = done-with _ (ap (λ x. translated-input x (take (input .count) bytes)) is) (answers, omega arith)

@@ -1,6 +1,7 @@
 // What is answered to a planner's text: the bytes of its sheet's words, or its refusal.
 use crate::answer::Answered;
 use crate::answer::refuse;
+use crate::input::Input;
 use crate::input::read_input;
 use access::front;
 use program::output::put_refusal;
@@ -14,7 +15,7 @@ ghost use Rattle.sheet.specs.Limits.{limits};
 ghost use Rattle.records.specs.RecordForm.{word-bytes};
 ghost use Rattle.program.specs.between.Room.{line-room};
 ghost use Rattle.translate.specs.Answer.{Gives};
-ghost use Rattle.translate.specs.Translate.{translated, translated-input};
+ghost use Rattle.translate.specs.Translate.{translated, translated-input, Has-translated};
 
 // Translates a text. What is said of it has room in a line.
 fn translate_text(text: &[u8], out: &mut [u8], errors: &mut [u8]) -> Answered
@@ -36,10 +37,9 @@ fn translate_text(text: &[u8], out: &mut [u8], errors: &mut [u8]) -> Answered
     }
 }
 
-// How many bytes were read, whether no more could be, and what was answered to them.
+// What was read, and what was answered to it.
 pub(crate) struct Translating {
-    pub(crate) read: usize,
-    pub(crate) failed: bool,
+    pub(crate) input: Input,
     pub(crate) answer: Answered,
 }
 
@@ -47,25 +47,18 @@ pub(crate) struct Translating {
 // (`sheet-bytes-fit`), and what is said into a line.
 pub(crate) fn translate_input(bytes: &mut [u8], out: &mut [u8], errors: &mut [u8]) -> Translating
     requires { ⌜ (word-bytes * (limits .words) ≤ length (now out)) × (line-room ≤ length (now errors)) ⌝ }
-    ensures { λ r. ⌜ Gives (translated-input (r .failed) (take (r .read) (now (bytes .exit))))
-        (now (out .entry)) (now (out .exit)) (now (errors .entry)) (now (errors .exit)) (r .answer) ⌝ }
-    ensures { λ r. ⌜ length (translated-input (r .failed) (take (r .read) (now (bytes .exit))) .said) ≤ line-room ⌝ }
+    ensures { λ r. ⌜ Has-translated (now (bytes .exit)) r
+        (now (out .entry)) (now (out .exit)) (now (errors .entry)) (now (errors .exit)) ⌝ }
+    ensures { λ r. ⌜ length (translated-input (r .input .last) (take (r .input .count) (now (bytes .exit))) .said)
+        ≤ line-room ⌝ }
 {
     let input = read_input(bytes);
     let read = input.count;
-    let failed = input.failed;
-    if failed {
+    let last = input.last;
+    if last < 0 {
         let answer = refuse(errors, b"the text can't be read");
-        return Translating {
-            read,
-            failed,
-            answer,
-        };
+        return Translating { input, answer };
     }
     let answer = translate_text(&bytes[..read], out, errors);
-    Translating {
-        read,
-        failed,
-        answer,
-    }
+    Translating { input, answer }
 }

@@ -28,7 +28,7 @@ returns c =
     let writes = (c .before .before .before .before .before .before .before .before .write-reduced .ensures) in
     let claimed = (c .before .before .write-claim .ensures) in (
       lent-licenses _ _ _ _ _ _ _ _ _ _ writes claimed (licensed .0),
-      lent-licence _ _ _ _ _ _ _ _ _ _ writes claimed (licensed .1),
+      lent-licence _ _ _ _ _ _ _ _ _ (c .before .before .before .before .before .before .before .before .before .before .before .before .before .before .license .result) writes claimed (licensed .1),
     )
 
 pub license-plan-spec : {M : Type 1} → statement M

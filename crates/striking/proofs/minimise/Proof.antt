@@ -1,5 +1,5 @@
 -- `minimise` meets its contract: what is written is what the service answers. Assumes nothing.
-use Rattle.striking.proofs.StrikeLaws.{lent-answers, lent-demand}
+use Rattle.striking.proofs.StrikeLaws.{lent-left, lent-demand}
 use borrow.Author.Needs.{needs}
 use Rattle.striking.proofs.minimise.Statement.{statement}
 use Rattle.striking.proofs.minimise.Tie as tie
@@ -23,7 +23,7 @@ returns : tie.Need-returns
 returns c =
     let reduced = c .before .before .before .before .before .before .before .before .before .minimal-reduction .ensures in
     let writes = c .before .before .before .before .write-reduced .ensures in
-    (lent-answers _ _ _ _ _ _ _ _ _ _ _ _ (reduced .0 .answers) writes, lent-demand _ _ _ _ _ _ _ _ _ _ (reduced .1) writes)
+    (lent-left _ _ _ _ _ _ _ _ _ _ _ _ (reduced .0 .answers) writes, lent-demand _ _ _ _ _ _ _ _ _ _ (reduced .1) writes)
 
 pub minimise-spec : {M : Type 1} → statement M
 minimise-spec =

@@ -23,13 +23,13 @@ array-share-prefix-out : tie.Need-array-share-prefix-out
 array-share-prefix-out c = search needs
 
 slice-aggregate-give : tie.Need-slice-aggregate-give
-slice-aggregate-give c = counts-written (c .before .before .before .before .before .translate-input .ensures .0) .0 .1
+slice-aggregate-give c = counts-written (c .before .before .before .before .before .translate-input .ensures .0 .gives) .0 .1
 
 array-share-prefix-errors : tie.Need-array-share-prefix-errors
 array-share-prefix-errors c = search needs
 
 slice-aggregate-give-2 : tie.Need-slice-aggregate-give-2
-slice-aggregate-give-2 c = counts-written (c .before .before .before .before .before .before .translate-input .ensures .0) .1 .1
+slice-aggregate-give-2 c = counts-written (c .before .before .before .before .before .before .translate-input .ensures .0 .gives) .1 .1
 
 slice-aggregate-give-3 : tie.Need-slice-aggregate-give-3
 slice-aggregate-give-3 c = search needs

@@ -1,4 +1,5 @@
 -- `license` meets its contract: the minimal reduction answers, or refuses and leaves the output. Assumes nothing.
+use Rattle.claim.proofs.ComputedTheorem.{licenses-so}
 use Rattle.claim.proofs.LicenseLaws.{may-be-lodged, answers-least, refuses-there, answers-there}
 use borrow.Author.Needs.{needs}
 use Rattle.claim.proofs.license.license.Statement.{statement}
@@ -20,13 +21,13 @@ same-length : tie.Need-same-length
 same-length c = search needs
 
 returns : tie.Need-returns
-returns c = let licenses = answers-least _ _ _ _ _ (c .before .before .before .before .minimal-reduction .ensures .0) _ (c .enum-told .given .1) in (licenses, may-be-lodged _ _ _ _ _ licenses)
+returns c = let licenses = answers-least _ _ _ _ _ (c .before .before .before .before .minimal-reduction .ensures .0) _ (c .enum-told .given .1) in (licenses-so _ _ _ _ _ licenses, may-be-lodged _ _ _ _ _ licenses)
 
 same-length-2 : tie.Need-same-length-2
 same-length-2 c = search needs
 
 returns-2 : tie.Need-returns-2
-returns-2 c = let licenses = answers-there _ _ _ _ _ (c .before .before .before .before .before .before .before .before .before .minimal-reduction .ensures .0) _ (c .before .before .before .before .before .answer .given .1) _ _ (c .before .before .license-refused .ensures) in (licenses, may-be-lodged _ _ _ _ _ licenses)
+returns-2 c = let licenses = answers-there _ _ _ _ _ (c .before .before .before .before .before .before .before .before .before .minimal-reduction .ensures .0) _ (c .before .before .before .before .before .answer .given .1) _ _ (c .before .before .license-refused .ensures) in (licenses-so _ _ _ _ _ licenses, may-be-lodged _ _ _ _ _ licenses)
 
 pub license-spec : {M : Type 1} → statement M
 license-spec =

@@ -1,20 +1,19 @@
+-- `read_input` meets its contract: it reads on while there is room and a read gives bytes, and each that does leaves fewer that
 -- may still be read. Assumes nothing.
 use Prim.Native.Nat.{_≤_, _-_}
-use mathlib.Core.Path.{_≡_, sym}
+use mathlib.Core.Path.{_≡_}
 use native.Mathlib.Omega.{arith}
-use mathlib.Core.Logic.{inl, inr}
-use mathlib.Core.Bool.{false≢true}
 use borrow.Author.Needs.{needs}
 use lib.ListN.{length}
-use lib.Seq.{length-take-le}
+use Rattle.translate.proofs.InputLaws.{read-no-more, read-full}
 use Rattle.translate.proofs.input.read_input.Statement.{statement}
 use Rattle.translate.proofs.input.read_input.Tie as tie
 
 abbrev Inv-loop : tie.InvT-loop
-Inv-loop bytes₀ have₀ bytes have = (have ≤ length bytes) × (length bytes ≡ length bytes₀)
+Inv-loop bytes₀ have₀ last₀ bytes have last = (have ≤ length bytes) × (length bytes ≡ length bytes₀)
 
 abbrev μ-loop : tie.MeasureT-loop
-μ-loop bytes₀ have₀ bytes have = length bytes - have
+μ-loop bytes₀ have₀ last₀ bytes have last = length bytes - have
 
 loop-holds : tie.Need-loop-holds Inv-loop μ-loop
 loop-holds c = search needs
@@ -31,12 +30,6 @@ part-read-end c = search needs
 read-requires : tie.Need-read-requires Inv-loop μ-loop
 read-requires c κs = search needs
 
-same-length : tie.Need-same-length Inv-loop μ-loop
-same-length c = search needs
-
-returns : tie.Need-returns Inv-loop μ-loop
-returns c = ((search needs, sym (length-take-le _ _ (search needs))), λ e. absurd (false≢true (sym e)))
-
 sub-count : tie.Need-sub-count Inv-loop μ-loop
 sub-count c = search needs
 
@@ -49,11 +42,11 @@ part-count-end c = search needs
 count-requires : tie.Need-count-requires Inv-loop μ-loop
 count-requires c κs = search needs
 
-same-length-2 : tie.Need-same-length-2 Inv-loop μ-loop
-same-length-2 c = search needs
+same-length : tie.Need-same-length Inv-loop μ-loop
+same-length c = search needs
 
-returns-2 : tie.Need-returns-2 Inv-loop μ-loop
-returns-2 c = ((search needs, sym (length-take-le _ _ (search needs))), λ e. inl (c .if2 .taken))
+returns : tie.Need-returns Inv-loop μ-loop
+returns c = read-no-more _ _ _ _ _ (search needs) (search needs) (c .before .count .ensures .1) (c .if1 .taken)
 
 add-have : tie.Need-add-have Inv-loop μ-loop
 add-have c = search needs
@@ -64,13 +57,11 @@ loop-less c = search needs
 loop-again : tie.Need-loop-again Inv-loop μ-loop
 loop-again c = search needs
 
-same-length-3 : tie.Need-same-length-3 Inv-loop μ-loop
-same-length-3 c = search needs
+same-length-2 : tie.Need-same-length-2 Inv-loop μ-loop
+same-length-2 c = search needs
 
-returns-3 : tie.Need-returns-3 Inv-loop μ-loop
-returns-3 c =
-    let all : c .before .loop .have ≡ length (c .before .loop .bytes) = omega arith in
-    ((search needs, sym (length-take-le _ _ (search needs))), λ e. inr all)
+returns-2 : tie.Need-returns-2 Inv-loop μ-loop
+returns-2 c = read-full _ _ _ (omega arith)
 
 pub read-input-spec : {M : Type 1} → statement M
 read-input-spec =
@@ -83,16 +74,14 @@ read-input-spec =
     part-read-start
     part-read-end
     read-requires
-    same-length
-    returns
     sub-count
     part-count-start
     part-count-end
     count-requires
-    same-length-2
-    returns-2
+    same-length
+    returns
     add-have
     loop-less
     loop-again
-    same-length-3
-    returns-3)
+    same-length-2
+    returns-2)

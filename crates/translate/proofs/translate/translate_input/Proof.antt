@@ -1,5 +1,5 @@
 -- `translate_input` meets its contract, by whether a read failed. Assumes nothing.
-use Rattle.translate.proofs.TranslateLaws.{gives-input, gives-failed}
+use Rattle.translate.proofs.TranslateLaws.{done-read, done-failed}
 use borrow.Author.Needs.{needs}
 use Rattle.translate.proofs.translate.translate_input.Statement.{statement}
 use Rattle.translate.proofs.translate.translate_input.Tie as tie
@@ -20,7 +20,10 @@ same-length-2 : tie.Need-same-length-2
 same-length-2 c = search needs
 
 returns : tie.Need-returns
-returns c = gives-failed _ _ (c .before .before .before .before .before .if1 .taken) (c .before .before .refuse .ensures _)
+returns c =
+    done-failed _ _ _ _ _ _ _ (c .before .before .before .before .before .before .before .before .before .read-input .ensures)
+    (record { sfits = c .before .before .before .before .before .before .struct-told .given .1 .0 .1 })
+    (c .before .before .before .before .before .if1 .taken) (c .before .before .refuse .ensures _)
 
 slice-reshare-prefix-translate-text : tie.Need-slice-reshare-prefix-translate-text
 slice-reshare-prefix-translate-text c = search needs
@@ -42,7 +45,9 @@ same-length-5 c = search needs
 
 returns-2 : tie.Need-returns-2
 returns-2 c =
-    gives-input _ _ (c .before .before .before .before .before .before .before .before .if1 .left)
+    done-read _ _ _ _ _ _ _ (c .before .before .before .before .before .before .before .before .before .before .before .before .read-input .ensures)
+    (record { sfits = c .before .before .before .before .before .before .before .before .before .struct-told .given .1 .0 .1 })
+    (c .before .before .before .before .before .before .before .before .if1 .left)
     (c .before .before .before .before .translate-text .ensures)
 
 pub translate-input-spec : {M : Type 1} → statement M
