@@ -29,8 +29,8 @@ pub record Begins (ls : List (List ℕ)) : Type 0 where
   pub behind : List (List ℕ)
   pub goes-on : map (λ l. l .bytes) (lines text) ≡ ls ++ behind
 
--- line n breaks the form: the lines before it begin a text, and with it they don't; where it is not ended, it is what is
--- behind the last line end, and all bytes are no text
+-- line n breaks the form: the lines before it begin a text, and with it they don't; where it is not ended, it is what
+-- is behind the last line end, and all bytes are no text
 pub record Breaks (bytes : List ℕ) (n : ℕ) : Type 0 where
   pub before : List (List ℕ)
   pub line : List ℕ

@@ -24,7 +24,7 @@ use Rattle.meaning.specs.between.Writable.{writable}
 use Rattle.planner.specs.Text.{Text, most-bytes}
 use Rattle.planner.specs.Printed.{Line, lines}
 use Rattle.planner.specs.Meant.{meant, first-barred, unsayable}
-use Rattle.planner.specs.Broken.{Prints, Breaks}
+use Rattle.planner.specs.Broken.{Formed, Prints, Breaks}
 use Rattle.printed_form.proofs.TextTheorem.{text-tape}
 use Rattle.printed_form.proofs.PrintedTheorem.{lines-few, whole-printed, printed-whole, printed-numbers, printed-barred, broken-breaks, breaks-once, no-text-breaks}
 use Rattle.translation.specs.declared.translate.Translated.{Translated}
@@ -49,6 +49,22 @@ text-or-break bytes few = by-case (whole (walked bytes)) refl
 pub sheet-once : (t : Text) (v w : List ℕ) → Sheet-of t v → Sheet-of t w → v ≡ w
 sheet-once t v w first second = sym (sheet-is (meant t) v (first .accepted) (first .means)) ∙ sheet-is (meant t) w (second .accepted) (second .means)
 
+complete : (t : Text) → Formed t → length (meant t .initial) ≡ length (meant t .domains)
+unfolding meant
+complete t formed = formed .values ∙ sym (length-map (t .variables) (λ v. length (v .values)))
+
+written-sheet : (t : Text) → Formed t → writable (meant t) ≡ true → Sheet-of t (encode first-edition (ordered (meant t)))
+written-sheet t formed can =
+    record { accepted = has-sheet (meant t) (complete t formed) can; means = sheet-means (meant t) (complete t formed) can }
+
+-- and it has one, or none means it
+pub sheet-or-none : (t : Text) → Formed t → ((w : List ℕ) × Sheet-of t w) ⊎ ((w : List ℕ) → Sheet-of t w → ⊥)
+sheet-or-none t formed = by-case (writable (meant t)) refl
+  where
+    by-case : (b : Bool) → writable (meant t) ≡ b → ((w : List ℕ) × Sheet-of t w) ⊎ ((w : List ℕ) → Sheet-of t w → ⊥)
+    by-case true can = inl (encode first-edition (ordered (meant t)), written-sheet t formed can)
+    by-case false unfit = inr (λ w sheet. false≢true (sym unfit ∙ sheet-writable (meant t) w (sheet .accepted) (sheet .means)))
+
 -- no line bars it
 abbrev somewhere : Place → Bool
 somewhere Nowhere = false
@@ -68,10 +84,6 @@ module _ (bytes : List ℕ) (few : length bytes ≤ most-bytes) (t : Text) (prin
   not-long : ltb most-bytes (length bytes) ≡ false
   not-long = le-ltb most-bytes (length bytes) few
 
-  complete : length (meant t .initial) ≡ length (meant t .domains)
-  unfolding meant
-  complete = prints .formed .values ∙ sym (length-map (t .variables) (λ v. length (v .values)))
-
   module _ (says : unsayable t ≡ Nowhere) where
     meaning-is : meaning (numbers-of bytes) ≡ sat-task (meant t)
     meaning-is =
@@ -89,9 +101,8 @@ module _ (bytes : List ℕ) (few : length bytes ≤ most-bytes) (t : Text) (prin
         by-case false e = e
         by-case true e =
             let read : writable (sat-task (meant t)) ≡ true = sym (ap writable meaning-is) ∙ e in
-            let can : writable (meant t) ≡ true = sym (ap writable (read-same (meant t) complete read)) ∙ read in
-            absurd (no-sheet (encode first-edition (ordered (meant t)))
-            (record { accepted = has-sheet (meant t) complete can; means = sheet-means (meant t) complete can }))
+            let can : writable (meant t) ≡ true = sym (ap writable (read-same (meant t) (complete t (prints .formed)) read)) ∙ read in
+            absurd (no-sheet (encode first-edition (ordered (meant t))) (written-sheet t (prints .formed) can))
 
     -- the sheet that means it
     module _ (w : List ℕ) (sheet : Sheet-of t w) where
@@ -99,7 +110,7 @@ module _ (bytes : List ℕ) (few : length bytes ≤ most-bytes) (t : Text) (prin
       can-write = sheet-writable (meant t) w (sheet .accepted) (sheet .means)
 
       meaning-same : meaning (numbers-of bytes) ≡ meant t
-      meaning-same = meaning-is ∙ exact-same (meant t) complete can-write
+      meaning-same = meaning-is ∙ exact-same (meant t) (complete t (prints .formed)) can-write
 
       writable-read : writable (meaning (numbers-of bytes)) ≡ true
       writable-read = ap writable meaning-same ∙ can-write

@@ -1,6 +1,6 @@
 -- What is answered to a planner's text, read into a sheet (document 02, C-11). Which of these cases it is, and which
 -- text, line or sheet they speak of, is told by the text alone (`text-or-break`, `prints-once`, `breaks-once`,
--- `no-text-breaks`, `sheet-once`). Assumes nothing.
+-- `no-text-breaks`, `sheet-once`, `sheet-or-none`). Assumes nothing.
 use Prim.Native.Nat.{ℕ, _+_, _≤_, _<_}
 use mathlib.Core.Path.{_≡_}
 use mathlib.Core.Bool.{cond, _&&_}

@@ -29,11 +29,9 @@ text-sheet text = encode first-edition (ordered (text-task text))
 -- 15: the sheet would break a limit or a rule of document 01; then 10: it is longer than the room for it
 unfoldable pub task-checks : List ℕ → ℕ → List Check
 task-checks x room =
+    let words : ℕ = length (encode first-edition (ordered (meaning x))) in
     record { number = 15; fires = when (not (writable (meaning x))) 0 }
-    ∷ record {
-      number = 10;
-      fires = when (ltb room (length (encode first-edition (ordered (meaning x))))) (length (encode first-edition (ordered (meaning x))));
-    }
+    ∷ record { number = 10; fires = when (ltb room words) words }
     ∷ []
 
 -- the checks of a text, in the order in which they run: 13 for a longer text and for one that breaks the form, 14 for
