@@ -11,14 +11,17 @@ use Rattle.sheet.specs.Decode.{initial, goal}
 use Rattle.plan.specs.Valid.{steps}
 use Rattle.plan.specs.Readable.{Readable}
 use Rattle.reduction.specs.Reduction.{Reduction, valid, Valid-reduction}
-use Rattle.reduced.specs.Reduced.{tally-left}
+use Rattle.reduced.specs.Reduced.{tally-left, Reduces}
 use Rattle.reduced.specs.between.Held.{mask, flags-of, Leaves}
 use Rattle.reduced.specs.between.Tallied.{tallied}
 use Rattle.elimination.specs.declared.single.Elimination.{Elimination}
 use Rattle.elimination.specs.declared.single.Elimination.the-variants.{Plain, Greedy}
 use Rattle.elimination.specs.between.Left.{left-by}
-use Rattle.elimination.proofs.LeavesLaws.{left-valid, left-leaves, counted-left}
-use Rattle.cheaper.specs.Cheaper.{cheaper-of}
+use Rattle.elimination.proofs.LeavesLaws.{rule-leaves, left-valid, left-leaves, counted-left}
+use Rattle.plan.specs.declared.check.Answer.{Answer}
+use Rattle.reduced.proofs.LodgedLaws.{lodged-valid}
+use Rattle.cheaper.specs.Cheaper.{Left-by-cheaper, Reduces-cheaper}
+use Rattle.cheaper.specs.between.Computed.{cheaper-of}
 
 module _ (w l : List ℕ) (readable : Readable w l) (valid-list : valid (initial w) (goal w) (steps w l) ≡ true) where
   -- the cheaper, by the order of both tallies
@@ -57,3 +60,26 @@ module _ (w l : List ℕ) (readable : Readable w l) (valid-list : valid (initial
   cheaper-valid =
       let (by, taken) = cheaper-is in
       subst (Valid-reduction (initial w) (goal w) (steps w l)) (sym taken) (left-valid w l readable valid-list by)
+
+-- what is computed is what the rules leave, and nothing else
+module _ (w l : List ℕ) (valid-list : valid (initial w) (goal w) (steps w l) ≡ true) where
+  pub cheaper-so : Left-by-cheaper w l (cheaper-of w l)
+  unfolding cheaper-of
+  cheaper-so =
+      record {
+        first = left-by Plain w l;
+        second = left-by Greedy w l;
+        by-elimination = rule-leaves w l valid-list Plain (left-by Plain w l) .0 refl;
+        by-greedy = rule-leaves w l valid-list Greedy (left-by Greedy w l) .0 refl;
+        chosen = refl;
+      }
+
+  pub cheaper-once : (m : Reduction) → Left-by-cheaper w l m → m ≡ cheaper-of w l
+  unfolding cheaper-of
+  cheaper-once m left =
+      left .chosen ∙ rw (rule-leaves w l valid-list Plain (left .first) .1 (left .by-elimination), rule-leaves w l valid-list Greedy (left .second) .1 (left .by-greedy))
+
+pub cheaper-answers : (w l before : List ℕ) (given : Answer) (words after : List ℕ) → Reduces w l (cheaper-of w l) before given words after
+    → Reduces-cheaper w l before given words after
+cheaper-answers w l before given words after reduces =
+    record { left = cheaper-of w l; is-left = λ passed. cheaper-so w l (lodged-valid _ w l passed); told = reduces }

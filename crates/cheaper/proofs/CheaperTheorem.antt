@@ -34,8 +34,8 @@ use Rattle.reduced.specs.between.Tallied.{is-less}
 use Rattle.reduced.proofs.LodgedLaws.{roomy, lodged-valid}
 use Rattle.reduced.proofs.LessLaws.{less-lower}
 use Rattle.elimination.specs.between.Left.{elimination-of, greedy-elimination-of, left-by}
-use Rattle.cheaper.specs.Cheaper.{cheaper-of, Reduces-both, cheaper-part}
-use Rattle.cheaper.specs.between.Computed.{Reduces-both-of}
+use Rattle.cheaper.specs.Cheaper.{Reduces-both, cheaper-part}
+use Rattle.cheaper.specs.between.Computed.{cheaper-of, Reduces-both-of}
 use Rattle.cheaper.proofs.ComputedTheorem.{both-of}
 use Rattle.elimination.proofs.LeavesLaws.{left-fits}
 use Rattle.cheaper.proofs.CheaperLaws.{cheaper-taken}

@@ -8,16 +8,16 @@ use lib.ListN.{length, take}
 use Rattle.refusal.specs.declared.Verdict.{Verdict}
 use Rattle.refusal.specs.Refusal.{Told, told}
 use Rattle.refusal.specs.Check.{answer, unless-refused}
+use Rattle.plan.specs.declared.check.Answer.{Answer}
 use Rattle.tally.specs.declared.Tally.{Tally}
 use Rattle.tally.specs.declared.Order.{Order}
 use Rattle.tally.specs.declared.Order.the-variants.{Less, Equal, Greater}
 use Rattle.tally.specs.Tally.{nothing, comparison}
 use Rattle.reduction.specs.Reduction.{Reduction}
-use Rattle.reduced.specs.Reduced.{reduction-checks, tally-left, output-left, Tells-left}
+use Rattle.reduced.specs.Reduced.{reduction-checks, tally-left, output-left, Tells-left, Reduces}
 use Rattle.elimination.specs.declared.single.Elimination.{Elimination}
 use Rattle.elimination.specs.declared.single.Elimination.the-variants.{Plain, Greedy}
 use Rattle.elimination.specs.Eliminations.{Left-by-rule}
-use Rattle.elimination.specs.between.Left.{elimination-of, greedy-elimination-of}
 
 -- "lower price, then fewer steps, then elimination's": of elimination's and greedy elimination's, by how the second
 -- tally compares with the first
@@ -26,11 +26,19 @@ cheaper-one Less first second = second
 cheaper-one Equal first second = first
 cheaper-one Greater first second = first
 
--- what the cheaper of the two leaves
-unfoldable pub cheaper-of : List ℕ → List ℕ → Reduction
-cheaper-of w l =
-    cheaper-one (comparison (tally-left w l (greedy-elimination-of w l)) (tally-left w l (elimination-of w l)))
-    (elimination-of w l) (greedy-elimination-of w l)
+-- what the cheaper of the two leaves, of what both leave by their rules
+pub record Left-by-cheaper (w l : List ℕ) (m : Reduction) : Type 0 where
+  pub first : Reduction
+  pub second : Reduction
+  pub by-elimination : Left-by-rule Plain w l first
+  pub by-greedy : Left-by-rule Greedy w l second
+  pub chosen : m ≡ cheaper-one (comparison (tally-left w l second) (tally-left w l first)) first second
+
+-- the service of what it leaves
+abbrev pub Reduces-cheaper : List ℕ → List ℕ → List ℕ → Answer → List ℕ → List ℕ → Type 0
+Reduces-cheaper w l before given mask after =
+    Tells-left (Left-by-cheaper w l) (λ m. Reduces w l m before given mask after)
+    (answer (reduction-checks w l (length before)))
 
 -- what one of the two leaves by its rule, of checks that answer t: its tally, and its list over a lent output
 abbrev pub Left-with : Option Told → Elimination → List ℕ → List ℕ → List ℕ → Tally → List ℕ → Type 0

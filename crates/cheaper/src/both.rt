@@ -19,7 +19,8 @@ ghost use Rattle.sheet.specs.Decode.{goal, initial};
 ghost use Rattle.plan.specs.Valid.{steps};
 ghost use Rattle.plan.specs.Readable.{Readable};
 ghost use Rattle.reduced.specs.between.Held.{flags-of};
-ghost use Rattle.cheaper.specs.Cheaper.{Reduces-both, cheaper-of, cheaper-part};
+ghost use Rattle.cheaper.specs.Cheaper.{Reduces-both, cheaper-part};
+ghost use Rattle.cheaper.specs.between.Computed.{cheaper-of};
 
 // Both tallies, elimination's first, or a refusal, with its tallies zero.
 pub struct Both {

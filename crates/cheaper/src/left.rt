@@ -6,13 +6,11 @@ use plan::limits::Plan;
 use reduced::answer::Reduced;
 use reduced::finish::finish;
 use reduced::room::check_room;
-ghost use Rattle.reduced.specs.Reduced.{Reduces};
-ghost use Rattle.cheaper.specs.Cheaper.{cheaper-of};
+ghost use Rattle.cheaper.specs.Cheaper.{Reduces-cheaper};
 
 // Writes what the cheaper elimination leaves of a plan to the front of `out`.
 pub fn cheaper_left(words: &[u32], plan: &[u32], out: &mut [u32]) -> Reduced
-    ensures { λ r. ⌜ Reduces (now (words .entry)) (now (plan .entry))
-        (cheaper-of (now (words .entry)) (now (plan .entry)))
+    ensures { λ r. ⌜ Reduces-cheaper (now (words .entry)) (now (plan .entry))
         (now (out .entry)) (r .answer) (r .mask .words) (now (out .exit)) ⌝ }
 {
     let checked = check_lodged(words, plan, Plan::STEPS, check_room(plan.len(), out.len()));

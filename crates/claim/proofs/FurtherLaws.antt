@@ -36,7 +36,7 @@ use Rattle.reduced.proofs.TalliedLaws.{kept-steps}
 use Rattle.reduced.proofs.AnswerLaws.{keeps, answers-kept}
 use Rattle.landmark.specs.Marks.{marks, marked, unmarked}
 use Rattle.landmark.proofs.MarkTheorem.{marks-length}
-use Rattle.cheaper.specs.Cheaper.{cheaper-of}
+use Rattle.cheaper.specs.between.Computed.{cheaper-of}
 use Rattle.cheaper.proofs.CheaperLaws.{cheaper-valid, cheaper-leaves}
 use Rattle.minimal.specs.declared.within.Shortened.{Shortened}
 use Rattle.minimal.specs.Minimised.{most-unmarked, minimal-checks, Minimises}
@@ -46,8 +46,7 @@ use Rattle.minimal.proofs.DemandThree.{is-minimal, many-refused, refused-many, 
 use Rattle.claim.specs.declared.answer.Claim.{Claim}
 use Rattle.claim.specs.declared.answer.Claim.the-variants.{Irreducible, Open}
 use Rattle.claim.specs.declared.answer.Licensed.{Licensed}
-use Rattle.claim.specs.between.Computed.{Licenses-of, claim-of, claimed-by}
-use Rattle.claim.specs.Statement.{cheaper-list}
+use Rattle.claim.specs.between.Computed.{Licenses-of, claim-of, claimed-by, cheaper-list}
 use Rattle.claim.specs.between.Further.{Goes-further}
 use Rattle.claim.proofs.LicenceTheorem.{cheaper-readable, cheaper-plan, claims-irreducible, claims-open}
 

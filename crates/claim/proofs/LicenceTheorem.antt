@@ -24,9 +24,10 @@ use Rattle.reduced.proofs.TalliedLaws.{kept-steps}
 use Rattle.landmark.specs.Marks.{unmarked}
 use Rattle.elimination.specs.declared.single.Elimination.{Elimination}
 use Rattle.elimination.specs.between.Left.{left-by}
-use Rattle.cheaper.specs.Cheaper.{cheaper-of}
+use Rattle.cheaper.specs.between.Computed.{cheaper-of}
 use Rattle.elimination.proofs.LeavesLaws.{rule-leaves, left-valid}
-use Rattle.cheaper.proofs.CheaperLaws.{cheaper-valid}
+use Rattle.cheaper.specs.Cheaper.{Left-by-cheaper}
+use Rattle.cheaper.proofs.CheaperLaws.{cheaper-so, cheaper-once, cheaper-valid}
 use Rattle.cheaper.proofs.CheaperTheorem.{cheaper-no-dearer}
 use Rattle.minimal.specs.Minimised.{most-unmarked}
 use Rattle.minimal.specs.between.Computed.{minimal-of}
@@ -34,8 +35,8 @@ use Rattle.minimal.specs.Statement.{Valid-striking}
 use Rattle.minimal.proofs.DemandThree.{valid-list, is-minimal, are-marks}
 use Rattle.claim.specs.declared.answer.Claim.{Claim}
 use Rattle.claim.specs.declared.answer.Claim.the-variants.{Least, Irreducible, Open}
-use Rattle.claim.specs.between.Computed.{claim-of, claimed-by, licensed-of}
-use Rattle.claim.specs.Statement.{cheaper-list, Nothing-to-strike, Marked-is-whole, Claimed, Licence}
+use Rattle.claim.specs.between.Computed.{claim-of, claimed-by, licensed-of, cheaper-list}
+use Rattle.claim.specs.Statement.{Nothing-to-strike, Marked-is-whole, Claimed, Licence}
 
 whole-steps : (w l : List ℕ) → whole (steps w l) ≡ whole l
 whole-steps w l = ap (λ n. replicate n true) (length-map l (action w))
@@ -68,6 +69,12 @@ module _ (w l : List ℕ) (readable : Readable w l) (plan : Plan (task w) (steps
       ∙ ap whole (kept-steps w l m) ∙ whole-steps w (kept m l)
 
 module _ (w l : List ℕ) (readable : Readable w l) (plan : Plan (task w) (steps w l)) where
+  by-cheaper : Left-by-cheaper w l (cheaper-of w l)
+  by-cheaper = cheaper-so w l (valid-list w l readable plan)
+
+  cheaper-is-of : (m : Reduction) → Left-by-cheaper w l m → m ≡ cheaper-of w l
+  cheaper-is-of m left = cheaper-once w l (valid-list w l readable plan) m left
+
   cheaper-reduction : Valid-striking w l (cheaper-of w l)
   cheaper-reduction = cheaper-valid w l readable (valid-list w l readable plan)
 
@@ -129,7 +136,6 @@ module _ (w l : List ℕ) (readable : Readable w l) (plan : Plan (task w) (steps
       (record {
         claimed = claimed;
         flagged = are-marks w;
-        eliminated = rule-leaves w l (valid-list w l readable plan);
         valid-left = valid-left;
         plan-left = reduced-plan (task w) (steps w l) (claimed-by claim w l) plan valid-left;
         no-dearer = λ by m leaves. subst (λ n. cost (kept (claimed-by claim w l) (steps w l)) ≤ cost (kept n (steps w l)))
@@ -146,9 +152,9 @@ module _ (w l : List ℕ) (readable : Readable w l) (plan : Plan (task w) (steps
           → Licence w l (claim-of w l) (licensed-of w l)
       by-case true e c f = licence-for Least (claims-least e) (least .valid) minimal-dear (leb-true (unmarked w l) most-unmarked e, least, nothing-left w l readable plan (minimal-of w l) least)
       by-case false e true f = licence-for Irreducible (claims-irreducible e f) both-valid both-dear
-          (leb-false (unmarked w l) most-unmarked e, leb-true (unmarked w (cheaper-list w l)) most-unmarked f, (minimal-of w (cheaper-list w l), minimal-there, refl), both-nothing)
+          (leb-false (unmarked w l) most-unmarked e, (cheaper-of w l, minimal-of w (cheaper-list w l), by-cheaper, leb-true (unmarked w (cheaper-list w l)) most-unmarked f, minimal-there, refl), both-nothing)
       by-case false e false f = licence-for (Open (unmarked w (cheaper-list w l))) (claims-open e f) cheaper-reduction cheaper-dear
-          (leb-false (unmarked w l) most-unmarked e, leb-false (unmarked w (cheaper-list w l)) most-unmarked f, refl, refl)
+          (leb-false (unmarked w l) most-unmarked e, leb-false (unmarked w (cheaper-list w l)) most-unmarked f, refl, by-cheaper)
 
   -- and there is no other licence
   pub licence-once : (claim : Claim) (left : Reduction) → Licence w l claim left → (claim ≡ claim-of w l) × (left ≡ licensed-of w l)
@@ -157,12 +163,18 @@ module _ (w l : List ℕ) (readable : Readable w l) (plan : Plan (task w) (steps
       let claims : claim-of w l ≡ Least = claims-least (le-leb (unmarked w l) most-unmarked few) in
       (sym claims, minimal-once (λ m v. v .fits) minimal (is-minimal w l readable plan) ∙ ap (λ c. claimed-by c w l) (sym claims))
   licence-once Irreducible left licence =
-      let (many, few, (m, minimal, through), nothing) = licence .claimed in
+      let (many, (c, m, leaves, few, minimal, through), nothing) = licence .claimed in
+      let is : c ≡ cheaper-of w l = cheaper-is-of c leaves in
+      let few-there : unmarked w (cheaper-list w l) ≤ most-unmarked = subst (λ x. unmarked w (kept x l) ≤ most-unmarked) is few in
+      let of-it : Minimal-reduction (initial w) (goal w) (steps w (cheaper-list w l)) m = subst (λ x. Minimal-reduction (initial w) (goal w) (steps w (kept x l)) m) is minimal in
       let claims : claim-of w l ≡ Irreducible =
-      claims-irreducible (lt-leb (unmarked w l) most-unmarked many) (le-leb (unmarked w (cheaper-list w l)) most-unmarked few) in
-      (sym claims, through ∙ ap (compose (cheaper-of w l)) (minimal-once (λ n v. v .fits) minimal minimal-there) ∙ ap (λ c. claimed-by c w l) (sym claims))
+      claims-irreducible (lt-leb (unmarked w l) most-unmarked many) (le-leb (unmarked w (cheaper-list w l)) most-unmarked few-there) in (
+        sym claims,
+        through ∙ ap (λ x. compose x m) is ∙ ap (compose (cheaper-of w l)) (minimal-once (λ n v. v .fits) of-it minimal-there) ∙ ap (λ x. claimed-by x w l) (sym claims),
+      )
   licence-once (Open n) left licence =
-      let (many, still, counted, is) = licence .claimed in
+      let (many, still, counted, leaves) = licence .claimed in
+      let is : left ≡ cheaper-of w l = cheaper-is-of left leaves in
       let there : n ≡ unmarked w (cheaper-list w l) = counted ∙ ap (λ m. unmarked w (kept m l)) is in
       let claims : claim-of w l ≡ Open n =
       claims-open (lt-leb (unmarked w l) most-unmarked many) (lt-leb (unmarked w (cheaper-list w l)) most-unmarked (subst (λ k. most-unmarked < k) there still)) ∙ ap Open (sym there) in

@@ -14,9 +14,8 @@ use Rattle.plan.specs.Readable.{Readable}
 use Rattle.reduced.specs.Reduced.{Answers}
 use Rattle.landmark.specs.Marks.{marks, unmarked}
 use Rattle.elimination.specs.declared.single.Elimination.{Elimination}
-use Rattle.elimination.specs.Eliminations.{Left-by-rule, Rule-leaves}
-use Rattle.elimination.specs.between.Left.{left-by}
-use Rattle.cheaper.specs.Cheaper.{cheaper-of}
+use Rattle.elimination.specs.Eliminations.{Left-by-rule}
+use Rattle.cheaper.specs.Cheaper.{Left-by-cheaper}
 use Rattle.minimal.specs.Minimised.{most-unmarked}
 use Rattle.minimal.specs.Statement.{Is-marked, Are-marks, Valid-striking}
 use Rattle.claim.specs.declared.answer.Claim.{Claim}
@@ -37,10 +36,6 @@ module _ (w l : List ℕ) where
   Marked-is-whole =
       Readable w l → Plan (task w) (steps w l) → All-marked → (m : Reduction) → Valid-striking w l m ↔ (m ≡ whole l)
 
--- the list that the cheaper elimination leaves of the list l of the sheet w
-abbrev pub cheaper-list : List ℕ → List ℕ → List ℕ
-cheaper-list w l = kept (cheaper-of w l) l
-
 module _ (w l : List ℕ) where
   -- when a claim is made, and what it says of the reduction `left` of the lodged list l. Least: at most 20 moves are
   -- unmarked, and `left` is document 01's exact reduction. Irreducible: more are, but at most 20 of what the cheaper
@@ -51,11 +46,11 @@ module _ (w l : List ℕ) where
       (unmarked w l ≤ most-unmarked) × Minimal-reduction (initial w) (goal w) (steps w l) left
       × Nothing-to-strike w (kept left l)
   Claimed Irreducible left =
-      (most-unmarked < unmarked w l) × (unmarked w (cheaper-list w l) ≤ most-unmarked)
-      × ((m : Reduction) × Minimal-reduction (initial w) (goal w) (steps w (cheaper-list w l)) m
-      × (left ≡ compose (cheaper-of w l) m)) × Nothing-to-strike w (kept left l)
+      (most-unmarked < unmarked w l) × ((c : Reduction) × (m : Reduction) × Left-by-cheaper w l c
+      × (unmarked w (kept c l) ≤ most-unmarked) × Minimal-reduction (initial w) (goal w) (steps w (kept c l)) m
+      × (left ≡ compose c m)) × Nothing-to-strike w (kept left l)
   Claimed (Open n) left =
-      (most-unmarked < unmarked w l) × (most-unmarked < n) × (n ≡ unmarked w (kept left l)) × (left ≡ cheaper-of w l)
+      (most-unmarked < unmarked w l) × (most-unmarked < n) × (n ≡ unmarked w (kept left l)) × Left-by-cheaper w l left
 
   -- a claim and the reduction that it is made of
   pub record Licence (claim : Claim) (left : Reduction) : Type 0 where
@@ -63,8 +58,6 @@ module _ (w l : List ℕ) where
     pub claimed : Claimed claim left
     -- `unmarked` is the number of all moves that are not marked, of any list of the sheet
     pub flagged : (some : List ℕ) → Are-marks w some (marks w some)
-    -- what each elimination is said to leave is left by its rule, and nothing else is
-    pub eliminated : (by : Elimination) → Rule-leaves by w l (left-by by w l)
     -- the list left is valid: a plan of the task, and the lodged list with steps struck
     pub valid-left : Valid-striking w l left
     pub plan-left : Plan (task w) (kept left (steps w l))

@@ -20,8 +20,9 @@ use Rattle.elimination.specs.between.Left.{left-by}
 use Rattle.elimination.proofs.LeavesLaws.{rule-leaves, left-fits}
 use Rattle.claim.specs.declared.answer.Claim.{Claim}
 use Rattle.claim.specs.Statement.{Licence}
-use Rattle.cheaper.specs.Cheaper.{cheaper-of}
-use Rattle.cheaper.proofs.CheaperLaws.{cheaper-valid}
+use Rattle.cheaper.specs.between.Computed.{cheaper-of}
+use Rattle.cheaper.specs.Cheaper.{Left-by-cheaper}
+use Rattle.cheaper.proofs.CheaperLaws.{cheaper-once, cheaper-valid}
 use Rattle.minimal.specs.Minimised.{most-unmarked, minimal-checks}
 use Rattle.minimal.proofs.ComputedTheorem.{first-pass}
 
@@ -43,8 +44,10 @@ module _ (w l : List ℕ) (room : ℕ) where
   pub computed-flags : (by : Elimination) → answer (reduction-checks w l room) ≡ none → Flags-each l (left-by by w l) room
   computed-flags by passed = passed-flags (left-by by w l) passed (left-fits w l (passed-readable _ _ w l passed) (lodged-valid _ w l passed) by)
 
-  pub cheaper-of-flags : answer (reduction-checks w l room) ≡ none → Flags-each l (cheaper-of w l) room
-  cheaper-of-flags passed = passed-flags (cheaper-of w l) passed (cheaper-valid w l (passed-readable _ _ w l passed) (lodged-valid _ w l passed) .fits)
+  pub cheaper-flags-each : (m : Reduction) → answer (reduction-checks w l room) ≡ none → Left-by-cheaper w l m → Flags-each l m room
+  cheaper-flags-each m passed leaves =
+      subst (λ n. Flags-each l n room) (sym (cheaper-once w l (lodged-valid _ w l passed) m leaves))
+      (passed-flags (cheaper-of w l) passed (cheaper-valid w l (passed-readable _ _ w l passed) (lodged-valid _ w l passed) .fits))
 
   pub elimination-flags : (by : Elimination) (m : Reduction) → answer (reduction-checks w l room) ≡ none → Left-by-rule by w l m → Flags-each l m room
   elimination-flags by m passed leaves =

@@ -25,7 +25,7 @@ use Rattle.mask.proofs.MaskTheorem.{front-and-rest}
 use Rattle.course.specs.Course.{course-checks}
 use Rattle.reduced.specs.Reduced.{room-checks, reduction-checks, output-left}
 use Rattle.elimination.specs.declared.single.Elimination.the-variants.{Plain, Greedy}
-use Rattle.cheaper.specs.Cheaper.{cheaper-of, cheaper-part}
+use Rattle.cheaper.specs.Cheaper.{cheaper-part}
 use Rattle.minimal.specs.Minimised.{most-unmarked, unmarked-checks, minimal-checks}
 use Rattle.sas.specs.Task.{Task}
 use Rattle.translation.specs.declared.translate.Translated.{Translated}
@@ -35,7 +35,7 @@ use Rattle.translation.specs.between.Checks.{text-task, task-checks, translatio
 use Rattle.demands.specs.One.{Output-lent, Demand-one}
 use Rattle.demands.specs.One.{sheet-numbers, step-numbers, read-numbers, list-numbers, greedy-numbers, exact-numbers, text-numbers}
 use Rattle.demands.proofs.FireLaws.{refuses-just}
-use Rattle.demands.proofs.FitLaws.{Flags-each, elimination-flags, cheaper-of-flags, minimal-flags, licensed-flags}
+use Rattle.demands.proofs.FitLaws.{Flags-each, elimination-flags, cheaper-flags-each, minimal-flags, licensed-flags}
 
 abbrev number-of : Check → ℕ
 number-of c = c .number
@@ -128,11 +128,12 @@ demand-one =
             (λ h. (_, min-le-right (length before) (length before′), elimination-flags w l _ Greedy _ (sym (both .refusal) ∙ h) (both .greedy .is-left h))),
       );
       cheaper-shown = λ first second t u part is. rw is (part-shown first second t u _ refl);
-      cheaper-left = λ w l before given mask after reduces. (
-        refuses-just _ _ _ (greedy-numbered w l (length before)) (reduces .refusal),
-        output-lent _ l (cheaper-of w l) before after (rw (← reduces .refusal) at (reduces .output))
-            (λ h. (length before, omega arith, cheaper-of-flags w l (length before) (sym (reduces .refusal) ∙ h))),
-      );
+      cheaper-left = λ w l before given mask after cheaper.
+          let reduces = cheaper .told in (
+            refuses-just _ _ _ (greedy-numbered w l (length before)) (reduces .refusal),
+            output-lent _ l (cheaper .left) before after (rw (← reduces .refusal) at (reduces .output))
+                (λ h. let passed = sym (reduces .refusal) ∙ h in (length before, omega arith, cheaper-flags-each w l (length before) _ passed (cheaper .is-left passed))),
+          );
       moves = λ w l mask marks given before after moves. (
         refuses-just _ _ _ (read-numbered w l) (moves .refusal),
         λ t h. rw (← moves .refusal, h) at (moves .rows),

@@ -18,11 +18,11 @@ use Rattle.step.specs.Step.{step-checks, Steps, After}
 use Rattle.plan.specs.declared.check.Answer.{Answer}
 use Rattle.plan.specs.Checked.{plan-checks, told-answer, Checks}
 use Rattle.course.specs.Course.{course-checks, Courses}
-use Rattle.reduced.specs.Reduced.{reduction-checks, Reduces}
+use Rattle.reduced.specs.Reduced.{reduction-checks}
 use Rattle.landmark.specs.Marks.{Masks}
 use Rattle.elimination.specs.declared.single.Elimination.{Elimination}
 use Rattle.elimination.specs.Eliminations.{Eliminates}
-use Rattle.cheaper.specs.Cheaper.{cheaper-of, Reduces-both, cheaper-part}
+use Rattle.cheaper.specs.Cheaper.{Reduces-cheaper, Reduces-both, cheaper-part}
 use Rattle.moves.specs.Moves.{moves-checks, Moves}
 use Rattle.minimal.specs.declared.within.Shortened.{Shortened}
 use Rattle.minimal.specs.Minimised.{most-unmarked, minimal-checks, Minimises}
@@ -129,9 +129,9 @@ pub record Demand-one : Type 0 where
       → (part ≡ take (of-first .steps) first) ⊎ (part ≡ take (of-second .steps) second)
   -- 1.2, 1.3, 1.5 and 1.6: what the cheaper leaves
   pub cheaper-left : (w l before : List ℕ) (given : Answer) (mask after : List ℕ)
-      → Reduces w l (cheaper-of w l) before given mask after
+      (reduces : Reduces-cheaper w l before given mask after)
       → Refuses-just greedy-numbers (reduction-checks w l (length before)) (told-answer given)
-      × Output-lent (told-answer given) l (cheaper-of w l) before after
+      × Output-lent (told-answer given) l (reduces .left) before after
   -- 1.5 and 1.6: what each move costs, and what becomes of it
   pub moves : (w l mask marks : List ℕ) (given : Answer) (before after : List ℕ)
       → Moves w l mask marks given before after

@@ -26,11 +26,13 @@ use Rattle.plan.proofs.PlanTheorem.{passes-exactly}
 use Rattle.reduced.specs.Reduced.{tally-left}
 use Rattle.landmark.specs.Marks.{marks, unmarked}
 use Rattle.landmark.proofs.MarkTheorem.{marks-theorem}
-use Rattle.cheaper.specs.Cheaper.{cheaper-of}
+use Rattle.cheaper.specs.between.Computed.{cheaper-of}
 use Rattle.minimal.specs.between.Computed.{minimal-of}
 use Rattle.claim.specs.declared.answer.Claim.the-variants.{Irreducible}
-use Rattle.claim.specs.between.Computed.{claim-of, claimed-by, licensed-of}
-use Rattle.claim.specs.Statement.{cheaper-list, Licence, All-marked}
+use Rattle.claim.specs.between.Computed.{claim-of, claimed-by, licensed-of, cheaper-list}
+use Rattle.claim.specs.Statement.{Licence, All-marked}
+use Rattle.cheaper.proofs.CheaperLaws.{cheaper-so}
+use Rattle.minimal.proofs.DemandThree.{valid-list}
 use Rattle.claim.proofs.LicenceTheorem.{licence-of, marked-is-whole}
 use Rattle.starred.specs.Sheets.{sheet-p}
 use Rattle.starred.specs.Rounds.{list-3}
@@ -46,6 +48,8 @@ licensed r m passes left others claims is positions tally =
     record {
       readable = readable;
       plan = plan;
+      cheaper = cheaper-of (r .sheet) (r .list);
+      by-cheaper = cheaper-so (r .sheet) (r .list) (valid-list (r .sheet) (r .list) readable plan);
       cheaper-left = left;
       unmarked-there = others;
       left = m;

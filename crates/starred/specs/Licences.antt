@@ -6,16 +6,17 @@ use mathlib.Core.Logic.{_↔_}
 use mathlib.Core.List.{List, [], _∷_, _++_, map}
 use lib.ListN.{length, replicate}
 use Rattle.sas.specs.Plan.{Plan}
-use Rattle.reduction.specs.Reduction.{Reduction, keeps, whole}
+use Rattle.reduction.specs.Reduction.{Reduction, keeps, kept, whole}
 use Rattle.sheet.specs.Decode.{task}
 use Rattle.plan.specs.Valid.{steps}
 use Rattle.plan.specs.Readable.{Readable}
 use Rattle.reduced.specs.Reduced.{tally-left}
 use Rattle.landmark.specs.Marks.{unmarked}
+use Rattle.cheaper.specs.Cheaper.{Left-by-cheaper}
 use Rattle.minimal.specs.Statement.{Valid-striking}
 use Rattle.claim.specs.declared.answer.Claim.{Claim}
 use Rattle.claim.specs.declared.answer.Claim.the-variants.{Least, Irreducible, Open}
-use Rattle.claim.specs.Statement.{cheaper-list, Licence, All-marked}
+use Rattle.claim.specs.Statement.{Licence, All-marked}
 use Rattle.starred.specs.Sheets.{sheet-p}
 use Rattle.starred.specs.Rows.{Each, Just-at}
 use Rattle.starred.specs.Rounds.{list-3}
@@ -36,8 +37,10 @@ pub record Licence-row : Type 0 where
 pub record Row-licensed (r : Licence-row) : Type 0 where
   pub readable : Readable (r .sheet) (r .list)
   pub plan : Plan (task (r .sheet)) (steps (r .sheet) (r .list))
-  pub cheaper-left : length (cheaper-list (r .sheet) (r .list)) ≡ r .eliminated
-  pub unmarked-there : unmarked (r .sheet) (cheaper-list (r .sheet) (r .list)) ≡ r .others
+  pub cheaper : Reduction
+  pub by-cheaper : Left-by-cheaper (r .sheet) (r .list) cheaper
+  pub cheaper-left : length (kept cheaper (r .list)) ≡ r .eliminated
+  pub unmarked-there : unmarked (r .sheet) (kept cheaper (r .list)) ≡ r .others
   pub left : Reduction
   pub licence : Licence (r .sheet) (r .list) (r .claim) left
   pub just : Just-at (r .positions) (keeps left)

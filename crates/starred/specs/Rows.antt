@@ -22,7 +22,7 @@ use Rattle.reduced.specs.Reduced.{reduction-checks, tally-left}
 use Rattle.landmark.specs.Marks.{marks}
 use Rattle.elimination.specs.declared.single.Elimination.the-variants.{Plain, Greedy}
 use Rattle.elimination.specs.Eliminations.{Rule-leaves}
-use Rattle.elimination.specs.between.Left.{elimination-of, greedy-elimination-of}
+use Rattle.elimination.specs.between.Left.{left-by}
 use Rattle.minimal.specs.Minimised.{most-unmarked, minimal-checks}
 use Rattle.minimal.specs.between.Computed.{minimal-of}
 use Rattle.minimal.specs.Statement.{Is-marked, Valid-striking}
@@ -69,8 +69,8 @@ Just-at positions P = (i : ℕ) → P i ↔ List·Memᴰ (i + 1) positions
 module _ (w l : List ℕ) where
   -- what a way of striking leaves
   abbrev pub struck-by : Way → Reduction
-  struck-by elimination = elimination-of w l
-  struck-by greedily = greedy-elimination-of w l
+  struck-by elimination = left-by Plain w l
+  struck-by greedily = left-by Greedy w l
   struck-by minimally = minimal-of w l
 
   -- the checks of its service, with an output as long as the list
@@ -81,8 +81,8 @@ module _ (w l : List ℕ) where
 
   -- what it leaves is left by its rule in document 01, and nothing else is
   abbrev pub By-rule : Way → Type 0
-  By-rule elimination = Rule-leaves Plain w l (elimination-of w l)
-  By-rule greedily = Rule-leaves Greedy w l (greedy-elimination-of w l)
+  By-rule elimination = Rule-leaves Plain w l (left-by Plain w l)
+  By-rule greedily = Rule-leaves Greedy w l (left-by Greedy w l)
   By-rule minimally = Minimal-reduction (initial w) (goal w) (steps w l) (minimal-of w l)
 
   -- a way of striking answers, and keeps just these positions, at this price, told by these words

@@ -17,7 +17,7 @@ use Rattle.reduced.specs.Reduced.{reduction-checks, tally-left, output-left, Te
 use Rattle.elimination.specs.declared.single.Elimination.{Elimination}
 use Rattle.elimination.specs.declared.single.Elimination.the-variants.{Plain, Greedy}
 use Rattle.elimination.specs.Eliminations.{Left-by-rule}
-use Rattle.cheaper.specs.Cheaper.{cheaper-of}
+use Rattle.cheaper.specs.Cheaper.{Left-by-cheaper}
 use Rattle.minimal.specs.Minimised.{most-unmarked, minimal-checks}
 use Rattle.claim.specs.declared.answer.Claim.{Claim}
 use Rattle.claim.specs.declared.answer.Claim.the-variants.{Least, Irreducible, Open}
@@ -45,8 +45,7 @@ Eliminates-lent by w l output = Left-lent (Left-by-rule by w l) (reduction-check
 
 -- what the cheaper elimination leaves over lent words
 abbrev pub Cheaper-lent : List ℕ → List ℕ → List ℕ → List ℕ → List ℕ → List ℕ → List ℕ → List ℕ → Type 0
-Cheaper-lent w l output =
-    Answers-lent (answer (reduction-checks w l (length output))) w l (cheaper-of w l) output
+Cheaper-lent w l output = Left-lent (Left-by-cheaper w l) (reduction-checks w l (length output)) w l output
 
 -- the minimal reduction over lent words
 abbrev pub Minimises-lent : List ℕ → List ℕ → List ℕ → List ℕ → List ℕ → List ℕ → List ℕ → List ℕ → Type 0

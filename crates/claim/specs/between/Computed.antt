@@ -6,19 +6,22 @@ use mathlib.Core.Bool.{cond}
 use mathlib.Core.List.{List}
 use lib.Dec.{leb}
 use Rattle.refusal.specs.Check.{unless-refused}
-use Rattle.reduction.specs.Reduction.{Reduction, compose}
+use Rattle.reduction.specs.Reduction.{Reduction, kept, compose}
 use Rattle.tally.specs.Tally.{nothing}
 use Rattle.plan.specs.Checked.{lodged-tally}
 use Rattle.landmark.specs.Marks.{marked, unmarked}
 use Rattle.reduced.specs.Reduced.{Reduces}
-use Rattle.cheaper.specs.Cheaper.{cheaper-of}
+use Rattle.cheaper.specs.between.Computed.{cheaper-of}
 use Rattle.minimal.specs.Minimised.{most-unmarked}
 use Rattle.minimal.specs.between.Computed.{minimal-of}
 use Rattle.claim.specs.declared.answer.Claim.{Claim}
 use Rattle.claim.specs.declared.answer.Claim.the-variants.{Least, Irreducible, Open}
 use Rattle.claim.specs.declared.answer.Licensed.{Licensed}
-use Rattle.claim.specs.Statement.{cheaper-list}
 use Rattle.claim.specs.Licensed.{licence-refusal}
+
+-- the list that the cheaper elimination leaves of the list l of the sheet w
+abbrev pub cheaper-list : List ℕ → List ℕ → List ℕ
+cheaper-list w l = kept (cheaper-of w l) l
 
 -- the strongest claim whose condition is met
 unfoldable pub claim-of : List ℕ → List ℕ → Claim

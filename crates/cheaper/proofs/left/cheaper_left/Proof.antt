@@ -1,5 +1,5 @@
 -- `cheaper_left` meets its contract: a list that passes is valid where both eliminations begin, and the flags are those of the cheaper. Assumes nothing.
-use Rattle.cheaper.proofs.CheaperLaws.{cheaper-leaves}
+use Rattle.cheaper.proofs.CheaperLaws.{cheaper-leaves, cheaper-answers}
 use Rattle.reduced.proofs.AnswerLaws.{keeps, answers-refused, answers-kept}
 use Rattle.reduced.proofs.LodgedLaws.{room-checked, nothing-refused, lodged-valid}
 use Rattle.plan.proofs.PlanLaws.{passed-readable}
@@ -23,7 +23,7 @@ refused-requires c κs = search needs
 returns : tie.Need-returns
 returns c =
     rw (c .refused .ensures .0, c .refused .ensures .1)
-    (answers-refused _ _ _ _ _ _ (room-checked _ _ _ _ _ _ (c .before .before .before .before .before .check-room .ensures) (c .before .before .before .before .check-lodged .ensures)) _ (c .before .before .answer .given .1))
+    (cheaper-answers _ _ _ _ _ _ (answers-refused _ _ _ _ _ _ (room-checked _ _ _ _ _ _ (c .before .before .before .before .before .check-room .ensures) (c .before .before .before .before .check-lodged .ensures)) _ (c .before .before .answer .given .1)))
 
 enum-told : tie.Need-enum-told
 enum-told c = search needs
@@ -60,7 +60,7 @@ returns-2 c =
     let passed = nothing-refused _ _ _ _ _ _ asked checked _ valid in
     let left = cheaper-leaves _ _ (passed-readable _ _ _ _ passed) (lodged-valid _ _ _ passed) _ (c .before .before .before .before .before .before .flags-of-cheaper .ensures) in
     rw (c .told .ensures .0, c .told .ensures .1)
-    (answers-kept _ _ _ _ _ _ (room-checked _ _ _ _ _ _ asked checked) _ _ _ _ _ valid (left .same) (keeps _ _ _ _ _ _ _ (passed-readable _ _ _ _ passed) (left .fits) (c .before .before .before .finish .ensures)))
+    (cheaper-answers _ _ _ _ _ _ (answers-kept _ _ _ _ _ _ (room-checked _ _ _ _ _ _ asked checked) _ _ _ _ _ valid (left .same) (keeps _ _ _ _ _ _ _ (passed-readable _ _ _ _ passed) (left .fits) (c .before .before .before .finish .ensures))))
 
 pub cheaper-left-spec : {M : Type 1} → statement M
 cheaper-left-spec =
