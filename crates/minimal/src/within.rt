@@ -42,7 +42,8 @@ impl Shortened {
 // unmarked. The search has room for so many.
 pub(crate) fn reduce_within(words: &[u32], plan: &[u32], out: &mut [u32], limit: usize) -> Shortened
     requires { ⌜ limit ≤ most-choices ⌝ }
-    ensures { λ r. ⌜ Minimises-of limit (now (words .entry)) (now (plan .entry)) (now (out .entry)) r (now (out .exit)) ⌝ }
+    ensures { λ r. ⌜ Minimises-of limit (now (words .entry)) (now (plan .entry)) (now (out .entry)) r
+        (now (out .exit)) ⌝ }
 {
     let checked = mark_lodged(words, plan, check_room(plan.len(), out.len()));
     let answer = checked.answer;

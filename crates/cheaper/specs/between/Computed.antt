@@ -1,5 +1,5 @@
--- What the cheaper elimination leaves as it is computed (`cheaper-so`, `cheaper-once`: what the rules leave, and nothing
--- else), and what the service of both answers (`both-of`: it can answer nothing else). Assumes nothing.
+-- What the cheaper elimination leaves as it is computed (`cheaper-so`, `cheaper-once`: what the rules leave, and
+-- nothing else), and what the service of both answers (`both-of`: it can answer nothing else). Assumes nothing.
 use Prim.Native.Nat.{ℕ, min}
 use mathlib.Core.Path.{_≡_}
 use mathlib.Core.List.{List}
