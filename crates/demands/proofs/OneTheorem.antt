@@ -27,14 +27,13 @@ use Rattle.reduced.specs.Reduced.{room-checks, reduction-checks, output-left}
 use Rattle.elimination.specs.declared.single.Elimination.the-variants.{Plain, Greedy}
 use Rattle.cheaper.specs.Cheaper.{cheaper-part}
 use Rattle.minimal.specs.Minimised.{most-unmarked, unmarked-checks, minimal-checks}
-use Rattle.sas.specs.Task.{Task}
 use Rattle.translation.specs.declared.translate.Translated.{Translated}
 use Rattle.translation.specs.declared.translate.Translated.the-variants.{Refused, Written}
-use Rattle.translation.specs.Translation.{told-translated}
-use Rattle.translation.specs.between.Checks.{text-task, task-checks, translation-checks, Leaves-task}
+use Rattle.translation.specs.Translation.{told-translated, Leaves}
 use Rattle.demands.specs.One.{Output-lent, Demand-one}
-use Rattle.demands.specs.One.{sheet-numbers, step-numbers, read-numbers, list-numbers, greedy-numbers, exact-numbers, text-numbers}
+use Rattle.demands.specs.One.{sheet-numbers, step-numbers, read-numbers, list-numbers, greedy-numbers, exact-numbers}
 use Rattle.demands.proofs.FireLaws.{refuses-just}
+use Rattle.demands.proofs.TextLaws.{refuses-causes}
 use Rattle.demands.proofs.FitLaws.{Flags-each, elimination-flags, cheaper-flags-each, minimal-flags, licensed-flags}
 
 abbrev number-of : Check → ℕ
@@ -64,14 +63,10 @@ exact-numbered : (limit : ℕ) (w l : List ℕ) (room : ℕ) → map number-of (
 unfolding minimal-checks unmarked-checks lodged-checks read-checks sheet-checks list-checks valid-checks room-checks
 exact-numbered limit w l room = refl
 
-text-numbered : (text : List ℕ) (room : ℕ) → map number-of (translation-checks text room) ≡ text-numbers
-unfolding translation-checks task-checks
-text-numbered text room = refl
-
 -- a text that is refused leaves the output
-refused-leaves : (T : Task) (before after : List ℕ) (r : Translated) → Leaves-task T before r after → (t : Told) → told-translated r ≡ some t → after ≡ before
-refused-leaves T before after (Refused x) leaves t e = leaves
-refused-leaves T before after (Written n) leaves t e = absurd (let no-refusal : 0 ≡ 1 = ap refusals e in omega arith)
+refused-leaves : (sheet before after : List ℕ) (r : Translated) → Leaves sheet before r after → (t : Told) → told-translated r ≡ some t → after ≡ before
+refused-leaves sheet before after (Refused x) leaves t e = leaves
+refused-leaves sheet before after (Written n) leaves t e = absurd (let no-refusal : 0 ≡ 1 = ap refusals e in omega arith)
   where
     refusals : Option Told → ℕ
     refusals none = 0
@@ -150,8 +145,8 @@ demand-one =
             output-lent _ l (licenses .answers .left) before after (rw (← answers .refusal) at (answers .output))
                 (λ h. let passed = sym (answers .refusal) ∙ h in (length before, omega arith, licensed-flags w l (length before) _ _ passed (licenses .answers .is-left passed))),
           );
-      planner-text = λ text before r after translates. (
-        refuses-just _ _ _ (text-numbered text (length before)) (translates .answers),
-        refused-leaves (text-task text) before after r (translates .leaves),
+      planner-text = λ bytes before r after translates. (
+        refuses-causes bytes (length before) (told-translated r) (translates .sheet) (translates .told),
+        refused-leaves (translates .sheet) before after r (translates .leaves),
       );
     }

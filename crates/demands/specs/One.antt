@@ -1,7 +1,7 @@
 -- Demand 1 as one statement. docs/DEMANDS.md has the demand in full, with numbered clauses, and the comments here name
 -- those that a field says. A field for each service says them of whatever the service's contract allows, for lent words
 -- at any length and with anything in them (1.1). Assumes nothing.
-use Prim.Native.Nat.{ℕ, min, _≤_}
+use Prim.Native.Nat.{ℕ, min, _≤_, _<_}
 use mathlib.Core.Path.{_≡_}
 use mathlib.Core.Logic.{_⊎_, _↔_}
 use mathlib.Core.Option.{Option, none, some}
@@ -29,8 +29,10 @@ use Rattle.minimal.specs.Minimised.{most-unmarked, minimal-checks, Minimises}
 use Rattle.claim.specs.declared.answer.Licensed.{Licensed}
 use Rattle.claim.specs.Licensed.{Licenses}
 use Rattle.translation.specs.declared.translate.Translated.{Translated}
-use Rattle.translation.specs.Translation.{told-translated}
-use Rattle.translation.specs.between.Checks.{translation-checks, Answers-checks}
+use Rattle.planner.specs.Text.{Text, most-bytes}
+use Rattle.planner.specs.Meant.{unsayable}
+use Rattle.planner.specs.Broken.{Prints, Breaks}
+use Rattle.translation.specs.Translation.{Sheet-of, told-translated, Translates}
 
 -- none of these checks fires
 abbrev pub None-fires : List Check → Type 0
@@ -76,9 +78,16 @@ greedy-numbers = sheet-numbers ++ (8 ∷ 9 ∷ 10 ∷ 11 ∷ [])
 abbrev pub exact-numbers : List ℕ
 exact-numbers = greedy-numbers ++ (12 ∷ [])
 
--- document 02, C-11: "after a longer text, 13, comes a text that breaks the form, also 13", 14, 15, "then 10"
-abbrev pub text-numbers : List ℕ
-text-numbers = 13 ∷ 13 ∷ 14 ∷ 15 ∷ 10 ∷ []
+-- the cause of a refusal of a planner's text (document 02, C-11), with room for so many words
+pub data Text-cause (bytes : List ℕ) (room : ℕ) : Told → Type 0 where
+  too-long : most-bytes < length bytes → Text-cause bytes room (record { number = 13; place = 0 })
+  broken : {n : ℕ} → length bytes ≤ most-bytes → Breaks bytes n → Text-cause bytes room (record { number = 13; place = n })
+  unsaid : {t : Text} {n : ℕ} → length bytes ≤ most-bytes → Prints t bytes → unsayable t ≡ At n
+      → Text-cause bytes room (record { number = 14; place = n })
+  no-sheet : {t : Text} → length bytes ≤ most-bytes → Prints t bytes → unsayable t ≡ Nowhere
+      → ((w : List ℕ) → Sheet-of t w → ⊥) → Text-cause bytes room (record { number = 15; place = 0 })
+  no-room : {t : Text} {w : List ℕ} → length bytes ≤ most-bytes → Prints t bytes → unsayable t ≡ Nowhere
+      → Sheet-of t w → room < length w → Text-cause bytes room (record { number = 10; place = length w })
 
 -- a lent list output, over which a service writes what the reduction m leaves of the list l
 pub record Output-lent (refusal : Option Told) (l : List ℕ) (m : Reduction) (before after : List ℕ) : Type 0 where
@@ -146,7 +155,7 @@ pub record Demand-one : Type 0 where
   pub licence : (w l before : List ℕ) (r : Licensed) (after : List ℕ) (licenses : Licenses w l before r after)
       → Refuses-just greedy-numbers (reduction-checks w l (length before)) (told-answer (r .told .answer))
       × Output-lent (told-answer (r .told .answer)) l (licenses .answers .left) before after
-  -- 1.5 and 1.6: a planner's text read into a sheet; what an answer writes is `Translates`
-  pub planner-text : (text before : List ℕ) (r : Translated) (after : List ℕ) → Answers-checks text before r after
-      → Refuses-just text-numbers (translation-checks text (length before)) (told-translated r)
+  -- 1.5 and 1.6: a planner's text read into a sheet
+  pub planner-text : (bytes before : List ℕ) (r : Translated) (after : List ℕ) → Translates bytes before r after
+      → ((t : Told) → told-translated r ≡ some t ↔ Text-cause bytes (length before) t)
       × ((t : Told) → told-translated r ≡ some t → after ≡ before)
