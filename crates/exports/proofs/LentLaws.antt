@@ -3,6 +3,7 @@ use Prim.Native.Nat.{ℕ, _≤_}
 use native.Mathlib.Nat.{zero-add}
 use native.Mathlib.Omega.{arith}
 use mathlib.Core.Path.{_≡_, sym, _∙_, ap, subst}
+use mathlib.Core.Option.{none}
 use mathlib.Core.List.{List, [], _∷_, _++_}
 use lib.ListN.{length, take, drop, take-append-drop}
 use lib.Seq.{sets, sets-eq}
@@ -20,10 +21,12 @@ use Rattle.moves.specs.Moves.{Moves}
 use Rattle.landmark.specs.Marks.{Masks}
 use Rattle.translation.specs.declared.translate.Translated.{Translated}
 use Rattle.translation.specs.declared.translate.Translated.the-variants.{Refused, Written}
+use Rattle.translation.specs.Translation.{told-translated, Told-of-bytes}
 use Rattle.translation.specs.between.Checks.{text-sheet, Answers-checks}
+use Rattle.translation.proofs.TranslationTheorem.{told-of-bytes}
 use Rattle.lent.specs.Words.{answer-words, tally-words, lent-state}
 use Rattle.lent.proofs.StoredLaws.{same-stored}
-use Rattle.exports.specs.Services.{Steps-lent, Checks-lent, Courses-lent, Moves-lent, Marks-lent, Translate-lent, Translates-lent}
+use Rattle.exports.specs.Services.{Steps-lent, Checks-lent, Courses-lent, Moves-lent, Marks-lent, Translates-lent}
 
 -- one step, written to lent words
 pub lent-steps : (w : List ℕ) (a : ℕ) (state state′ out out′ read values : List ℕ) (verdict : Verdict) → read ≡ lent-state state → Steps w read a verdict values
@@ -73,10 +76,20 @@ stored-front s before after room front rest =
 
 -- what reading a planner's text has stored, by its answer
 module _ (text output output′ out out′ : List ℕ) (r : Translated) (done : Answers-checks text output r output′) where
+  told-as : (given : Translated) → Answers-checks text output given output′ → Told-of-bytes text (length output) (told-translated given) (text-sheet text)
+  told-as given checks =
+      subst (λ t. Told-of-bytes text (length output) t (text-sheet text)) (sym (checks .answers)) (told-of-bytes text (length output))
+
   pub text-refused : (x : Refusal) → r ≡ Refused x → out′ ≡ sets out 0 (answer-words (told (Refused-verdict x)) ++ (0 ∷ [])) → Translates-lent text output output′ out out′
   text-refused x is written =
       let refuses : Answers-checks text output (Refused x) output′ = rw is at done in
-      subst (λ t. Translate-lent t (text-sheet text) output output′ out out′) (refuses .answers) (record { sheet-left = refuses .leaves; answered = written })
+      record {
+        refusal = told-translated (Refused x);
+        sheet = text-sheet text;
+        told = told-as (Refused x) refuses;
+        sheet-left = refuses .leaves;
+        answered = written;
+      }
 
   pub text-written : (n : ℕ) → r ≡ Written n → out′ ≡ sets out 0 (answer-words (told Passed) ++ (n ∷ [])) → Translates-lent text output output′ out out′
   text-written n is written =
@@ -84,4 +97,10 @@ module _ (text output output′ out out′ : List ℕ) (r : Translated) (done : 
       let counted : n ≡ length (text-sheet text) = writes .leaves .counted in
       let left : output′ ≡ sets output 0 (text-sheet text) =
       stored-front (text-sheet text) output output′ (rw counted at (writes .leaves .room)) (rw counted at (writes .leaves .sheet)) (rw counted at (writes .leaves .rest)) in
-      subst (λ t. Translate-lent t (text-sheet text) output output′ out out′) (writes .answers) (record { sheet-left = left; answered = rw counted at written })
+      record {
+        refusal = none;
+        sheet = text-sheet text;
+        told = told-as (Written n) writes;
+        sheet-left = left;
+        answered = rw counted at written;
+      }

@@ -14,7 +14,7 @@ use Rattle.course.specs.Course.{course, course-checks}
 use Rattle.moves.specs.Moves.{all-rows, saved, moves-checks}
 use Rattle.landmark.specs.Marks.{marks}
 use Rattle.step.specs.Step.{step-checks, state-after}
-use Rattle.translation.specs.between.Checks.{text-sheet, translation-checks}
+use Rattle.translation.specs.Translation.{Told-of-bytes}
 use Rattle.lent.specs.Words.{answer-words, tally-words, lent-state}
 
 -- one step over lent words: the state after it over `state`, of which 64 words are read and written, as far as there
@@ -60,12 +60,11 @@ pub record Mark-lent (t : Option Told) (w l mask mask′ out out′ : List ℕ) 
 abbrev pub Marks-lent : List ℕ → List ℕ → List ℕ → List ℕ → List ℕ → List ℕ → Type 0
 Marks-lent w l = Mark-lent (answer (plan-checks w l)) w l
 
--- a planner's text read into a sheet over lent words, of checks that answer t: the sheet over `output`, the answer and
--- how many words it has over `out`
-pub record Translate-lent (t : Option Told) (sheet output output′ out out′ : List ℕ) : Type 0 where
-  pub sheet-left : output′ ≡ unless-refused t (sets output 0 sheet) output
-  pub answered : out′ ≡ sets out 0 (answer-words t ++ (unless-refused t (length sheet) 0 ∷ []))
-
-abbrev pub Translates-lent : List ℕ → List ℕ → List ℕ → List ℕ → List ℕ → Type 0
-Translates-lent text output =
-    Translate-lent (answer (translation-checks text (length output))) (text-sheet text) output
+-- a planner's text read into a sheet over lent words: the sheet over `output`, the answer and how many words it has
+-- over `out`
+pub record Translates-lent (text output output′ out out′ : List ℕ) : Type 0 where
+  pub refusal : Option Told
+  pub sheet : List ℕ
+  pub told : Told-of-bytes text (length output) refusal sheet
+  pub sheet-left : output′ ≡ unless-refused refusal (sets output 0 sheet) output
+  pub answered : out′ ≡ sets out 0 (answer-words refusal ++ (unless-refused refusal (length sheet) 0 ∷ []))
