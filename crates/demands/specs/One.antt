@@ -81,7 +81,8 @@ exact-numbers = greedy-numbers ++ (12 ∷ [])
 -- the cause of a refusal of a planner's text (document 02, C-11), with room for so many words
 pub data Text-cause (bytes : List ℕ) (room : ℕ) : Told → Type 0 where
   too-long : most-bytes < length bytes → Text-cause bytes room (record { number = 13; place = 0 })
-  broken : {n : ℕ} → length bytes ≤ most-bytes → Breaks bytes n → Text-cause bytes room (record { number = 13; place = n })
+  broken : {n : ℕ} → length bytes ≤ most-bytes → Breaks bytes n
+      → Text-cause bytes room (record { number = 13; place = n })
   unsaid : {t : Text} {n : ℕ} → length bytes ≤ most-bytes → Prints t bytes → unsayable t ≡ At n
       → Text-cause bytes room (record { number = 14; place = n })
   no-sheet : {t : Text} → length bytes ≤ most-bytes → Prints t bytes → unsayable t ≡ Nowhere

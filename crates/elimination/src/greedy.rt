@@ -85,7 +85,8 @@ fn round(words: &[u32], plan: &[u32], flags: [bool; Plan::STEPS]) -> Best
 pub(crate) fn greedy(words: &[u32], plan: &[u32]) -> [bool; Plan::STEPS]
     requires { ⌜ Readable (now words) (now plan) ⌝ }
     requires { ⌜ valid (initial-of (now words)) (goal (now words)) (steps (now words) (now plan)) ≡ true ⌝ }
-    ensures { λ r. ⌜ r ≡ flags-of (now (plan .entry)) (greedy-elimination-of (now (words .entry)) (now (plan .entry))) ⌝ }
+    ensures { λ r. ⌜ r ≡ flags-of (now (plan .entry))
+        (greedy-elimination-of (now (words .entry)) (now (plan .entry))) ⌝ }
 {
     let mut flags = all_kept(plan.len());
     let mut rounds = 0;

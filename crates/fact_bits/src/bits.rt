@@ -1,6 +1,6 @@
-// Two words for each unflagged step of a plan. In one, bit k is one when fact k of those that the step may write is wanted
-// behind the step; in the other, when no later step and not the goal needs it. A fact past the last bit has none, and is
-// taken as not wanted, which bars less, and as needed, so that its step counts as of use.
+// Two words for each unflagged step of a plan. In one, bit k is one when fact k of those that the step may write is
+// wanted behind the step; in the other, when no later step and not the goal needs it. A fact past the last bit has
+// none, and is taken as not wanted, which bars less, and as needed, so that its step counts as of use.
 use access::flag;
 use access::put64;
 use fact_table::FACTS;
@@ -56,8 +56,8 @@ fn pack_unflagged(words: &[u32], table: &[u8], effects: Effects, flagged: bool) 
     pack(words, table, effects)
 }
 
-// The bits of each unflagged step's facts (those that it may write): which are wanted behind the step, and which neither
-// a later step nor the goal needs.
+// The bits of each unflagged step's facts (those that it may write): which are wanted behind the step, and which
+// neither a later step nor the goal needs.
 pub struct Behind {
     pub wanted: [u64; Plan::STEPS],
     pub useless: [u64; Plan::STEPS],

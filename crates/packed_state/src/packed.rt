@@ -7,7 +7,8 @@ ghost use mathlib.Core.Path.{_≡_};
 ghost use Prim.Native.Nat.{_≤_, _<_};
 ghost use Rattle.sheet.specs.Decode.{initial as initial-of};
 ghost use Rattle.step.specs.State.{in-array};
-ghost use Rattle.packed_state.specs.between.Packed.{most-rows, lacking, taking, has-all, written-over, packed-start};
+ghost use Rattle.packed_state.specs.between.Packed.{most-rows, lacking, taking, has-all, written-over};
+ghost use Rattle.packed_state.specs.between.Packed.{packed-start};
 
 // The most unflagged steps that there are blocks for; a word of choices has a bit for each, and bit 0.
 pub const MOST: usize = 31;

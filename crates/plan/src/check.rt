@@ -43,8 +43,8 @@ impl Checked {
     }
 }
 
-// Checks a plan of a task, of at most `limit` steps, for which a tally must have room. `besides` is the verdict on what a
-// service asks besides, after what is read and before the plan's validity.
+// Checks a plan of a task, of at most `limit` steps, for which a tally must have room. `besides` is the verdict on what
+// a service asks besides, after what is read and before the plan's validity.
 pub fn check_lodged(words: &[u32], plan: &[u32], limit: usize, besides: Verdict) -> Checked
     requires { ⌜ limit ≤ bounds .steps ⌝ }
     ensures { λ r. ⌜ Checks-lodged limit (now (words .entry)) (now (plan .entry)) besides

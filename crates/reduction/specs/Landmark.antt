@@ -1,6 +1,6 @@
 -- Which steps of a plan are marked, as landmarks (document 02, C-12, from source document 004, definition 12). That
--- every valid reduction keeps them is `landmark-kept` of proofs/marks/LandmarksKept. Positions are document 01's, from 1, and
--- the start step's is 0; a step at position k stands at index k − 1 of the list. Assumes nothing.
+-- every valid reduction keeps them is `landmark-kept` of proofs/marks/LandmarksKept. Positions are document 01's, from
+-- 1, and the start step's is 0; a step at position k stands at index k − 1 of the list. Assumes nothing.
 use Prim.Native.Nat.{ℕ, suc, _<_}
 use mathlib.Core.Path.{_≡_}
 use mathlib.Core.Logic.{_≢_}

@@ -1,5 +1,5 @@
-// The effects of an action. How they lie among the words is known here alone: every other function goes through them one
-// by one, from the first.
+// The effects of an action. How they lie among the words is known here alone: every other function goes through them
+// one by one, from the first.
 use crate::group::Group;
 use access::word;
 ghost use mathlib.Core.Path.{_≡_};
@@ -20,8 +20,8 @@ impl Effects {
         word(w, self.at)
     }
 
-    // All but the first; where there is none, none. How long an effect is, is a matter of the words: one word each in the
-    // one edition that is read.
+    // All but the first; where there is none, none. How long an effect is, is a matter of the words: one word each in
+    // the one edition that is read.
     pub fn rest(self, w: &[u32]) -> Effects
         ensures { λ r. ⌜ r ≡ rest-effects (now (w .entry)) self ⌝ }
     {

@@ -1,6 +1,6 @@
 // The groups of facts of a sheet, the goal and each action's precondition, and where an action's effects stand. How a
-// group's facts lie among the words is known here and to the sheet's own checks alone: every other function goes through
-// a group fact by fact, from the first or from the last.
+// group's facts lie among the words is known here and to the sheet's own checks alone: every other function goes
+// through a group fact by fact, from the first or from the last.
 use crate::effects::Effects;
 use crate::layout::ACTION_HEADER;
 use crate::layout::FIRST_ACTION;

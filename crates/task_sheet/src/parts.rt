@@ -62,7 +62,8 @@ fn write_actions(
 pub(crate) fn write_parts(x: &[u32], v: usize, from: usize, n: usize, sheet: &mut [u32]) -> Written
     requires { ⌜ Small (now x) × (v ≡ length (ranges (now x))) × (n ≤ limits .actions)
         × (from ≡ operators-at (now x) + 1) × (n ≡ number-at (now x) (operators-at (now x))) × (from ≤ 2 ^ 36) ⌝ }
-    ensures { λ r. ⌜ Lays (facts-fit (meaning (now (x .entry)))) 0 (parts first-edition (ordered (meaning (now (x .entry)))))
+    ensures { λ r. ⌜ Lays (facts-fit (meaning (now (x .entry)))) 0
+        (parts first-edition (ordered (meaning (now (x .entry)))))
         (now (sheet .entry)) (now (sheet .exit)) (first-word n) r ⌝ }
 {
     let initial = PAIRS_AT + PAIR * (FIRST_ACTION + n) + v;

@@ -101,8 +101,8 @@ fn mark_effects(words: &[u32], latest: &mut [u32], at: u8, effects: Effects)
     }
 }
 
-// The step at this position writes what its effects may write. All supports are told before any write of the step counts
-// as one of a marked step, so that it is never its own earlier writer.
+// The step at this position writes what its effects may write. All supports are told before any write of the step
+// counts as one of a marked step, so that it is never its own earlier writer.
 pub fn write_effects(
     words: &[u32],
     traces: &mut [u8],

@@ -22,7 +22,8 @@ row-start j = j * limits .variables
 -- the supports of an assignment's facts, by the table of traces, noted from place i on
 unfoldable pub supports-noted : List ℕ → ℕ → Assignment → List ℕ → List ℕ
 supports-noted traces i [] rows = rows
-supports-noted traces i (f ∷ e) rows = supports-noted traces (i + 1) e (set rows i (getD traces (trace-start (fact-word f) + 1) 0))
+supports-noted traces i (f ∷ e) rows =
+    supports-noted traces (i + 1) e (set rows i (getD traces (trace-start (fact-word f) + 1) 0))
 
 -- the flags with those raised that stand from place i on, one for each fact of an assignment
 unfoldable pub row-raised : List ℕ → ℕ → Assignment → Reduction → Reduction

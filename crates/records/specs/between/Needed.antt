@@ -7,9 +7,9 @@ use Rattle.records.specs.declared.frame.Ending.{Ending}
 use Rattle.records.specs.declared.frame.Ending.the-variants.{Untold, Unfit, Long, Ends}
 use Rattle.records.specs.RecordForm.{word-bytes, record-ending}
 
--- how many bytes in all must have been read to tell the form, by where the record ends as far as those read so far show:
--- as many as tell more; none more where it ends nowhere; else the record, and so many bytes beyond it: one for an input
--- of one record, to see that nothing follows, and none where other records may
+-- how many bytes in all must have been read to tell the form, by where the record ends as far as those read so far
+-- show: as many as tell more; none more where it ends nowhere; else the record, and so many bytes beyond it: one for an
+-- input of one record, to see that nothing follows, and none where other records may
 abbrev pub needed-for : ℕ → Ending → ℕ
 needed-for beyond (Untold k) = k
 needed-for beyond Unfit = 0

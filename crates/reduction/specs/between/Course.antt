@@ -1,6 +1,6 @@
 -- Where a search stands that passes over flagged steps: which facts hold before a step is told by what was decided
--- before it, and the flagged steps need no test of their own. Not to be believed: proofs/turns/CourseLaws shows that the
--- search stays on this course. Assumes nothing.
+-- before it, and the flagged steps need no test of their own. Not to be believed: proofs/turns/CourseLaws shows that
+-- the search stays on this course. Assumes nothing.
 use Prim.Native.Nat.{ℕ, zero, suc}
 use mathlib.Core.Path.{_≡_}
 use mathlib.Core.Bool.{Bool, true, false, cond, not, _&&_, _||_}

@@ -1,6 +1,6 @@
 -- The landmarks of a plan as flags, computed round by round: a walk along the positions tells for each fact which step
--- supports it. That they are the marked steps of `Landmark` is `flagged-just-marked` of proofs/marks/LandmarkTheorem. Assumes
--- nothing.
+-- supports it. That they are the marked steps of `Landmark` is `flagged-just-marked` of proofs/marks/LandmarkTheorem.
+-- Assumes nothing.
 use Prim.Native.Nat.{ℕ, zero, suc}
 use mathlib.Core.Bool.{Bool, true, false, cond, not, _&&_}
 use mathlib.Core.List.{List, [], _∷_, _++_}

@@ -1,6 +1,6 @@
 -- The search of a minimal reduction by a striking turn and a keeping turn (document 01, "The three ways of striking"),
--- over whatever tests it is told. Not to be believed: proofs/turns/SearchTheorem ties it to Minimal, for tests that are sound
--- (specs/Sound). Assumes nothing.
+-- over whatever tests it is told. Not to be believed: proofs/turns/SearchTheorem ties it to Minimal, for tests that are
+-- sound (specs/Sound). Assumes nothing.
 use Prim.Native.Nat.{ℕ, _+_}
 use mathlib.Core.Bool.{Bool, true, false, cond, not, _&&_}
 use mathlib.Core.List.{List, [], _∷_}

@@ -1,6 +1,6 @@
 -- The facts that are wanted behind a step of a plan, of which some steps are flagged that every valid reduction keeps.
--- That they hold there in every valid reduction is `wanted-holds` of proofs/turns/WantedLaws: the search's striking cut rests
--- on it. Assumes nothing.
+-- That they hold there in every valid reduction is `wanted-holds` of proofs/turns/WantedLaws: the search's striking cut
+-- rests on it. Assumes nothing.
 use mathlib.Core.Bool.{Bool, false, not, _&&_, _||_}
 use mathlib.Core.List.{List, [], _∷_}
 use lib.ListN.{getD, drop}

@@ -50,8 +50,8 @@ sheet-of edition variables actions ps = edition ∷ variables ∷ actions ∷ (h
 unfoldable pub encode : ℕ → Task → List ℕ
 encode edition T = sheet-of edition (length (T .domains)) (length (T .actions)) (parts edition T)
 
--- a task that can be written in an edition: well-formed, so that each domain has at least its starting value, of plain actions, and
--- within the limits
+-- a task that can be written in an edition: well-formed, so that each domain has at least its starting value, of plain
+-- actions, and within the limits
 pub record Encodable (edition : ℕ) (T : Task) : Type 0 where
   pub well-formed : Well-formed T
   pub plain : (a : Action) → List·Memᴰ a (T .actions) → Plain (T .domains) a

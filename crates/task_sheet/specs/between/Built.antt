@@ -15,4 +15,5 @@ use Rattle.meaning.specs.between.Writable.{writable}
 pub record Builds (x before after : List ℕ) (r : Built) : Type 0 where
   pub fits : r .fits ≡ writable (meaning x)
   pub words : r .fits ≡ true → r .words ≡ length (encode first-edition (ordered (meaning x)))
-  pub written : r .fits ≡ true → r .words ≤ length before → take (r .words) after ≡ encode first-edition (ordered (meaning x))
+  pub written : r .fits ≡ true → r .words ≤ length before
+      → take (r .words) after ≡ encode first-edition (ordered (meaning x))
