@@ -1,8 +1,8 @@
--- When a fact holds, and what `satisfies` says of the facts of an assignment: by the cases of its first fact, then by membership, by list induction.
--- Assumes nothing.
+-- When a fact holds, and what `satisfies` says of the facts of an assignment: by the cases of its first fact, by the first that fails, and by membership,
+-- by list induction. Assumes nothing.
 use Prim.Native.Nat.{_≤_, _<_}
-use mathlib.Core.Path.{_≡_, refl, sym, _∙_}
-use mathlib.Core.Bool.{Bool, true, false, true≢false, and-eq-true-iff}
+use mathlib.Core.Path.{_≡_, refl, sym, _∙_, ap}
+use mathlib.Core.Bool.{Bool, true, false, true≢false, _&&_, and-eq-true-iff}
 use mathlib.Core.Option.{none, some}
 use mathlib.Core.List.{[], _∷_, List·Memᴰ, List·Memᴰ·head, List·Memᴰ·tail}
 use lib.ListN.{length, getD}
@@ -49,26 +49,34 @@ pub first-failing-here : (s : State) (f : Fact) (q : Assignment) → holds s f �
 unfolding first-failing
 first-failing-here s f q h = rw (h, first-failing)
 
--- an assignment is satisfied just where no fact fails
-pub none-failing : (s : State) (q : Assignment) → first-failing s q ≡ none → satisfies s q ≡ true
-unfolding satisfies
-none-failing s q h = rw (h, satisfies)
-
-pub one-failing : {f : Fact} (s : State) (q : Assignment) → first-failing s q ≡ some f → satisfies s q ≡ false
-unfolding satisfies
-one-failing s q h = rw (h, satisfies)
-
 pub satisfies-nothing : (s : State) → satisfies s [] ≡ true
-unfolding satisfies first-failing
+unfolding satisfies
 satisfies-nothing s = refl
 
 pub satisfies-more : (s : State) (f : Fact) (q : Assignment) → holds s f ≡ true → satisfies s (f ∷ q) ≡ satisfies s q
-unfolding satisfies first-failing
-satisfies-more s f q h = rw (h, satisfies, first-failing)
+unfolding satisfies
+satisfies-more s f q h = ap (λ b. b && satisfies s q) h
 
 pub satisfies-failing : (s : State) (f : Fact) (q : Assignment) → holds s f ≡ false → satisfies s (f ∷ q) ≡ false
-unfolding satisfies first-failing
-satisfies-failing s f q h = rw (h, satisfies, first-failing)
+unfolding satisfies
+satisfies-failing s f q h = ap (λ b. b && satisfies s q) h
+
+-- an assignment is satisfied just where no fact fails
+pub none-fails : (s : State) (q : Assignment) → satisfies s q ≡ elim (first-failing s q) [ none ↦ true | some f ↦ false ]
+none-fails s [] = rw (first-failing-nothing s) (satisfies-nothing s)
+none-fails s (f ∷ q) = by-case (none-fails s q) (holds s f) refl
+  where
+    by-case : satisfies s q ≡ elim (first-failing s q) [ none ↦ true | some g ↦ false ] → (b : Bool) → holds s f ≡ b
+        → satisfies s (f ∷ q) ≡ elim (first-failing s (f ∷ q)) [ none ↦ true | some g ↦ false ]
+    by-case rest true e = rw (first-failing-more s f q e) (satisfies-more s f q e ∙ rest)
+    by-case rest false e = rw (first-failing-here s f q e) (satisfies-failing s f q e)
+
+-- so it is where the first that fails is none, and not where it is some fact
+pub none-failing : (s : State) (q : Assignment) → first-failing s q ≡ none → satisfies s q ≡ true
+none-failing s q h = none-fails s q ∙ rw h refl
+
+pub one-failing : {f : Fact} (s : State) (q : Assignment) → first-failing s q ≡ some f → satisfies s q ≡ false
+one-failing s q h = none-fails s q ∙ rw h refl
 
 -- the first fact of a satisfied assignment holds
 pub satisfies-first : (s : State) (f : Fact) (q : Assignment) → satisfies s (f ∷ q) ≡ true → holds s f ≡ true

@@ -27,14 +27,16 @@ may-write a f = List·Memᴰ f (written a)
 abbrev pub needs : Action → Fact → Type 0
 needs a f = List·Memᴰ f (needed a)
 
--- the first fact of an assignment that does not hold in a state
+-- an assignment holds in a state: every fact of it does
+unfoldable pub satisfies : State → Assignment → Bool
+satisfies s [] = true
+satisfies s (f ∷ q) = holds s f && satisfies s q
+
+-- the first fact of an assignment, in the order that it is written in, that does not hold in a state. No definition here
+-- rests on an order: an assignment holds just where no fact fails (`none-fails` of proofs/FactLaws).
 unfoldable pub first-failing : State → Assignment → Option Fact
 first-failing s [] = none
 first-failing s (f ∷ q) = elim (holds s f) [ true ↦ first-failing s q | false ↦ some f ]
-
--- an assignment holds in a state: none of its facts fails
-unfoldable pub satisfies : State → Assignment → Bool
-satisfies s q = elim (first-failing s q) [ none ↦ true | some f ↦ false ]
 
 -- an action is applicable in a state: its precondition holds there
 unfoldable pub applicable : State → Action → Bool

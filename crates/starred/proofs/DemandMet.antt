@@ -9,7 +9,7 @@ use mathlib.Core.List.{List, [], _∷_}
 use lib.ListN.{length}
 use lib.Seq.{sets}
 use lib.Dec.{lit≤}
-use Rattle.sas.specs.Plan.{holds, first-failing, satisfies, applicable, assign, apply, written, needed, cost, Plan}
+use Rattle.sas.specs.Plan.{holds, satisfies, applicable, assign, apply, written, needed, cost, Plan}
 use Rattle.reduction.specs.Reduction.{kept, count}
 use Rattle.reduction.specs.between.Order.{lower}
 use Rattle.reduction.specs.between.Elimination.{better}
@@ -48,7 +48,7 @@ module _ (before : List ℕ) (six : length before ≡ 6) where
     -- and so the service answers as document 01 says of worked list 2
     pub answer-met : (told-answer given ≡ none) × (told-tally given ≡ record { cost = 12; steps = 3 })
         × (mask ≡ 56 ∷ 0 ∷ 0 ∷ 0 ∷ []) × (after ≡ sets before 0 (0 ∷ 1 ∷ 2 ∷ []))
-    unfolding table facts initial goal action holds first-failing satisfies applicable assign apply written needed cost kept count lower better found minimal some-fact same-fact has values-from framed sets-other passed trace raised round-to mark-rounds landmarks marks binary words-of mask-words
+    unfolding table facts initial goal action holds satisfies applicable assign apply written needed cost kept count lower better found minimal some-fact same-fact has values-from framed sets-other passed trace raised round-to mark-rounds landmarks marks binary words-of mask-words
     answer-met =
         let (readable, plan, roomy) = premises-met in
         let answered : Answers none sheet-p list-1 (demand-three-met .left) before given mask after = demand-three-met .answered (lit≤ tt) in

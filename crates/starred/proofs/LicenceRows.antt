@@ -8,7 +8,7 @@ use mathlib.Core.List.{[], _∷_, _++_}
 use lib.ListN.{length, replicate}
 use Rattle.refusal.specs.Place.{first-of-next, first-of, first}
 use Rattle.refusal.specs.Check.{answer}
-use Rattle.sas.specs.Plan.{holds, first-failing, satisfies, applicable, assign, apply, written, needed, result, run, cost}
+use Rattle.sas.specs.Plan.{holds, satisfies, applicable, assign, apply, written, needed, result, run, cost}
 use Rattle.reduction.specs.Reduction.{Reduction, keeps, kept, count, compose, valid-for}
 use Rattle.reduction.specs.between.Order.{lower}
 use Rattle.reduction.specs.between.Elimination.{trial, eliminated, eliminate, better, best, rounds, greedy}
@@ -59,7 +59,7 @@ licensed r m passes left others claims is positions tally =
     }
 
 least : Row-licensed least-row
-unfolding answer sheet-checks bad-length bad-edition bad-counts due wrong-size bad-pair pair-place bad-variable variable-place bad-fact group-place action-place fact-place cost-place first first-of first-of-next table facts initial goal action fault unknown-place list-checks read-checks valid-checks lodged-checks holds first-failing satisfies applicable assign apply written needed result run cost kept count compose valid-for lower walk after trial eliminated eliminate better best rounds greedy found minimal some-fact same-fact has values-from framed sets-other passed trace raised round-to mark-rounds landmarks marks comparison cheaper-of claim-of positions-from
+unfolding answer sheet-checks bad-length bad-edition bad-counts due wrong-size bad-pair pair-place bad-variable variable-place bad-fact group-place action-place fact-place cost-place first first-of first-of-next table facts initial goal action fault unknown-place list-checks read-checks valid-checks lodged-checks holds satisfies applicable assign apply written needed result run cost kept count compose valid-for lower walk after trial eliminated eliminate better best rounds greedy found minimal some-fact same-fact has values-from framed sets-other passed trace raised round-to mark-rounds landmarks marks comparison cheaper-of claim-of positions-from
 least = licensed least-row (false ∷ false ∷ false ∷ []) refl refl refl refl refl refl refl
 
 -- what the cheaper elimination leaves of the lamps
@@ -67,11 +67,11 @@ abbrev gates-left : Reduction
 gates-left = replicate 9 false ++ (true ∷ true ∷ true ∷ replicate 9 false) ++ (true ∷ true ∷ true ∷ [])
 
 gates-eliminated : cheaper-of gates-and-lamp lamps-between ≡ gates-left
-unfolding answer sheet-checks bad-length bad-edition bad-counts due wrong-size bad-pair pair-place bad-variable variable-place bad-fact group-place action-place fact-place cost-place first first-of first-of-next table facts initial goal action fault unknown-place list-checks read-checks valid-checks lodged-checks holds first-failing satisfies applicable assign apply written needed result run cost kept count compose valid-for lower walk after trial eliminated eliminate better best rounds greedy found minimal some-fact same-fact has values-from framed sets-other passed trace raised round-to mark-rounds landmarks marks comparison cheaper-of claim-of positions-from
+unfolding answer sheet-checks bad-length bad-edition bad-counts due wrong-size bad-pair pair-place bad-variable variable-place bad-fact group-place action-place fact-place cost-place first first-of first-of-next table facts initial goal action fault unknown-place list-checks read-checks valid-checks lodged-checks holds satisfies applicable assign apply written needed result run cost kept count compose valid-for lower walk after trial eliminated eliminate better best rounds greedy found minimal some-fact same-fact has values-from framed sets-other passed trace raised round-to mark-rounds landmarks marks comparison cheaper-of claim-of positions-from
 gates-eliminated = refl
 
 irreducible : Row-licensed irreducible-row
-unfolding answer sheet-checks bad-length bad-edition bad-counts due wrong-size bad-pair pair-place bad-variable variable-place bad-fact group-place action-place fact-place cost-place first first-of first-of-next table facts initial goal action fault unknown-place list-checks read-checks valid-checks lodged-checks holds first-failing satisfies applicable assign apply written needed result run cost kept count compose valid-for lower walk after trial eliminated eliminate better best rounds greedy found minimal some-fact same-fact has values-from framed sets-other passed trace raised round-to mark-rounds landmarks marks comparison cheaper-of claim-of positions-from
+unfolding answer sheet-checks bad-length bad-edition bad-counts due wrong-size bad-pair pair-place bad-variable variable-place bad-fact group-place action-place fact-place cost-place first first-of first-of-next table facts initial goal action fault unknown-place list-checks read-checks valid-checks lodged-checks holds satisfies applicable assign apply written needed result run cost kept count compose valid-for lower walk after trial eliminated eliminate better best rounds greedy found minimal some-fact same-fact has values-from framed sets-other passed trace raised round-to mark-rounds landmarks marks comparison cheaper-of claim-of positions-from
 irreducible = licensed irreducible-row (compose gates-left (false ∷ false ∷ false ∷ true ∷ true ∷ true ∷ [])) refl refl refl claims is refl refl
   where
     claims : claim-of gates-and-lamp lamps-between ≡ Irreducible
@@ -81,7 +81,7 @@ irreducible = licensed irreducible-row (compose gates-left (false ∷ false ∷ 
     is = ap (λ c. claimed-by c gates-and-lamp lamps-between) claims ∙ ap (λ c. compose c (minimal-of gates-and-lamp (kept c lamps-between))) gates-eliminated
 
 still-open : Row-licensed open-row
-unfolding answer sheet-checks bad-length bad-edition bad-counts due wrong-size bad-pair pair-place bad-variable variable-place bad-fact group-place action-place fact-place cost-place first first-of first-of-next table facts initial goal action fault unknown-place list-checks read-checks valid-checks lodged-checks holds first-failing satisfies applicable assign apply written needed result run cost kept count compose valid-for lower walk after trial eliminated eliminate better best rounds greedy found minimal some-fact same-fact has values-from framed sets-other passed trace raised round-to mark-rounds landmarks marks comparison cheaper-of claim-of positions-from
+unfolding answer sheet-checks bad-length bad-edition bad-counts due wrong-size bad-pair pair-place bad-variable variable-place bad-fact group-place action-place fact-place cost-place first first-of first-of-next table facts initial goal action fault unknown-place list-checks read-checks valid-checks lodged-checks holds satisfies applicable assign apply written needed result run cost kept count compose valid-for lower walk after trial eliminated eliminate better best rounds greedy found minimal some-fact same-fact has values-from framed sets-other passed trace raised round-to mark-rounds landmarks marks comparison cheaper-of claim-of positions-from
 still-open = licensed open-row (replicate 21 true) refl refl refl refl refl refl refl
 
 pub licences : Licences-hold
@@ -96,7 +96,7 @@ list-3-marked (suc (suc zero)) h = refl
 list-3-marked (suc (suc (suc i))) h = absurd (omega arith)
 
 list-3-passes : answer (plan-checks sheet-p list-3) ≡ none
-unfolding answer sheet-checks bad-length bad-edition bad-counts due wrong-size bad-pair pair-place bad-variable variable-place bad-fact group-place action-place fact-place cost-place first first-of first-of-next table facts initial goal action fault unknown-place list-checks read-checks valid-checks lodged-checks holds first-failing satisfies applicable assign apply result run
+unfolding answer sheet-checks bad-length bad-edition bad-counts due wrong-size bad-pair pair-place bad-variable variable-place bad-fact group-place action-place fact-place cost-place first first-of first-of-next table facts initial goal action fault unknown-place list-checks read-checks valid-checks lodged-checks holds satisfies applicable assign apply result run
 list-3-passes = refl
 
 pub list-3-whole : List-3-whole

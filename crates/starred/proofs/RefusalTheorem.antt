@@ -2,7 +2,7 @@
 use mathlib.Core.Path.{refl}
 use Rattle.refusal.specs.Place.{first-of-next, first-of, first}
 use Rattle.refusal.specs.Check.{answer}
-use Rattle.sas.specs.Plan.{holds, first-failing, satisfies, applicable, assign, apply, written, needed}
+use Rattle.sas.specs.Plan.{holds, satisfies, applicable, assign, apply, written, needed}
 use Rattle.reduction.specs.Reduction.{count}
 use Rattle.reduction.specs.between.Wanted.{some-fact, same-fact, has}
 use Rattle.reduction.specs.Landmark.{values-from, framed}
@@ -19,10 +19,10 @@ use Rattle.starred.specs.Refusals.{Cause-met, causes, List-ten}
 use Rattle.starred.proofs.RowLaws.{_also_}
 
 pub refusals : Each Cause-met causes
-unfolding answer sheet-checks bad-length bad-edition bad-counts due wrong-size bad-pair pair-place bad-variable variable-place bad-fact group-place action-place fact-place cost-place first first-of first-of-next table facts initial goal action fault unknown-place list-checks read-checks valid-checks lodged-checks room-checks holds first-failing satisfies applicable assign apply written needed count some-fact same-fact has values-from framed sets-other passed trace raised round-to mark-rounds landmarks marks unmarked-checks minimal-checks
+unfolding answer sheet-checks bad-length bad-edition bad-counts due wrong-size bad-pair pair-place bad-variable variable-place bad-fact group-place action-place fact-place cost-place first first-of first-of-next table facts initial goal action fault unknown-place list-checks read-checks valid-checks lodged-checks room-checks holds satisfies applicable assign apply written needed count some-fact same-fact has values-from framed sets-other passed trace raised round-to mark-rounds landmarks marks unmarked-checks minimal-checks
 refusals = refl also refl also refl also refl also refl also refl also refl also refl also refl also refl also refl also refl also tt
 
 -- and of the worked list 10, 19 and 20 lamps are answered
 pub list-ten : List-ten
-unfolding answer sheet-checks bad-length bad-edition bad-counts due wrong-size bad-pair pair-place bad-variable variable-place bad-fact group-place action-place fact-place cost-place first first-of first-of-next table facts initial goal action fault unknown-place list-checks read-checks valid-checks lodged-checks room-checks holds first-failing satisfies applicable assign apply written needed count some-fact same-fact has values-from framed sets-other passed trace raised round-to mark-rounds landmarks marks unmarked-checks minimal-checks
+unfolding answer sheet-checks bad-length bad-edition bad-counts due wrong-size bad-pair pair-place bad-variable variable-place bad-fact group-place action-place fact-place cost-place first first-of first-of-next table facts initial goal action fault unknown-place list-checks read-checks valid-checks lodged-checks room-checks holds satisfies applicable assign apply written needed count some-fact same-fact has values-from framed sets-other passed trace raised round-to mark-rounds landmarks marks unmarked-checks minimal-checks
 list-ten = ((refl, refl), (refl, refl))

@@ -11,7 +11,7 @@ use mathlib.Core.List.{List, [], _∷_}
 use lib.ListN.{length}
 use Rattle.refusal.specs.Place.{first-of-next, first-of, first}
 use Rattle.refusal.specs.Check.{answer}
-use Rattle.sas.specs.Plan.{holds, first-failing, satisfies, applicable, assign, apply, written, needed, result, run, cost}
+use Rattle.sas.specs.Plan.{holds, satisfies, applicable, assign, apply, written, needed, result, run, cost}
 use Rattle.reduction.specs.Reduction.{Reduction, kept, count, valid-for, valid, meets}
 use Rattle.reduction.specs.between.Order.{lower}
 use Rattle.reduction.specs.between.Elimination.{trial, eliminated, eliminate, better, best, rounds, greedy}
@@ -76,7 +76,7 @@ module _ (w l : List ℕ) where
 
 -- what document 01 says of each list holds
 pub starred : Each Row-holds starred-rows
-unfolding answer sheet-checks bad-length bad-edition bad-counts due wrong-size bad-pair pair-place bad-variable variable-place bad-fact group-place action-place fact-place cost-place first first-of first-of-next table facts initial goal action fault unknown-place list-checks read-checks valid-checks lodged-checks room-checks unmarked-checks minimal-checks holds first-failing satisfies applicable assign apply written needed result run cost kept count valid-for lower walk after trial eliminated eliminate better best rounds greedy found minimal some-fact same-fact has values-from framed sets-other passed trace raised round-to mark-rounds landmarks marks positions-from binary words-of mask-words
+unfolding answer sheet-checks bad-length bad-edition bad-counts due wrong-size bad-pair pair-place bad-variable variable-place bad-fact group-place action-place fact-place cost-place first first-of first-of-next table facts initial goal action fault unknown-place list-checks read-checks valid-checks lodged-checks room-checks unmarked-checks minimal-checks holds satisfies applicable assign apply written needed result run cost kept count valid-for lower walk after trial eliminated eliminate better best rounds greedy found minimal some-fact same-fact has values-from framed sets-other passed trace raised round-to mark-rounds landmarks marks positions-from binary words-of mask-words
 starred =
     (refl, valid-truly sheet-p list-1 refl refl)
     also (refl, (marks-just sheet-p list-1, refl))
