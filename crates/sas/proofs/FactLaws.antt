@@ -1,10 +1,10 @@
--- When a fact holds, and what `satisfies` says of the facts of an assignment: by the cases of its first fact, by the first that fails, and by membership,
--- by list induction. Assumes nothing.
+-- When a fact holds, and what `satisfies` says of the facts of an assignment: by the cases of its first fact, by the first that fails, from the back, and
+-- by membership, by list induction. Assumes nothing.
 use Prim.Native.Nat.{_≤_, _<_}
 use mathlib.Core.Path.{_≡_, refl, sym, _∙_, ap}
-use mathlib.Core.Bool.{Bool, true, false, true≢false, _&&_, and-eq-true-iff}
+use mathlib.Core.Bool.{Bool, true, false, true≢false, _&&_, and-eq-true-iff, and-true, and-assoc, and-comm}
 use mathlib.Core.Option.{none, some}
-use mathlib.Core.List.{[], _∷_, List·Memᴰ, List·Memᴰ·head, List·Memᴰ·tail}
+use mathlib.Core.List.{[], _∷_, _++_, reverse, reverse-cons, List·Memᴰ, List·Memᴰ·head, List·Memᴰ·tail}
 use lib.ListN.{length, getD}
 use lib.Dec.{ltb, eqb}
 use borrow.Author.Tests.{ltb-true, eqb-true, lt-ltb, le-ltb, eq-eqb}
@@ -71,12 +71,20 @@ none-fails s (f ∷ q) = by-case (none-fails s q) (holds s f) refl
     by-case rest true e = rw (first-failing-more s f q e) (satisfies-more s f q e ∙ rest)
     by-case rest false e = rw (first-failing-here s f q e) (satisfies-failing s f q e)
 
--- so it is where the first that fails is none, and not where it is some fact
-pub none-failing : (s : State) (q : Assignment) → first-failing s q ≡ none → satisfies s q ≡ true
-none-failing s q h = none-fails s q ∙ rw h refl
+-- facts that are joined are satisfied where those of both are
+satisfies-joined : (s : State) (p q : Assignment) → satisfies s (p ++ q) ≡ (satisfies s p && satisfies s q)
+unfolding satisfies
+satisfies-joined s [] q = refl
+satisfies-joined s (f ∷ p) q = ap (λ b. holds s f && b) (satisfies-joined s p q) ∙ sym (and-assoc (holds s f) (satisfies s p) (satisfies s q))
 
-pub one-failing : {f : Fact} (s : State) (q : Assignment) → first-failing s q ≡ some f → satisfies s q ≡ false
-one-failing s q h = none-fails s q ∙ rw h refl
+-- so it is the same from the back
+pub satisfies-reversed : (s : State) (q : Assignment) → satisfies s (reverse q) ≡ satisfies s q
+unfolding satisfies
+satisfies-reversed s [] = refl
+satisfies-reversed s (f ∷ q) =
+    ap (satisfies s) (reverse-cons f q)
+    ∙ satisfies-joined s (reverse q) (f ∷ [])
+    ∙ rw (and-true (holds s f), satisfies-reversed s q) (and-comm (satisfies s q) (holds s f))
 
 -- the first fact of a satisfied assignment holds
 pub satisfies-first : (s : State) (f : Fact) (q : Assignment) → satisfies s (f ∷ q) ≡ true → holds s f ≡ true

@@ -1,5 +1,5 @@
--- An action is done just where none of its precondition facts fails, and the goal holds just where none of its facts does. What the code calls is a variable
--- here, with what is known of it as a premise. Assumes nothing.
+-- An action is done just where the test of its precondition finds no failing fact, and so with the goal. What the code calls is a variable here, with what is
+-- known of it as a premise; at which fact a test stopped is not used. Assumes nothing.
 use Prim.Native.Nat.{ℕ, _≤_, _<_}
 use native.Mathlib.Omega.{arith}
 use mathlib.Core.Path.{_≡_, refl, sym, _∙_, ap}
@@ -7,12 +7,11 @@ use mathlib.Core.Bool.{Bool, true, false}
 use mathlib.Core.List.{List, _++_}
 use lib.ListN.{length, take, drop}
 use lib.Seq.{length-take-le, take-all}
-use Rattle.sas.specs.Plan.{first-failing, satisfies, assign}
-use Rattle.sas.proofs.FactLaws.{none-failing, one-failing}
+use Rattle.sas.specs.Plan.{satisfies, applicable, assign}
 use Rattle.sas.proofs.ActionLaws.{apply-length, applicable-needed}
 use Rattle.sheet.specs.declared.group.Group.{Group}
 use Rattle.sheet.specs.declared.effects.Effects.{Effects}
-use Rattle.sheet.specs.Decode.{fact-of, goal, action}
+use Rattle.sheet.specs.Decode.{goal, action}
 use Rattle.sheet.specs.between.Group.{goal-group, needed-group, facts-in}
 use Rattle.sheet.specs.between.Effects.{effects-of, written-in}
 use Rattle.sheet.proofs.GroupLaws.{goal-facts, needed-facts}
@@ -20,31 +19,30 @@ use Rattle.sheet.proofs.EffectLaws.{effects-applied}
 use Rattle.step.specs.declared.facts.Failing.{Failing}
 use Rattle.step.specs.declared.facts.Failing.the-variants.{Nothing, Fact}
 use Rattle.step.specs.State.{state-size, front}
-use Rattle.step.specs.between.Failing.{failing}
+use Rattle.step.specs.between.Failing.{passes, Tests}
 use Rattle.step.specs.between.Advance.{Advances}
 use Rattle.step.proofs.StateLaws.{front-laid}
 
-module _ (w s : List ℕ) (a : ℕ) (g : Group) (f : Failing) (group : g ≡ needed-group w a) (found : failing f ≡ first-failing s (facts-in w g)) where
+module _ (w s : List ℕ) (a : ℕ) (g : Group) (f : Failing) (group : g ≡ needed-group w a) (tested : Tests s (facts-in w g) f) where
+  held : passes f ≡ applicable s (action w a)
+  held = tested .held ∙ ap (satisfies s) (ap (facts-in w) group ∙ needed-facts w a) ∙ sym (applicable-needed s (action w a))
+
   pub advances-not : (x : ℕ) → f ≡ Fact x → Advances w s a false s
-  advances-not x e =
-      record {
-        applied = sym (applicable-needed s (action w a) ∙ one-failing {f = fact-of x} s _ (rw (← needed-facts w a, ← group, ← found, e) refl));
-        state = refl;
-      }
+  advances-not x e = record { applied = ap passes (sym e) ∙ held; state = refl }
 
   pub advances-done : (h : Effects) (after : List ℕ) → f ≡ Nothing → h ≡ effects-of w a → after ≡ assign s (written-in w h) → Advances w s a true after
   advances-done h after e effects writes =
-      record {
-        applied = sym (applicable-needed s (action w a) ∙ none-failing s _ (rw (← needed-facts w a, ← group, ← found, e) refl));
-        state = writes ∙ rw effects (sym (effects-applied w a s));
-      }
+      record { applied = ap passes (sym e) ∙ held; state = writes ∙ rw effects (sym (effects-applied w a s)) }
 
-module _ (w s : List ℕ) (g : Group) (f : Failing) (group : g ≡ goal-group w) (found : failing f ≡ first-failing s (facts-in w g)) where
+module _ (w s : List ℕ) (g : Group) (f : Failing) (group : g ≡ goal-group w) (tested : Tests s (facts-in w g) f) where
+  goal-held : passes f ≡ satisfies s (goal w)
+  goal-held = tested .held ∙ ap (satisfies s) (ap (facts-in w) group ∙ goal-facts w)
+
   pub goal-unmet : (x : ℕ) → f ≡ Fact x → false ≡ satisfies s (goal w)
-  goal-unmet x e = sym (one-failing {f = fact-of x} s _ (rw (← goal-facts w, ← group, ← found, e) refl))
+  goal-unmet x e = ap passes (sym e) ∙ goal-held
 
   pub goal-met : f ≡ Nothing → true ≡ satisfies s (goal w)
-  goal-met e = sym (none-failing s _ (rw (← goal-facts w, ← group, ← found, e) refl))
+  goal-met e = ap passes (sym e) ∙ goal-held
 
 -- an action keeps the number of values, done or not
 advances-length : (w s after : List ℕ) (a : ℕ) (done : Bool) → Advances w s a done after → length after ≡ length s

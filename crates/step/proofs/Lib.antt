@@ -1,4 +1,4 @@
--- FailingLaws: the facts of a group in a state by the cases of a loop along it.
+-- FailingLaws: the facts of a group in a state, from the last, by the cases of a loop along it.
 pub mod FailingLaws
 -- AdvanceLaws: when an action is done in a lent state, and when the goal holds there.
 pub mod AdvanceLaws

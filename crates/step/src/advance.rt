@@ -1,6 +1,6 @@
 // One action in a lent state, and the goal there: what every walk along a plan is made of.
 use crate::facts::Failing;
-use crate::facts::first_failing;
+use crate::facts::find_failing;
 use crate::facts::write_effects;
 use crate::state::size;
 use sheet::group::facts_of;
@@ -16,7 +16,7 @@ pub fn advance(words: &[u32], state: &mut [u32], action: u32) -> bool
     ensures { λ r. ⌜ Advances (now (words .entry)) (now (state .entry)) action r (now (state .exit)) ⌝ }
 {
     let facts = facts_of(words, action);
-    let failing = first_failing(words, state, facts.precondition);
+    let failing = find_failing(words, state, facts.precondition);
     match failing {
         Failing::Fact(_) => false,
         Failing::Nothing => {
@@ -30,7 +30,7 @@ pub fn advance(words: &[u32], state: &mut [u32], action: u32) -> bool
 pub fn goal_holds(words: &[u32], state: &[u32]) -> bool
     ensures { λ r. ⌜ r ≡ satisfies (now (state .entry)) (goal-of (now (words .entry))) ⌝ }
 {
-    let failing = first_failing(words, state, goal(words));
+    let failing = find_failing(words, state, goal(words));
     match failing {
         Failing::Fact(_) => false,
         Failing::Nothing => true,

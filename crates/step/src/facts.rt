@@ -5,11 +5,11 @@ use sheet::effects::Effects;
 use sheet::group::Group;
 use sheet::limits::Sheet;
 ghost use mathlib.Core.Path.{_≡_};
-ghost use Rattle.sas.specs.Plan.{holds as holds-in, first-failing, assign};
+ghost use Rattle.sas.specs.Plan.{holds as holds-in, assign};
 ghost use Rattle.sheet.specs.Decode.{fact-of};
-ghost use Rattle.sheet.specs.between.Group.{facts-in};
+ghost use Rattle.sheet.specs.between.Group.{facts-in, last-fact, front-of};
 ghost use Rattle.sheet.specs.between.Effects.{written-in};
-ghost use Rattle.step.specs.between.Failing.{failing};
+ghost use Rattle.step.specs.between.Failing.{Tests};
 
 // Whether the fact that a word is holds in the state.
 pub fn holds(state: &[u32], fact: u32) -> bool
@@ -24,21 +24,37 @@ pub fn holds(state: &[u32], fact: u32) -> bool
     }
 }
 
-// The first fact of an assignment that fails, by its word, or none.
+// A fact that fails, by its word, or none.
 pub enum Failing {
     Nothing,
     Fact(u32),
 }
 
-// The first fact of a group that fails in the state.
-pub fn first_failing(words: &[u32], state: &[u32], group: Group) -> Failing
-    ensures { λ r. ⌜ failing r ≡ first-failing (now (state .entry)) (facts-in (now (words .entry)) group) ⌝ }
+// The fact of a group that is looked at next, by its word: the last, since planners write those last that fail most
+// (document 02, C-13). This and `after_next` are all that says in which order facts are looked at; the exact search
+// tests the facts of a row at once, in no order (`packed_state`).
+fn next(words: &[u32], group: Group) -> u32
+    ensures { λ r. ⌜ r ≡ last-fact (now (words .entry)) group ⌝ }
+{
+    group.last(words)
+}
+
+// The facts that are left after it.
+fn after_next(group: Group) -> Group
+    ensures { λ r. ⌜ r ≡ front-of group ⌝ }
+{
+    group.front()
+}
+
+// Whether a group of facts holds in the state, or the fact at which that was seen to fail.
+pub fn find_failing(words: &[u32], state: &[u32], group: Group) -> Failing
+    ensures { λ r. ⌜ Tests (now (state .entry)) (facts-in (now (words .entry)) group) r ⌝ }
 {
     let mut rest = group;
     while rest.at < rest.end {
-        let fact = rest.first(words);
+        let fact = next(words, rest);
         if holds(state, fact) {
-            rest = rest.rest();
+            rest = after_next(rest);
         } else {
             return Failing::Fact(fact);
         }
