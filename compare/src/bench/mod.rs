@@ -1,6 +1,7 @@
 //! Measures of the library against Rust versions, both in one run on the same input. What is printed
 //! is the tables of docs/PERFORMANCE.md, in Markdown.
 
+mod orders;
 mod outside;
 mod plans;
 mod table;

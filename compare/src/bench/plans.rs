@@ -3,9 +3,11 @@
 use crate::makers::answered::{self, tied_gates};
 use crate::makers::families::{Family, Placement, Shape, FAMILIES, PLACEMENTS};
 use crate::makers::restores::{Asker, Restores, MOST_LINKS};
-use crate::makers::{fact, jobs, List, Random, Task};
-use crate::rules::{MAX_STEPS, MAX_UNMARKED, MAX_VARIABLES};
+use crate::makers::{chain, fact, jobs, List, Random, Task};
+use crate::rules::{pair_word, ACTION_HEAD, FIRST_ACTION_PAIR, MAX_STEPS, MAX_UNMARKED};
+use crate::rules::{MAX_VARIABLES, MAX_WORDS};
 use std::fmt::Debug;
+use std::ops::Range;
 
 pub const LENGTHS: [usize; 3] = [60, 128, MAX_STEPS];
 
@@ -159,4 +161,27 @@ pub fn chain_of_earlier_steps() -> List {
         lamps: MAX_STEPS - 2 * MOST_LINKS,
     };
     restores.make(&mut random())
+}
+
+/// The most steps of a chain of levels for which a sheet has room: each has its pair, its head, a
+/// fact of each variable and one effect; the goal has one fact.
+pub const MOST_LEVELS: usize = (MAX_WORDS - pair_word(FIRST_ACTION_PAIR) - 2 * MAX_VARIABLES - 1)
+    / (pair_word(1) - pair_word(0) + ACTION_HEAD + MAX_VARIABLES + 1);
+
+/// Steps that ask for as many facts as there may be: for the level, which each of them raises, at
+/// this variable, and for others that never change. Where a step is struck, of every later one the
+/// level fails and nothing else.
+pub fn chain_of_levels(level: usize, steps: usize) -> List {
+    let mut actions = chain(level, steps, || 1);
+    for action in &mut actions {
+        let needed = action.preconditions.clone();
+        let unchanging = |variables: Range<usize>| variables.map(|variable| fact(variable, 0));
+        let facts = unchanging(0..level).chain(needed);
+        action.preconditions = facts.chain(unchanging(level + 1..MAX_VARIABLES)).collect();
+    }
+    let mut sizes = vec![1; MAX_VARIABLES];
+    sizes[level] += steps as u32;
+    let task = Task::from_zero(sizes, vec![fact(level, steps)], actions);
+    let all: Vec<usize> = (0..steps).collect();
+    List::alike(task, (0..steps as u32).collect(), all.clone(), all)
 }

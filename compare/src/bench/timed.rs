@@ -1,7 +1,7 @@
 //! The times of both sides on one case.
 
 use super::{table, Side, SIDES};
-use crate::cases::{Case, Memory};
+use crate::cases::{Case, Memory, Rule};
 use crate::rules::{search, Lodged};
 use std::hint::black_box;
 use std::time::{Duration, Instant};
@@ -16,6 +16,14 @@ pub struct Timed {
     sides: [(Side, Memory); 2],
     /// The best time of each side, in microseconds.
     best: [f64; 2],
+    beside: Option<Beside>,
+}
+
+/// A rule that is timed in turns with both sides: it gives the same answer in another way.
+struct Beside {
+    rule: Rule,
+    memory: Memory,
+    best: f64,
 }
 
 /// A row of a table: what is timed, and the first of the rows that are of one thing at growing
@@ -29,17 +37,16 @@ pub struct Row<'a, T> {
 /// A column of a table: its head, and the cell that it has in a row.
 pub type Column<T> = (&'static str, fn(&Row<T>) -> String);
 
-/// Times all the cases, which take turns, and prints a row for each, with columns in front of the
+/// Has all rows take turns, and prints a row for each, with columns in front of the
 /// times of both sides and behind them; so many rows are of one thing. Answers whether all answers
 /// were right.
 pub fn print_times<T>(
     title: &str,
-    rows: Vec<(T, Case)>,
+    rows: Vec<(T, Timed)>,
     lengths: usize,
     [front, behind]: [&[Column<T>]; 2],
 ) -> bool {
-    let timed = |(it, case)| (it, Timed::of(case));
-    let (all, mut times): (Vec<T>, Vec<Timed>) = rows.into_iter().map(timed).unzip();
+    let (all, mut times): (Vec<T>, Vec<Timed>) = rows.into_iter().unzip();
     for _ in 0..RUNS {
         times.iter_mut().for_each(Timed::run);
     }
@@ -71,13 +78,27 @@ impl Timed {
             sides: SIDES.map(|side| (side, case.lent.clone())),
             case,
             best: [f64::INFINITY; 2],
+            beside: None,
         }
+    }
+
+    pub fn beside(self, rule: Rule) -> Self {
+        let beside = Some(Beside {
+            rule,
+            memory: self.case.lent.clone(),
+            best: f64::INFINITY,
+        });
+        Timed { beside, ..self }
     }
 
     pub fn run(&mut self) {
         let call = self.case.call;
         for ((side, memory), best) in self.sides.iter_mut().zip(&mut self.best) {
             *best = best.min(time_of(|| side.answer(call, black_box(memory))));
+        }
+        if let Some(Beside { rule, memory, best }) = &mut self.beside {
+            let mut answer = || memory.write(&call.by(*rule, black_box(memory)));
+            *best = best.min(time_of(&mut answer));
         }
     }
 
@@ -112,6 +133,11 @@ impl Timed {
         self.best
     }
 
+    /// That of the rule beside them, if there is one.
+    pub fn best_beside(&self) -> Option<f64> {
+        self.beside.as_ref().map(|beside| beside.best)
+    }
+
     /// The cells of a table under "Library", "Rust" and "Ratio".
     fn cells(&self) -> [String; 3] {
         let [library, rust] = self.best;
@@ -119,16 +145,19 @@ impl Timed {
         [table::time(library), table::time(rust), ratio]
     }
 
-    /// What is due by the way that the case was made or by the rules, unless a side answers otherwise
-    /// or the case is refused. The rules take minutes over some plans whose answer is known.
+    /// What is due by the way that the case was made or by the rules, unless one answers otherwise or
+    /// the rules refuse: no case is refused but one that is made so. The rules take minutes over some
+    /// plans whose answer is known.
     pub fn answer(&self) -> Option<Memory> {
         let Case { call, lent, due } = &self.case;
         let right = match due {
             Some(due) => lent.after(due),
             None => lent.after(&call.by_rules(lent)),
         };
-        let as_right = self.sides.iter().all(|(_, memory)| *memory == right);
-        (as_right && is_accepted(&right)).then_some(right)
+        let sides = self.sides.iter().map(|(_, memory)| memory);
+        let beside = self.beside.iter().map(|beside| &beside.memory);
+        let as_right = sides.chain(beside).all(|memory| *memory == right);
+        (as_right && (due.is_some() || is_accepted(&right))).then_some(right)
     }
 
     /// Whether both sides give the same answer, right or not.

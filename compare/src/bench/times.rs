@@ -1,12 +1,14 @@
-//! The tables of times: of the services, of marks on plans of many rounds, of the exact reduction
-//! on the hard families, of licences, of texts for the translator, and of the built programs.
+//! The tables of times: of the services, of the orders of a precondition's facts, of marks on plans
+//! of many rounds, of the exact reduction on the hard families, of licences, of texts for the
+//! translator, and of the built programs.
 
+use super::orders::orders;
 use super::plans::{chain_of_earlier_steps, chain_of_needs, deliveries_walk, knots, lamps};
 use super::plans::{facts_of, gates_walk, name, with_large_actions, HardPlan, LENGTHS};
 use super::table::{self, MOST_TIME};
 use super::texts::{LongText, SIZES};
 use super::timed::{best_time_of, print_times, Column, Row, Timed, RUNS};
-use crate::cases::{Case, Memory, Service};
+use crate::cases::{Memory, Service};
 use crate::comparison::inputs::{closed, of_text, Form, Input};
 use crate::comparison::programs::{written, Built, LICENSE};
 use crate::makers::families::{Family, Placement};
@@ -23,6 +25,7 @@ pub fn run(built: &[Built]) -> bool {
     print_machine();
     let are_right = [
         services(),
+        orders(),
         marks(),
         families(),
         licences(),
@@ -48,11 +51,11 @@ const NAME: fn(&Row<Named>) -> String = |row| row.it.0.to_string();
 const FACTS: Column<Named> = ("Facts of an action", |row| facts_of(&row.it.1.task));
 const STEPS: Column<Named> = ("Steps", |row| row.it.1.plan.len().to_string());
 
-/// Each list with its case for a service.
-fn rows(service: Service, lists: Vec<Named>) -> Vec<(Named, Case)> {
+/// Each list with its case for a service, to be timed.
+fn rows(service: Service, lists: Vec<Named>) -> Vec<(Named, Timed)> {
     let row = |named: Named| {
-        let case = named.1.fitting(service);
-        (named, case)
+        let timed = Timed::of(named.1.fitting(service));
+        (named, timed)
     };
     lists.into_iter().map(row).collect()
 }
@@ -141,7 +144,7 @@ fn time_by_rounds(timed: &Timed) -> String {
 /// The exact reduction on the hard families, each at three lengths, against the search that has the
 /// same cuts.
 fn families() -> bool {
-    let row = |plan: HardPlan| (plan, plan.make().fitting(Service::Exact));
+    let row = |plan: HardPlan| (plan, Timed::of(plan.make().fitting(Service::Exact)));
     let title = format!("\nExact reduction, {MAX_UNMARKED} steps beside the chain");
     let front: &[Column<HardPlan>] = &[
         ("Family", |row| name(row.it.family)),
@@ -217,7 +220,8 @@ fn texts() -> bool {
             row.timed.told(words)
         }),
     ];
-    let rows = LongText::all().map(|text| (text, text.case())).collect();
+    let row = |text: LongText| (text, Timed::of(text.case()));
+    let rows = LongText::all().map(row).collect();
     let title = "\nTexts for the translator";
     print_times(
         title,

@@ -10,8 +10,8 @@ mod service;
 pub mod worked;
 
 pub use memory::{Answer, Lent, Memory, WRITTEN};
-pub use service::{going, reducing, refusing, taking_plan, Call, Numbers, Service, SERVICES};
-pub use service::{CLAIM, CLAIMS, CLAIM_AT, FIRST, SECOND};
+pub use service::{going, reducing, refusing, step_if, taking_plan, Call, Numbers, Rule, Service};
+pub use service::{CLAIM, CLAIMS, CLAIM_AT, FIRST, SECOND, SERVICES};
 
 use crate::rules::Refusal;
 

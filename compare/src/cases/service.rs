@@ -7,7 +7,7 @@
 
 use super::{Answer, Memory, WRITTEN};
 use crate::rules::{self, passes, search, Cause, Lodged, Refusal, State, Tally, Way};
-use crate::rules::{MAX_VARIABLES, MOVE_WORDS, VARIABLES_WORD};
+use crate::rules::{all_hold, Test, MAX_VARIABLES, MOVE_WORDS, VARIABLES_WORD};
 use std::cmp::Ordering;
 
 /// The outputs, whose lengths are the caller's choice.
@@ -109,7 +109,7 @@ services! {
     Step = hollchiku_step(words: u32, state: u32; action; out: u64) {
         out: REFUSAL,
         answers: &[0, 1, 2, 3, 4, 5, 6, 7, 9, 11],
-        rule: step,
+        rule: |lent, numbers| step_if(all_hold, lent, numbers),
     }
     CheckPlan = hollchiku_check_plan(words: u32, plan: u32, end: u32; ; out: u64) {
         out: TALLIED,
@@ -223,12 +223,12 @@ const EQUAL: u64 = 1;
 const ABOVE: u64 = 2;
 
 /// A state shorter than 64 values reads as zero past its end.
-fn step(lent: &Memory, [action, ..]: Numbers) -> Result<Answer, Refusal> {
+pub fn step_if(test: impl Test, lent: &Memory, [action, ..]: Numbers) -> Result<Answer, Refusal> {
     let mut state: State = [0; MAX_VARIABLES];
     for (value, &lent) in state.iter_mut().zip(&lent.state[..]) {
         *value = lent;
     }
-    rules::step(&lent.words, &mut state, action)?;
+    rules::step_if(test, &lent.words, &mut state, action)?;
     Ok(Answer::accepted(&[]).with_state(&state))
 }
 
@@ -344,7 +344,7 @@ impl Call {
         faster.map(|&rule| self.by(rule, lent))
     }
 
-    fn by(self, rule: Rule, lent: &Memory) -> Answer {
+    pub fn by(self, rule: Rule, lent: &Memory) -> Answer {
         Answer::of(self.service, rule(lent, self.numbers))
     }
 }

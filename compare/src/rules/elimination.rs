@@ -2,7 +2,7 @@
 //! results. Both go through the current list from the state before each step, so that a trial walks
 //! only what stands behind it.
 
-use super::{all_hold, do_step, Kept, Lodged, Refusal, State, Tally};
+use super::{all_hold, do_step, do_step_if, Kept, Lodged, Refusal, State, Tally, Test};
 
 /// Refusals 1 to 11.
 pub fn eliminate(words: &[u32], plan: &[u32], output: usize) -> Result<Kept, Refusal> {
@@ -59,15 +59,19 @@ impl Lodged<'_> {
 
     /// Steps are told by their index in the plan.
     pub fn eliminated(&self) -> Vec<usize> {
+        self.eliminated_if(all_hold)
+    }
+
+    pub fn eliminated_if(&self, test: impl Test) -> Vec<usize> {
         let mut steps: Vec<usize> = (0..self.actions.len()).collect();
         let mut state = self.task.start();
         let mut next = 0;
         while next < steps.len() {
-            if let Some(success) = self.trial(&steps[next..], state) {
+            if let Some(success) = self.trial(test, &steps[next..], state) {
                 steps.truncate(next);
                 steps.extend(success.kept);
             } else {
-                do_step(self.actions[steps[next]], &mut state);
+                do_step_if(test, self.actions[steps[next]], &mut state);
                 next += 1;
             }
         }
@@ -89,7 +93,7 @@ impl Lodged<'_> {
         let mut best: Option<(usize, Success)> = None;
         let mut state = self.task.start();
         for (position, &step) in steps.iter().enumerate() {
-            if let Some(success) = self.trial(&steps[position..], state) {
+            if let Some(success) = self.trial(all_hold, &steps[position..], state) {
                 let is_better = best.as_ref().is_none_or(|(_, best)| {
                     (success.cost, success.steps) > (best.cost, best.steps)
                 });
@@ -104,7 +108,7 @@ impl Lodged<'_> {
 
     /// Strikes the first of these steps, which are walked from `state`, and each later one that
     /// can't be done. The goal is looked at once, after the walk.
-    fn trial(&self, steps: &[usize], mut state: State) -> Option<Success> {
+    fn trial(&self, test: impl Test, steps: &[usize], mut state: State) -> Option<Success> {
         let (&struck, later) = steps.split_first()?;
         let mut success = Success {
             cost: self.actions[struck].cost,
@@ -113,13 +117,13 @@ impl Lodged<'_> {
         };
         for &step in later {
             let action = self.actions[step];
-            if do_step(action, &mut state) {
+            if do_step_if(test, action, &mut state) {
                 success.kept.push(step);
             } else {
                 success.cost += action.cost;
                 success.steps += 1;
             }
         }
-        all_hold(self.task.goal(), &state).then_some(success)
+        test(self.task.goal(), &state).then_some(success)
     }
 }

@@ -19,8 +19,8 @@ pub use elimination::{cheaper, cheaper_left, eliminate, greedy, kept_part};
 pub use exact::{exact, steps_of};
 pub use license::{license, license_by_search, Claim, Licensed};
 pub use moves::{moves, Moves, MOVE_WORDS};
-pub use plan::{all_hold, course, do_step, has, mask_of, read, step, Kept, Lodged, Mask, State};
-pub use plan::{Tally, Values, MASK_WORDS, WORD_BITS};
+pub use plan::{all_hold, course, course_if, do_step, do_step_if, has, holds, mask_of, read};
+pub use plan::{step_if, Kept, Lodged, Mask, State, Tally, Test, Values, MASK_WORDS, WORD_BITS};
 pub use program::{sheet_and_rest, words_of, Way, Written};
 pub use program::{
     written_by_license, written_by_shorten, written_by_translate, written_by_validate,

@@ -12,16 +12,29 @@ pub type State = [u32; MAX_VARIABLES];
 pub type Values = Vec<u32>;
 
 /// A fact holds by equality of the whole value, which may be outside the domain.
+pub fn holds(fact: u32, state: &State) -> bool {
+    let (variable, value) = split(fact);
+    state[variable] == value
+}
+
+/// A test whether all of these facts hold in a state. In which order it looks at them changes its
+/// time, and no answer.
+pub trait Test: Fn(&[u32], &State) -> bool + Copy {}
+
+impl<T: Fn(&[u32], &State) -> bool + Copy> Test for T {}
+
+/// The test of all services: the last fact is looked at first, as document 02 asks.
 pub fn all_hold(facts: &[u32], state: &State) -> bool {
-    facts.iter().all(|&fact| {
-        let (variable, value) = split(fact);
-        state[variable] == value
-    })
+    facts.iter().rev().all(|&fact| holds(fact, state))
 }
 
 /// Does the step, unless a precondition fails: then the state stays and the answer is false.
 pub fn do_step(action: Action, state: &mut State) -> bool {
-    let can_be_done = all_hold(action.preconditions, state);
+    do_step_if(all_hold, action, state)
+}
+
+pub fn do_step_if(test: impl Test, action: Action, state: &mut State) -> bool {
+    let can_be_done = test(action.preconditions, state);
     if can_be_done {
         for &effect in action.effects {
             let (variable, value) = split(effect);
@@ -32,13 +45,18 @@ pub fn do_step(action: Action, state: &mut State) -> bool {
 }
 
 /// One step on a lent state. Refusals 1 to 7, 9 and 11; the goal isn't looked at.
-pub fn step(words: &[u32], state: &mut State, action: u32) -> Result<(), Refusal> {
+pub fn step_if(
+    test: impl Test,
+    words: &[u32],
+    state: &mut State,
+    action: u32,
+) -> Result<(), Refusal> {
     let only_place = 1;
     let task = check_sheet(words)?;
     let action = action as usize;
     let unknown = action >= task.actions();
     refuse(Cause::UnknownAction, unknown.then_some(only_place))?;
-    let done = do_step(task.action(action), state);
+    let done = do_step_if(test, task.action(action), state);
     refuse(Cause::NotValid, (!done).then_some(only_place))
 }
 
@@ -57,12 +75,16 @@ pub fn read<'a>(words: &'a [u32], plan: &[u32]) -> Result<(Task<'a>, Vec<Action<
 /// The states along a plan: the starting values and the state after each step, up to the first that
 /// can't be done. The goal isn't looked at.
 pub fn course(words: &[u32], plan: &[u32]) -> Result<Vec<Values>, Refusal> {
+    course_if(all_hold, words, plan)
+}
+
+pub fn course_if(test: impl Test, words: &[u32], plan: &[u32]) -> Result<Vec<Values>, Refusal> {
     let (task, actions) = read(words, plan)?;
     let values = |state: &State| state[..task.sizes().len()].to_vec();
     let mut state = task.start();
     let mut states = vec![values(&state)];
     for action in actions {
-        if !do_step(action, &mut state) {
+        if !do_step_if(test, action, &mut state) {
             break;
         }
         states.push(values(&state));

@@ -2,7 +2,8 @@
 
 use super::{fault, Fault};
 use crate::cases::{Answer, Memory, Service};
-use crate::rules::{course, do_step, read, Lodged, Refusal, Values, MAX_VARIABLES};
+use crate::rules::{all_hold, course, course_if, do_step, holds, read};
+use crate::rules::{Lodged, Refusal, State, Values, MAX_VARIABLES};
 
 pub fn faults() -> Vec<Fault> {
     let faults = FAULTS.map(|(name, states)| {
@@ -16,7 +17,21 @@ pub fn faults() -> Vec<Fault> {
 
 type States = fn(&Memory) -> Result<Vec<Values>, Refusal>;
 
-const FAULTS: [(&str, States); 5] = [
+const FAULTS: [(&str, States); 7] = [
+    ("looks at the last precondition alone", |lent| {
+        let last = |facts: &[u32], state: &State| {
+            let last = facts.last();
+            last.is_none_or(|&fact| holds(fact, state))
+        };
+        course_if(last, &lent.words, &lent.plan)
+    }),
+    ("leaves out the first precondition", |lent| {
+        let but_first = |facts: &[u32], state: &State| {
+            let but_first = facts.split_first();
+            but_first.is_none_or(|(_, others)| all_hold(others, state))
+        };
+        course_if(but_first, &lent.words, &lent.plan)
+    }),
     ("passes over what can't be done", passing_over),
     ("refuses a plan that is not valid", |lent| {
         Lodged::check(&lent.words, &lent.plan, &[])?;
