@@ -62,6 +62,7 @@ impl Lodged<'_> {
         self.eliminated_if(all_hold)
     }
 
+    /// The same by any test.
     pub fn eliminated_if(&self, test: impl Test) -> Vec<usize> {
         let mut steps: Vec<usize> = (0..self.actions.len()).collect();
         let mut state = self.task.start();

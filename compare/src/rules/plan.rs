@@ -33,6 +33,7 @@ pub fn do_step(action: Action, state: &mut State) -> bool {
     do_step_if(all_hold, action, state)
 }
 
+/// The same by any test.
 pub fn do_step_if(test: impl Test, action: Action, state: &mut State) -> bool {
     let can_be_done = test(action.preconditions, state);
     if can_be_done {
@@ -44,7 +45,7 @@ pub fn do_step_if(test: impl Test, action: Action, state: &mut State) -> bool {
     can_be_done
 }
 
-/// One step on a lent state. Refusals 1 to 7, 9 and 11; the goal isn't looked at.
+/// One step on a lent state, by any test. Refusals 1 to 7, 9 and 11; the goal isn't looked at.
 pub fn step_if(
     test: impl Test,
     words: &[u32],
@@ -78,6 +79,7 @@ pub fn course(words: &[u32], plan: &[u32]) -> Result<Vec<Values>, Refusal> {
     course_if(all_hold, words, plan)
 }
 
+/// The same by any test.
 pub fn course_if(test: impl Test, words: &[u32], plan: &[u32]) -> Result<Vec<Values>, Refusal> {
     let (task, actions) = read(words, plan)?;
     let values = |state: &State| state[..task.sizes().len()].to_vec();

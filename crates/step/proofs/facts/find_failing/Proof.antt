@@ -27,17 +27,6 @@ holds-requires c κs = search needs
 after-next-requires : tie.Need-after-next-requires Inv-loop μ-loop
 after-next-requires c κs = search needs
 
-loop-less : tie.Need-loop-less Inv-loop μ-loop
-loop-less c = front-shorter _ _ (c .after-next .ensures) (c .before .before .before .before .if1 .taken)
-
-loop-again : tie.Need-loop-again Inv-loop μ-loop
-loop-again c =
-    let held = c .before in
-    let read = held .before .before in
-    rw (c .after-next .ensures)
-    (sym (failing-more _ _ _ (read .before .if1 .taken) _ (read .next .ensures) (sym (held .before .holds .ensures) ∙ held .if2 .taken))
-    ∙ read .before .before .before .loop .inv)
-
 returns : tie.Need-returns Inv-loop μ-loop
 returns c =
     let read = c .before .before in
@@ -47,6 +36,17 @@ returns c =
 
 returns-2 : tie.Need-returns-2 Inv-loop μ-loop
 returns-2 c = tests _ _ _ (sym (failing-over _ _ _ (c .if1 .left)) ∙ c .before .before .loop .inv)
+
+loop-again : tie.Need-loop-again Inv-loop μ-loop
+loop-again c =
+    let held = c .before in
+    let read = held .before .before in
+    rw (c .after-next .ensures)
+    (sym (failing-more _ _ _ (read .before .if1 .taken) _ (read .next .ensures) (sym (held .before .holds .ensures) ∙ held .if2 .taken))
+    ∙ read .before .before .before .loop .inv)
+
+loop-less : tie.Need-loop-less Inv-loop μ-loop
+loop-less c = front-shorter _ _ (c .after-next .ensures) (c .before .before .before .before .if1 .taken)
 
 pub find-failing-spec : {M : Type 1} → statement M
 find-failing-spec =
