@@ -32,8 +32,8 @@ unfoldable pub satisfies : State → Assignment → Bool
 satisfies s [] = true
 satisfies s (f ∷ q) = holds s f && satisfies s q
 
--- the first fact of an assignment, in the order that it is written in, that does not hold in a state. No definition here
--- rests on an order: an assignment holds just where no fact fails (`none-fails` of proofs/FactLaws).
+-- the first fact of an assignment, in the order that it is written in, that does not hold in a state. No definition
+-- here rests on an order: an assignment holds just where no fact fails (`none-fails` of proofs/FactLaws).
 unfoldable pub first-failing : State → Assignment → Option Fact
 first-failing s [] = none
 first-failing s (f ∷ q) = elim (holds s f) [ true ↦ first-failing s q | false ↦ some f ]
