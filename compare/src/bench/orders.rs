@@ -30,38 +30,38 @@ struct Ordered {
 }
 
 /// One step in a state in which it can't be done, with a sheet of no other action.
-fn step_without_its_level(level: usize) -> (List, Case) {
+fn step_without_its_level(level: usize) -> (List, Timed) {
     let list = chain_of_levels(level, 1);
     let mut state: State = [0; MAX_VARIABLES];
     state[level] = 1;
     let case = Case::fitting(Service::Step, &list.task.words(), &[], [0; 2]);
     let case = case.with_state(&state).refused(Cause::NotValid.at(1));
-    (list, case)
+    (list, Timed::of_refused(case))
 }
 
 /// Each trial strikes a step and, after that, every later one, so that all trials fail.
-fn elimination_of_levels(level: usize) -> (List, Case) {
+fn elimination_of_levels(level: usize) -> (List, Timed) {
     let list = chain_of_levels(level, MOST_LEVELS);
-    let case = list.fitting(Service::Eliminate);
-    (list, case)
+    let timed = Timed::of(list.fitting(Service::Eliminate));
+    (list, timed)
 }
 
 /// Steps of which only one fact fails, in both orders.
 pub fn orders() -> bool {
-    let ways: [(&str, fn(usize) -> (List, Case), Rule); 2] = [
+    let ways: [(&str, fn(usize) -> (List, Timed), Rule); 2] = [
         ("one step", step_without_its_level, STEP_FROM_FRONT),
         ("elimination", elimination_of_levels, ELIMINATE_FROM_FRONT),
     ];
     let mut rows = Vec::new();
     for (service, make, from_front) in ways {
         for (failing, level) in [("the last", MAX_VARIABLES - 1), ("the first", 0)] {
-            let (list, case) = make(level);
+            let (list, timed) = make(level);
             let ordered = Ordered {
                 service,
                 list,
                 failing,
             };
-            rows.push((ordered, Timed::of(case).beside(from_front)));
+            rows.push((ordered, timed.beside(from_front)));
         }
     }
     let front: &[Column<Ordered>] = &[

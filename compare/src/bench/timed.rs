@@ -17,6 +17,8 @@ pub struct Timed {
     /// The best time of each side, in microseconds.
     best: [f64; 2],
     beside: Option<Beside>,
+    /// Whether the case is made to be refused. Of any other a refusal is a wrong answer.
+    is_refused: bool,
 }
 
 /// A rule that is timed in turns with both sides: it gives the same answer in another way.
@@ -37,9 +39,8 @@ pub struct Row<'a, T> {
 /// A column of a table: its head, and the cell that it has in a row.
 pub type Column<T> = (&'static str, fn(&Row<T>) -> String);
 
-/// Has all rows take turns, and prints a row for each, with columns in front of the
-/// times of both sides and behind them; so many rows are of one thing. Answers whether all answers
-/// were right.
+/// Has all rows take turns, and prints each, with columns in front of the times of both sides and
+/// behind them; so many rows are of one thing. Answers whether all answers were right.
 pub fn print_times<T>(
     title: &str,
     rows: Vec<(T, Timed)>,
@@ -79,6 +80,15 @@ impl Timed {
             case,
             best: [f64::INFINITY; 2],
             beside: None,
+            is_refused: false,
+        }
+    }
+
+    pub fn of_refused(case: Case) -> Self {
+        let is_refused = true;
+        Timed {
+            is_refused,
+            ..Timed::of(case)
         }
     }
 
@@ -146,8 +156,8 @@ impl Timed {
     }
 
     /// What is due by the way that the case was made or by the rules, unless one answers otherwise or
-    /// the rules refuse: no case is refused but one that is made so. The rules take minutes over some
-    /// plans whose answer is known.
+    /// it is a refusal where none is meant. The rules take minutes over some plans whose answer is
+    /// known.
     pub fn answer(&self) -> Option<Memory> {
         let Case { call, lent, due } = &self.case;
         let right = match due {
@@ -157,7 +167,8 @@ impl Timed {
         let sides = self.sides.iter().map(|(_, memory)| memory);
         let beside = self.beside.iter().map(|beside| &beside.memory);
         let as_right = sides.chain(beside).all(|memory| *memory == right);
-        (as_right && (due.is_some() || is_accepted(&right))).then_some(right)
+        let as_meant = is_accepted(&right) != self.is_refused;
+        (as_right && as_meant).then_some(right)
     }
 
     /// Whether both sides give the same answer, right or not.
