@@ -12,7 +12,7 @@ use borrow.Author.Tests.{ltb-true, ltb-false, lt-ltb, eqb-true, eqb-false, eq-eq
 use Rattle.sas.specs.Task.{Action}
 use Rattle.sas.specs.Plan.{cost}
 use Rattle.reduction.specs.between.Order.{lower}
-use Rattle.reduction.proofs.MemberLaws.{or-cases, or-neither}
+use Rattle.sas.proofs.SomeLaws.{or-cases, or-neither}
 
 abbrev pub Lower : List Action → List Action → Type 0
 Lower p q = (cost p < cost q) ⊎ ((cost p ≡ cost q) × (length p < length q))

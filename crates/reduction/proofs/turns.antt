@@ -11,7 +11,9 @@ pub mod CutLaws
 pub mod SearchTheorem
 -- HeldLaws: which facts hold after an action and before an index, by what was done before.
 pub mod HeldLaws
--- UseLaws: a step that sets nothing of use is never kept, and all that the search is told is sound.
+-- ChangeLaws: a step that changes nothing that matters behind it is never kept, whatever its actions are.
+pub mod ChangeLaws
+-- UseLaws: of plain steps this is one that sets nothing of use, and all that the search is told is sound.
 pub mod UseLaws
 -- CourseLaws: the search stays on course, and passes flagged steps without a test.
 pub mod CourseLaws

@@ -4,10 +4,10 @@
 use Prim.Native.Nat.{ℕ, suc, _<_}
 use mathlib.Core.Path.{_≡_}
 use mathlib.Core.Logic.{_≢_}
-use mathlib.Core.List.{List, [], _∷_, _++_}
+use mathlib.Core.List.{List, [], _∷_, _++_, map}
 use lib.ListN.{length, getD}
-use Rattle.sas.specs.Task.{Fact, Assignment, State, Action, idle}
-use Rattle.sas.specs.Plan.{may-write, needs}
+use Rattle.sas.specs.Task.{Fact, Assignment, State, always, Action, idle}
+use Rattle.sas.specs.Plan.{may-write, always-writes, needs}
 
 -- the step at index i of a list; past its end one that needs nothing and does nothing
 abbrev pub step : List Action → ℕ → Action
@@ -20,21 +20,25 @@ values-from v (x ∷ s) = record { variable = v; value = x } ∷ values-from (su
 
 -- "a start step that writes all starting values and an end step that needs the goal"
 abbrev pub start-step : State → Action
-start-step s = record { precondition = []; effect = values-from 0 s; cost = 0 }
+start-step s = record { precondition = []; effects = map always (values-from 0 s); cost = 0 }
 
 abbrev pub end-step : Assignment → Action
-end-step goal = record { precondition = goal; effect = []; cost = 0 }
+end-step goal = record { precondition = goal; effects = []; cost = 0 }
 
 -- a list with both: position 0 is the start step, and the one behind the list's last step is the end step
 unfoldable pub framed : State → Assignment → List Action → List Action
 framed s goal p = start-step s ∷ (p ++ (end-step goal ∷ []))
 
--- a step writes another value to the variable of f
+-- a step writes another value to the variable of f, and with no condition (document 02, C-15): one that only may write
+-- it can leave f as it was, and then no step need make f true again
 abbrev pub Writes-other : Action → Fact → Type 0
-Writes-other a f = (g : Fact) × may-write a g × (g .variable ≡ f .variable) × (g .value ≢ f .value)
+Writes-other a f = (g : Fact) × always-writes a g × (g .variable ≡ f .variable) × (g .value ≢ f .value)
 
 -- what marks step k, where steps i and j are marked: "a later marked step needs a fact f of k's effects, an earlier
--- marked step writes another value to that variable, and no step but k between those two writes f"
+-- marked step writes another value to that variable, and no step but k between those two writes f". Every effect counts
+-- as a possible writer, whatever its condition. A condition is no need: where it fails the step can still be done, and
+-- what it would have written may not be needed. With either restriction left out a mark would be unsound: `starred` has
+-- a list for each.
 pub record Link (q : List Action) (i k j : ℕ) (f : Fact) : Type 0 where
   pub earlier : i < k
   pub later : k < j

@@ -8,9 +8,10 @@ use mathlib.Core.List.{[], _∷_, List·Memᴰ, List·Memᴰ·head, List·Memᴰ
 use lib.ListN.{length, set, take}
 use lib.Seq.{getD-take, length-take-le}
 use borrow.Author.Tests.{lt-ltb}
-use Rattle.sas.specs.Task.{Fact, Assignment, State, Action}
-use Rattle.sas.specs.Plan.{holds, satisfies, applicable, assign, apply, needed, needs}
+use Rattle.sas.specs.Task.{Fact, Assignment, State, Effect, Action}
+use Rattle.sas.specs.Plan.{holds, satisfies, applicable, acting, assign, apply, needed, needs}
 use Rattle.sas.proofs.FactLaws.{satisfies-nothing, satisfies-more, satisfies-failing}
+use Rattle.sas.proofs.EffectLaws.{acting-alike}
 use Rattle.sas.proofs.ActionLaws.{applicable-needed}
 
 take-set : (n : ℕ) (s : State) (v x : ℕ) → take n (set s v x) ≡ set (take n s) v x
@@ -45,6 +46,10 @@ module _ (n : ℕ) (s : State) (room : n ≤ length s) where
   pub part-applicable : (a : Action) → ((f : Fact) → needs a f → f .variable < n) → applicable (take n s) a ≡ applicable s a
   part-applicable a own = applicable-needed (take n s) a ∙ part-satisfies (needed a) own ∙ sym (applicable-needed s a)
 
-pub part-apply : (n : ℕ) (s : State) (a : Action) → take n (apply s a) ≡ apply (take n s) a
-unfolding apply
-part-apply n s a = part-assign n s (a .effect)
+  -- an action does to them what it does to the state, where its conditions are of their variables
+  pub part-apply : (a : Action) → ((e : Effect) → List·Memᴰ e (a .effects) → (f : Fact) → List·Memᴰ f (e .condition) → f .variable < n)
+      → take n (apply s a) ≡ apply (take n s) a
+  unfolding apply
+  part-apply a own =
+      part-assign n s (acting s (a .effects))
+      ∙ ap (assign (take n s)) (sym (acting-alike (take n s) s (a .effects) (λ e m. part-satisfies (e .condition) (own e m))))

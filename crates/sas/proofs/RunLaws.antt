@@ -6,9 +6,10 @@ use mathlib.Core.Bool.{true}
 use mathlib.Core.Option.{Option, none, some, Option·some-ne-none}
 use mathlib.Core.List.{List, [], _∷_, _++_, List·Memᴰ, List·Memᴰ·head, List·Memᴰ·tail}
 use Rattle.sas.specs.Task.{State, Action, Task}
-use Rattle.sas.specs.Plan.{applicable, apply, written, result, run}
+use Rattle.sas.specs.Plan.{applicable, acting, apply, result, run}
 use Rattle.sas.specs.between.WellFormed.{Within, Action-formed, Well-formed}
 use Rattle.sas.proofs.WellFormedLaws.{Actions-formed, assign-within}
+use Rattle.sas.proofs.EffectLaws.{acting-written}
 use Rattle.sas.proofs.ActionLaws.{result-applied, result-assigned}
 
 pub run-nothing : (s : State) → run s [] ≡ some s
@@ -45,8 +46,9 @@ run-append s t (a ∷ p) q h = let (u, first, rest) = run-first s a p h in run-r
 
 -- an action over the domains keeps a state within them
 pub result-within : {domains : List ℕ} {s t : State} (a : Action) → Action-formed domains a → Within domains s → result s a ≡ some t → Within domains t
-unfolding apply written
-result-within {s} a formed within h = rw (result-assigned s a h) (assign-within (a .effect) (formed .known) within)
+unfolding apply
+result-within {s} a formed within h =
+    rw (result-assigned s a h) (assign-within (acting s (a .effects)) (λ f m. formed .known f (acting-written s a m)) within)
 
 run-stays-within : {domains : List ℕ} {s t : State} (p : List Action) → Actions-formed domains p → Within domains s → run s p ≡ some t → Within domains t
 run-stays-within {s} {t} [] formed within h = rw (run-end s t h) at within

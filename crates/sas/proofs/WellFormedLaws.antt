@@ -1,19 +1,21 @@
--- The facts of an assignment whose variables rise are known, of variables from its lower bound on, no more than those, and agree, so that a plain action with
--- an assignment as its precondition is one over the domains; and to assign known facts keeps a state within its domains. By induction on how the variables
--- rise, or along the facts. Assumes nothing.
+-- The facts of an assignment whose variables rise are known, of variables from its lower bound on, no more than those, and agree, so that effects with such facts
+-- don't conflict and a plain action with an assignment as its precondition is one over the domains; and to assign known facts keeps a state within its
+-- domains. By induction on how the variables rise, or along the facts. Assumes nothing.
 use Prim.Native.Nat.{ℕ, _-_, _≤_, _<_}
 use native.Mathlib.Omega.{arith}
-use mathlib.Core.Path.{_≡_, refl, _∙_, ap}
-use mathlib.Core.List.{List, [], _∷_, List·Memᴰ, List·Memᴰ·head, List·Memᴰ·tail, Memᴰ·append-right}
+use mathlib.Core.Path.{_≡_, refl, sym, _∙_, ap}
+use mathlib.Core.List.{List, [], _∷_, List·Memᴰ, List·Memᴰ·head, List·Memᴰ·tail, Memᴰ·append-right, Memᴰ·map, Memᴰ·of-map}
 use mathlib.Core.Bool.{Bool, true, false}
 use lib.ListN.{length, getD, set, length-set, take, drop, take-append-drop}
 use lib.Seq.{getD-set-same, getD-set-other}
 use lib.Dec.{eqb}
-use borrow.Author.Tests.{eqb-true, eqb-false}
-use Rattle.sas.specs.Task.{Fact, Assignment, State, Action}
+use borrow.Author.Tests.{eqb-true, eqb-false, eq-eqb}
+use Rattle.sas.specs.Task.{Fact, Assignment, State, Effect, always, Action}
 use Rattle.sas.specs.Plan.{assign, written, may-write}
+use Rattle.sas.specs.Conflict.{some-of, differ, conflict, conflicting}
 use Rattle.sas.specs.between.WellFormed.{Known, Rising, Within, Agreeing, Action-formed, Plain}
 use Rattle.sas.specs.between.WellFormed.Rising.{empty, fact}
+use Rattle.sas.proofs.SomeLaws.{none-found}
 
 -- each action of a sequence is one over the domains
 abbrev pub Actions-formed : List ℕ → List Action → Type 0
@@ -42,7 +44,7 @@ rising-few empty = omega arith
 rising-few (fact known above rest) = omega (arith, known .variable, rising-few rest)
 
 -- each variable is named once, so the facts agree
-rising-agrees : {domains : List ℕ} {from : ℕ} {q : Assignment} → Rising domains from q → Agreeing q
+pub rising-agrees : {domains : List ℕ} {from : ℕ} {q : Assignment} → Rising domains from q → Agreeing q
 rising-agrees (fact known above rest) f g (List·Memᴰ·head one) (List·Memᴰ·head two) same = rw (one, two)
 rising-agrees (fact known above rest) f g (List·Memᴰ·head one) (List·Memᴰ·tail two) same = absurd (omega (arith, ap (λ k. k .variable) one, rising-above rest two))
 rising-agrees (fact known above rest) f g (List·Memᴰ·tail one) (List·Memᴰ·head two) same = absurd (omega (arith, ap (λ k. k .variable) two, rising-above rest one))
@@ -50,18 +52,39 @@ rising-agrees (fact known above rest) f g (List·Memᴰ·tail one) (List·Memᴰ
 
 -- what a plain action may write is known
 pub plain-known : {domains : List ℕ} {a : Action} {f : Fact} → Plain domains a → may-write a f → Known domains f
-unfolding written
-plain-known plain w = rising-known (plain .effect) w
+plain-known plain w = rising-known (plain .rising) w
 
 -- and agrees
 pub plain-agrees : {domains : List ℕ} {a : Action} → Plain domains a → Agreeing (written a)
-unfolding written
-plain-agrees plain = rising-agrees (plain .effect)
+plain-agrees plain = rising-agrees (plain .rising)
+
+-- effects whose facts agree don't conflict
+pub agreeing-consistent : (a : Action) → Agreeing (written a) → conflicting a ≡ false
+unfolding conflicting conflict differ written
+agreeing-consistent a agree = none-found (λ d. some-of (conflict (a .precondition) d) (a .effects)) (a .effects) (λ d m. none-found (conflict (a .precondition) d) (a .effects) (λ e n. pair d e m n))
+  where
+    pair : (d e : Effect) → List·Memᴰ d (a .effects) → List·Memᴰ e (a .effects) → conflict (a .precondition) d e ≡ false
+    pair d e m n = by-case (eqb (d .fact .variable) (e .fact .variable)) refl
+      where
+        by-case : (b : Bool) → eqb (d .fact .variable) (e .fact .variable) ≡ b → conflict (a .precondition) d e ≡ false
+        by-case false h = rw h
+        by-case true h =
+            let value : d .fact .value ≡ e .fact .value = agree (d .fact) (e .fact) (Memᴰ·map (λ x. x .fact) m) (Memᴰ·map (λ x. x .fact) n) (eqb-true _ _ h) in
+            rw (h, eq-eqb (d .fact .value) (e .fact .value) value)
+
+-- the conditions of a plain action's effects are empty
+pub plain-conditions : {domains : List ℕ} {a : Action} → Plain domains a → (e : Effect) → List·Memᴰ e (a .effects) → e .condition ≡ []
+plain-conditions {a = a} plain e m = let (f, n, same) = Memᴰ·of-map always (written a) (rw (plain .without-condition) at m) in ap (λ x. x .condition) (sym same)
 
 -- and with an assignment as its precondition it is one over the domains
 pub plain-formed : {domains : List ℕ} (a : Action) → Rising domains 0 (a .precondition) → Plain domains a → Action-formed domains a
 plain-formed a precondition plain =
-    record { precondition = precondition; known = λ f w. plain-known plain w; agreeing = plain-agrees plain }
+    record {
+      precondition = precondition;
+      conditions = λ e m. rw (plain-conditions plain e m) empty;
+      known = λ f w. plain-known plain w;
+      consistent = agreeing-consistent a (plain-agrees plain);
+    }
 
 -- a known fact's variable may be set to its value
 set-within : {domains : List ℕ} {s : State} {f : Fact} → Known domains f → Within domains s → Within domains (set s (f .variable) (f .value))

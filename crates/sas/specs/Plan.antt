@@ -3,19 +3,28 @@ use Prim.Native.Nat.{ℕ, _+_}
 use mathlib.Core.Path.{_≡_}
 use mathlib.Core.Bool.{Bool, true, false, _&&_}
 use mathlib.Core.Option.{Option, none, some}
-use mathlib.Core.List.{List, [], _∷_, _++_, List·Memᴰ}
+use mathlib.Core.List.{List, [], _∷_, _++_, map, List·Memᴰ}
 use lib.ListN.{length, getD, set}
 use lib.Dec.{ltb, eqb}
-use Rattle.sas.specs.Task.{Fact, Assignment, State, Action, Task}
+use Rattle.sas.specs.Task.{Fact, Assignment, State, Effect, Action, Task}
 
 -- a fact holds in a state: the state has its variable, at its value
 unfoldable pub holds : State → Fact → Bool
 holds s f = ltb (f .variable) (length s) && eqb (getD s (f .variable) 0) (f .value)
 
--- the facts that an action may make true: those of its effect. Above this crate no definition and no theorem looks into
--- an effect: they speak of these facts and of those needed, by the laws of proofs/ActionLaws.
+-- the facts that an action may make true: those of its effects, whatever their conditions. Above this crate few
+-- definitions look into an effect: they speak of these facts and of those needed, by the laws of proofs/ActionLaws.
 unfoldable pub written : Action → Assignment
-written a = a .effect
+written a = map (λ e. e .fact) (a .effects)
+
+-- the facts of those effects that have no condition
+unfoldable pub unconditional : List Effect → Assignment
+unconditional [] = []
+unconditional (e ∷ es) = elim (e .condition) [ [] ↦ e .fact ∷ unconditional es | f ∷ q ↦ unconditional es ]
+
+-- the facts that an action makes true wherever it is applied
+unfoldable pub written-always : Action → Assignment
+written-always a = unconditional (a .effects)
 
 -- the facts that must hold where an action is applied: those of its precondition
 unfoldable pub needed : Action → Assignment
@@ -23,6 +32,9 @@ needed a = a .precondition
 
 abbrev pub may-write : Action → Fact → Type 0
 may-write a f = List·Memᴰ f (written a)
+
+abbrev pub always-writes : Action → Fact → Type 0
+always-writes a f = List·Memᴰ f (written-always a)
 
 abbrev pub needs : Action → Fact → Type 0
 needs a f = List·Memᴰ f (needed a)
@@ -47,9 +59,15 @@ unfoldable pub assign : State → Assignment → State
 assign s [] = s
 assign s (f ∷ e) = assign (set s (f .variable) (f .value)) e
 
--- the state that an action makes of a state: its effect is assigned
+-- the facts of those effects that act in a state, whose conditions hold there
+unfoldable pub acting : State → List Effect → Assignment
+acting s [] = []
+acting s (e ∷ es) = elim (satisfies s (e .condition)) [ true ↦ e .fact ∷ acting s es | false ↦ acting s es ]
+
+-- the state that an action makes of a state: all conditions are read there, then all acting facts are assigned. In
+-- which order does not matter, since no two of them disagree (`acting-agrees` of proofs/ActionLaws).
 unfoldable pub apply : State → Action → State
-apply s a = assign s (a .effect)
+apply s a = assign s (acting s (a .effects))
 
 -- γ(s, a), the result of an action: undefined where the action is not applicable
 unfoldable pub result : State → Action → Option State

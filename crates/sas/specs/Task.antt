@@ -15,15 +15,24 @@ Assignment = List Fact
 abbrev pub State : Type 0
 State = List ℕ
 
--- an action: its precondition, its effect and its cost
+-- an effect: a fact, and the condition under which it is made true, which may be empty
+pub record Effect : Type 0 where
+  pub condition : Assignment
+  pub fact : Fact
+
+-- an effect without a condition
+abbrev pub always : Fact → Effect
+always f = record { condition = []; fact = f }
+
+-- an action: its precondition, its effects and its cost
 pub record Action : Type 0 where
   pub precondition : Assignment
-  pub effect : Assignment
+  pub effects : List Effect
   pub cost : ℕ
 
 -- an action that needs nothing and does nothing, at no cost
 abbrev pub idle : Action
-idle = record { precondition = []; effect = []; cost = 0 }
+idle = record { precondition = []; effects = []; cost = 0 }
 
 -- a planning task (V, A, I, G): variable v has the values below its domain size, at index v
 pub record Task : Type 0 where

@@ -7,8 +7,9 @@ use mathlib.Core.Bool.{Bool, true, false, true≢false}
 use mathlib.Core.List.{List, [], _∷_, _++_, List·Memᴰ, List·Memᴰ·head, List·Memᴰ·tail, List·Memᴰ·not-nil, Memᴰ·cast}
 use lib.ListN.{length, getD}
 use Rattle.sas.specs.Task.{Fact, Assignment, State, Action, idle}
-use Rattle.sas.specs.Plan.{holds, written, needed, may-write, needs}
+use Rattle.sas.specs.Plan.{holds, written, written-always, needed, may-write, always-writes, needs}
 use Rattle.sas.proofs.FactLaws.{holds-variable, holds-value, holds-there}
+use Rattle.sas.proofs.EffectLaws.{each-always}
 use Rattle.reduction.specs.Landmark.{step, values-from, start-step, end-step, framed, Writes-other}
 
 -- the steps of a list that has one more behind its last
@@ -60,20 +61,21 @@ value-there v (x ∷ s) zero y h e = let here : y ≡ v = omega arith in List·M
 value-there v (x ∷ s) (suc k) y h e = List·Memᴰ·tail (value-there (suc v) s k y (omega arith) (omega arith))
 
 module _ (s : State) {f : Fact} where
-  -- what the start step writes holds at the start
-  pub start-holds : may-write (start-step s) f → holds s f ≡ true
-  unfolding written
+  -- what the start step always writes holds at the start
+  start-holds : always-writes (start-step s) f → holds s f ≡ true
+  unfolding written-always
   start-holds w =
-      let (k, below, variable, value) = value-why 0 s w in
+      let (k, below, variable, value) = value-why 0 s (rw (each-always (values-from 0 s)) at w) in
       let here : f .variable ≡ k = omega arith in
       holds-there s f (rw here below) (rw here (sym value))
 
-  -- and what holds there the start step writes
-  pub holds-start : holds s f ≡ true → may-write (start-step s) f
-  unfolding written
+  -- and what holds there the start step always writes
+  holds-start : holds s f ≡ true → always-writes (start-step s) f
+  unfolding written-always
   holds-start h =
       let value : f .value ≡ getD s (f .variable) 0 = sym (holds-value s f h) in
-      Memᴰ·cast (λ i. record { variable = f .variable; value = value i }) (value-there 0 s (f .variable) (f .variable) (holds-variable s f h) (omega arith))
+      rw (each-always (values-from 0 s))
+      (Memᴰ·cast (λ i. record { variable = f .variable; value = value i }) (value-there 0 s (f .variable) (f .variable) (holds-variable s f h) (omega arith)))
 
 -- a fact of a known variable that the starting values don't hold has another value there
 pub start-other : (s : State) (f : Fact) → f .variable < length s → holds s f ≡ false → Writes-other (start-step s) f

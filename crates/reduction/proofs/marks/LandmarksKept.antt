@@ -1,5 +1,5 @@
 -- Every valid reduction keeps every marked step. If it struck one, the fact that the later marked step needs would be false behind the earlier one, which wrote
--- another value, and stay false up to the later one, since no other step between writes it. By induction on the rule, and for one link along the states
+-- another value there whatever the state, and stay false up to the later one, since no other step between writes it. By induction on the rule, and for one link along the states
 -- before the indices between. Assumes nothing.
 use Prim.Native.Nat.{ℕ, zero, suc, _≤_, _<_}
 use native.Mathlib.Omega.{arith}
@@ -74,7 +74,8 @@ module _ {domains : List ℕ} (s : State) (goal : Assignment) (p : List Action) 
         let up : keeps m y = earlier y is below in
         let (t, reached) = reach y (omega arith) in
         let (g, w, variable, value) : Writes-other (step p y) f = rw (is, framed-step s goal p y below) at (link .other-earlier) in
-        (apply t (step p y), next y t below reached .kept-next up, other-fails (step p y) t f (each-step formed y below) w variable value)
+        let on : Passes s p m y t = next y t below reached in
+        (apply t (step p y), on .kept-next up, other-fails (step p y) t f (each-step formed y below) (on .able up) w variable value)
 
     -- it stays false at each step between
     false-next : (z : ℕ) → i ≤ z → z < length p → suc z < j → False-before z → False-before (suc z)

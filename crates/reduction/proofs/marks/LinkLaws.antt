@@ -10,12 +10,13 @@ use lib.ListN.{getD}
 use lib.Dec.{ltb, eqb}
 use borrow.Author.Tests.{eqb-true, eq-eqb, ltb-true, ltb-false, lt-ltb, not-true}
 use Rattle.sas.specs.Task.{Fact, Action}
-use Rattle.sas.specs.Plan.{written, may-write, needs}
+use Rattle.sas.specs.Plan.{written, written-always, may-write, needs}
 use Rattle.reduction.specs.Reduction.{Reduction, keeps}
 use Rattle.reduction.specs.Landmark.{step, Writes-other, Link}
 use Rattle.reduction.specs.between.Wanted.{has}
 use Rattle.reduction.specs.between.Landmarks.{other-value, sets-other, passed, trace, support}
-use Rattle.reduction.proofs.MemberLaws.{found, found-passes, has-member, member-has, has-no-member, no-member-has}
+use Rattle.reduction.proofs.MemberLaws.{has-member, member-has, has-no-member, no-member-has}
+use Rattle.sas.proofs.SomeLaws.{found, found-passes}
 
 pub either : (b : Bool) → (b ≡ true) ⊎ (b ≡ false)
 either true = inl refl
@@ -28,7 +29,7 @@ before-or-at i k h = ⊎-elim (λ e. inl (ltb-true i k e)) (λ e. inr (omega (ar
 pub sets-writes : (a : Action) (f : Fact) → sets-other a f ≡ true → Writes-other a f
 unfolding sets-other
 sets-writes a f h =
-    let (g, w, passes) = found-passes (other-value f) (written a) h in
+    let (g, w, passes) = found-passes (other-value f) (written-always a) h in
     let (variable, value) = and-eq-true-iff (eqb (g .variable) (f .variable)) (not (eqb (g .value) (f .value))) .0 passes in
     (g, w, eqb-true _ _ variable, λ same. false≢true (sym (not-true _ value) ∙ eq-eqb _ _ same))
 

@@ -25,7 +25,8 @@ use Rattle.reduction.specs.between.Sound.{Flags-kept}
 use Rattle.reduction.specs.between.Cuts.{wanted-held, tests}
 use Rattle.reduction.specs.between.Course.{held-after, held, On-course}
 use Rattle.reduction.proofs.ReductionLaws.{whole-valid, contains-behind, alike-behind}
-use Rattle.reduction.proofs.MemberLaws.{found, has-member, member-has, has-no-member}
+use Rattle.reduction.proofs.MemberLaws.{has-member, member-has, has-no-member}
+use Rattle.sas.proofs.SomeLaws.{found}
 use Rattle.reduction.proofs.turns.WantedLaws.{wanted-holds, wanted-before, first-wanted}
 use Rattle.reduction.proofs.turns.HeldLaws.{run-length, each-step, apply-held, held-more, held-kept, held-struck, held-alike}
 use Rattle.reduction.proofs.minimal.BeforeLaws.{before-first, rest-valid, before-next}

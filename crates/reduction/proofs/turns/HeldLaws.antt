@@ -15,7 +15,7 @@ use borrow.Author.Tests.{eqb-true, eq-eqb}
 use Rattle.sas.specs.Task.{Fact, State, Action, idle}
 use Rattle.sas.specs.Plan.{holds, apply, run, written, may-write}
 use Rattle.sas.specs.between.WellFormed.{Plain}
-use Rattle.sas.proofs.FactLaws.{holds-value}
+use Rattle.sas.proofs.EffectLaws.{one-value}
 use Rattle.sas.proofs.WellFormedLaws.{plain-known, each-behind}
 use Rattle.sas.proofs.ActionLaws.{result-assigned, apply-length, apply-other, apply-holds}
 use Rattle.sas.proofs.RunLaws.{run-end, run-first}
@@ -24,7 +24,8 @@ use Rattle.reduction.specs.Landmark.{step}
 use Rattle.reduction.specs.between.Wanted.{has}
 use Rattle.reduction.specs.between.Course.{touches, held-after, held}
 use Rattle.reduction.proofs.ReductionLaws.{alike-before}
-use Rattle.reduction.proofs.MemberLaws.{or-cases, found, found-passes, has-member, has-no-member}
+use Rattle.reduction.proofs.MemberLaws.{has-member, has-no-member}
+use Rattle.sas.proofs.SomeLaws.{or-cases, found, found-passes}
 
 -- a run keeps the number of variables
 pub run-length : {t : State} (s : State) (p : List Action) → run s p ≡ some t → length t ≡ length s
@@ -36,10 +37,8 @@ pub each-step : {P : Action → Type 0} {p : List Action} → ((a : Action) → 
 each-step {p = p} each i inside = each-behind each i (step p i) (rw (drop-cons p i idle inside) (List·Memᴰ·head refl))
 
 -- of one variable one fact holds
-one-value : (t : State) (f g : Fact) → f .variable ≡ g .variable → holds t f ≡ true → holds t g ≡ true → f ≡ g
-one-value t f g same h k =
-    let value : f .value ≡ g .value = sym (holds-value t f h) ∙ ap (λ x. getD t x 0) same ∙ holds-value t g k in
-    λ i. record { variable = same i; value = value i }
+one-fact : (t : State) (f g : Fact) → f .variable ≡ g .variable → holds t f ≡ true → holds t g ≡ true → f ≡ g
+one-fact t f g same h k = let value : f .value ≡ g .value = one-value t f g same h k in λ i. record { variable = same i; value = value i }
 
 -- a fact of a variable that an action may not write is as before
 untouched-held : (a : Action) (f : Fact) (t : State) → touches a f ≡ false → holds (apply t a) f ≡ holds t f
@@ -62,7 +61,7 @@ apply-held {domains} a f t plain fits = by-case (has (written a) f) (touches a f
     set-otherwise false e h k = refl
     set-otherwise true e h k =
         let (g, w, same) = found-passes (λ g. eqb (g .variable) (f .variable)) (written a) h in
-        let one : f ≡ g = one-value (apply t a) f g (sym (eqb-true _ _ same)) k (written-holds g w) in
+        let one : f ≡ g = one-fact (apply t a) f g (sym (eqb-true _ _ same)) k (written-holds g w) in
         absurd (has-no-member (written a) f e (Memᴰ·cast one w))
 
     by-case : (x y : Bool) → has (written a) f ≡ x → touches a f ≡ y → holds (apply t a) f ≡ (x || not y && holds t f)

@@ -18,7 +18,8 @@ use Rattle.reduction.specs.between.Order.{Contains}
 use Rattle.reduction.specs.Landmark.{step}
 use Rattle.reduction.specs.between.Wanted.{has, wanted}
 use Rattle.reduction.proofs.ValidLaws.{valid-end, valid-first}
-use Rattle.reduction.proofs.MemberLaws.{or-cases, has-member, member-has, has-no-member, no-member-has}
+use Rattle.reduction.proofs.MemberLaws.{has-member, member-has, has-no-member, no-member-has}
+use Rattle.sas.proofs.SomeLaws.{or-cases}
 
 pub keeps-later : (m : Reduction) (i : ℕ) → getD (drop 1 m) i false ≡ getD m (suc i) false
 keeps-later [] i = refl

@@ -11,13 +11,14 @@ use Rattle.sas.specs.Task.{Fact, Assignment, State, Action}
 use Rattle.sas.specs.Plan.{holds, written}
 use Rattle.reduction.specs.Reduction.{Reduction}
 use Rattle.reduction.specs.Landmark.{step}
-use Rattle.reduction.specs.between.Wanted.{some-fact, has, wanted}
+use Rattle.reduction.specs.between.Wanted.{has, wanted}
+use Rattle.sas.specs.Conflict.{some-of}
 use Rattle.reduction.specs.between.Search.{Visit}
 use Rattle.reduction.specs.between.Sound.{Visited}
 
 -- an action may write the variable of a fact
 unfoldable pub touches : Action → Fact → Bool
-touches a f = some-fact (λ g. eqb (g .variable) (f .variable)) (written a)
+touches a f = some-of (λ g. eqb (g .variable) (f .variable)) (written a)
 
 -- whether a fact holds after an action is done, by whether it held before
 unfoldable pub held-after : Action → Fact → Bool → Bool

@@ -7,18 +7,19 @@ use mathlib.Core.List.{List, [], _∷_, _++_}
 use lib.ListN.{length, getD, take, drop, set, replicate}
 use lib.Dec.{ltb, eqb}
 use Rattle.sas.specs.Task.{Fact, Assignment, State, Action}
-use Rattle.sas.specs.Plan.{written, needed}
+use Rattle.sas.specs.Plan.{written, written-always, needed}
 use Rattle.reduction.specs.Reduction.{Reduction}
 use Rattle.reduction.specs.Landmark.{step, framed}
-use Rattle.reduction.specs.between.Wanted.{some-fact, has}
+use Rattle.reduction.specs.between.Wanted.{has}
+use Rattle.sas.specs.Conflict.{some-of}
 
 -- of two facts the second gives the first one's variable another value
 abbrev pub other-value : Fact → Fact → Bool
 other-value f g = eqb (g .variable) (f .variable) && not (eqb (g .value) (f .value))
 
--- a step writes another value to the variable of f
+-- a step writes another value to the variable of f, with no condition
 unfoldable pub sets-other : Action → Fact → Bool
-sets-other a f = some-fact (other-value f) (written a)
+sets-other a f = some-of (other-value f) (written-always a)
 
 -- what is known of a fact before a position: the position of its last writer; one more than that of the last marked
 -- step that wrote another value to its variable; and its support, which is its last writer, if such a marked step

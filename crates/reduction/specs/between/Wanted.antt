@@ -7,19 +7,15 @@ use lib.ListN.{getD, drop}
 use lib.Dec.{eqb}
 use Rattle.sas.specs.Task.{Fact, Assignment, Action}
 use Rattle.sas.specs.Plan.{written, needed}
+use Rattle.sas.specs.Conflict.{some-of}
 use Rattle.reduction.specs.Reduction.{Reduction}
-
--- some fact of an assignment passes a test
-unfoldable pub some-fact : (Fact → Bool) → Assignment → Bool
-some-fact test [] = false
-some-fact test (f ∷ q) = test f || some-fact test q
 
 unfoldable pub same-fact : Fact → Fact → Bool
 same-fact f g = eqb (f .variable) (g .variable) && eqb (f .value) (g .value)
 
 -- a fact is one of an assignment's
 unfoldable pub has : Assignment → Fact → Bool
-has q f = some-fact (same-fact f) q
+has q f = some-of (same-fact f) q
 
 -- a fact is wanted before the steps p, of which m flags some: a flagged step needs it, or the goal does, before any
 -- step writes it
