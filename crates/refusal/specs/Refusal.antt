@@ -5,7 +5,7 @@ use mathlib.Core.Option.{Option, none, some}
 use Rattle.refusal.specs.declared.Refusal.{Refusal}
 use Rattle.refusal.specs.declared.Refusal.the-variants.{Length, Edition, Counts, Pair, Variable, Fact, Cost}
 use Rattle.refusal.specs.declared.Refusal.the-variants.{PlanLength, UnknownAction, ShortOutput, NotAPlan}
-use Rattle.refusal.specs.declared.Refusal.the-variants.{Unmarked, Form, Unsupported, Unwritable}
+use Rattle.refusal.specs.declared.Refusal.the-variants.{Unmarked, Form, Unsupported, Unwritable, Conflict}
 use Rattle.refusal.specs.declared.Verdict.{Verdict}
 use Rattle.refusal.specs.declared.Verdict.the-variants.{Passed, Refused}
 
@@ -30,6 +30,7 @@ told-refusal (Unmarked n) = record { number = 12; place = n }
 told-refusal (Form n) = record { number = 13; place = n }
 told-refusal (Unsupported n) = record { number = 14; place = n }
 told-refusal Unwritable = record { number = 15; place = 0 }
+told-refusal (Conflict a) = record { number = 16; place = a }
 
 -- a verdict's refusal, if it is one
 abbrev pub told : Verdict → Option Told

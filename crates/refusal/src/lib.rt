@@ -21,6 +21,7 @@ pub enum Refusal {
     Form(usize),
     Unsupported(usize),
     Unwritable,
+    Conflict(usize),
 }
 
 impl Refusal {
@@ -44,6 +45,7 @@ impl Refusal {
             Refusal::Form(_) => 13,
             Refusal::Unsupported(_) => 14,
             Refusal::Unwritable => 15,
+            Refusal::Conflict(_) => 16,
         }
     }
 
@@ -67,6 +69,7 @@ impl Refusal {
             Refusal::Form(n) => n,
             Refusal::Unsupported(n) => n,
             Refusal::Unwritable => 0,
+            Refusal::Conflict(a) => a,
         }
     }
 }

@@ -2,28 +2,32 @@
 -- made of words that a check has passed, and a group of facts rises because each fact was compared with the one before it. Assumes nothing.
 use Prim.Native.Nat.{ℕ, zero, suc, _+_, _-_, _≤_, _<_}
 use native.Mathlib.Omega.{arith}
-use mathlib.Core.Path.{_≡_, refl, sym, _∙_}
-use mathlib.Core.Bool.{Bool, false, _&&_}
+use mathlib.Core.Path.{_≡_, refl, sym, _∙_, ap}
+use mathlib.Core.Bool.{Bool, true, false, _&&_}
 use mathlib.Core.Option.{some}
-use mathlib.Core.List.{List, List·Memᴰ}
+use mathlib.Core.List.{List, map, List·Memᴰ, Memᴰ·map, Memᴰ·of-map}
 use lib.ListN.{length, getD}
 use lib.Dec.{ltb, leb}
-use borrow.Author.Tests.{ltb-false, leb-false, lt-ltb}
+use borrow.Author.Tests.{ltb-false, leb-false, lt-ltb, eqb-true, not-false}
 use Rattle.refusal.specs.declared.place.Place.the-variants.{Nowhere}
-use Rattle.refusal.specs.Place.{first-of}
-use Rattle.sas.specs.Task.{Fact, State, Action}
-use Rattle.sas.specs.Plan.{run}
+use Rattle.refusal.specs.Place.{when, first-of}
+use Rattle.sas.specs.Task.{Fact, Assignment, State, Effect, always, Action}
+use Rattle.sas.specs.Plan.{run, written}
+use Rattle.sas.specs.Conflict.{conflicting}
 use Rattle.sas.specs.between.WellFormed.{Known, Rising, Within, Action-formed, Plain, Well-formed}
 use Rattle.sas.specs.between.WellFormed.Rising.{empty, fact}
-use Rattle.sas.proofs.WellFormedLaws.{plain-formed}
+use Rattle.sas.proofs.WellFormedLaws.{plain-known, plain-conditions}
+use Rattle.sas.proofs.EffectLaws.{each-written}
 use Rattle.sas.proofs.RunLaws.{run-within}
 use Rattle.sheet.specs.Limits.{limits}
-use Rattle.sheet.specs.Layout.{word, variables, actions, domain, start, goal-start, goal-end, cost-word, precondition-start, effect-start, effect-end}
-use Rattle.sheet.specs.Decode.{table, fact-of, facts, domains, initial, goal, action, task}
-use Rattle.sheet.specs.Causes.{bad-variable, variable-place, bad-fact, group-place, action-place, fact-place, cost-place, Accepted}
-use Rattle.refusal.proofs.PlaceLaws.{or-else-nowhere, first-nowhere, first-of-nowhere}
+use Rattle.sheet.specs.Layout.{word, edition, first-edition, has-conditions, variables, actions, domain, start, goal-start, goal-end, cost-word, precondition-start, effect-start, effect-end, effect-fact}
+use Rattle.sheet.specs.Decode.{table, fact-of, facts, domains, initial, goal, effect-words, effect-at, effects, action, task}
+use Rattle.sheet.specs.Causes.{bad-edition, bad-variable, variable-place, bad-fact, group-place, bad-effect, effect-place, effects-place, action-place, fact-place, cost-place, conflict-place, Accepted}
+use Rattle.sheet.specs.between.Encode.{Unfalling}
+use Rattle.refusal.proofs.PlaceLaws.{or-else-nowhere, when-nowhere, first-nowhere, first-of-nowhere}
 use Rattle.sheet.proofs.CauseLaws.{Clear, accepted-clear, none-of-three, not-both}
 use Rattle.sheet.proofs.TableLaws.{table-length, table-at, table-member, table-member-at}
+use Rattle.sheet.proofs.ChainLaws.{first-in-nowhere, clear-unfalling}
 
 pub domains-length : (w : List ℕ) → length (domains w) ≡ variables w
 unfolding domains
@@ -74,6 +78,15 @@ good-fact w from i h =
           rw (← there) (leb-false _ _ (not-both (ltb from i) falling rising (lt-ltb from i (omega arith))));
     }
 
+-- the fact of an effect of edition 2 that is not bad is known
+effect-known : (w : List ℕ) (from end i : ℕ) → bad-effect w from end i ≡ false → Known (domains w) (fact-of (word w (effect-fact w end i)))
+unfolding bad-effect
+effect-known w from end i h =
+    let f : Fact = fact-of (word w (effect-fact w end i)) in
+    let (variable, value, unfallen) = none-of-three (leb (variables w) (f .variable)) (leb (domain w (f .variable)) (f .value)) _ h in
+    let below : f .variable < variables w = leb-false _ _ variable in
+    record { variable = rw domains-length below; value = rw (domains-at w (f .variable) below) (leb-false _ _ value) }
+
 module _ (w : List ℕ) (from end : ℕ) (clear : group-place w from end ≡ Nowhere) where
   good : (i : ℕ) → from ≤ i → i < end → Good-fact w from i
   unfolding group-place
@@ -98,6 +111,62 @@ module _ (w : List ℕ) (from end : ℕ) (clear : group-place w from end ≡ Now
   unfolding facts
   rising-group = rising-first (end - from) (omega arith)
 
+-- where no fact is bad, the goal and the preconditions are assignments over the domains, and effects are what their edition has
+module _ (w : List ℕ) (no-bad-fact : fact-place w ≡ Nowhere) where
+  facts-clear : (group-place w (goal-start w) (goal-end w) ≡ Nowhere) × (first-of (action-place w) 0 (actions w) ≡ Nowhere)
+  unfolding fact-place
+  facts-clear = or-else-nowhere (group-place w (goal-start w) (goal-end w)) (first-of (action-place w) 0 (actions w)) no-bad-fact
+
+  pub goal-formed : Rising (domains w) 0 (goal w)
+  unfolding goal
+  goal-formed = rising-group w (goal-start w) (goal-end w) (facts-clear .0)
+
+  groups-clear : (a : ℕ) → a < actions w
+      → (group-place w (precondition-start w a) (effect-start w a) ≡ Nowhere) × (effects-place w (effect-start w a) (effect-end w a) ≡ Nowhere)
+  unfolding action-place
+  groups-clear a h =
+      or-else-nowhere (group-place w (precondition-start w a) (effect-start w a)) (effects-place w (effect-start w a) (effect-end w a))
+      (first-of-nowhere (action-place w) 0 (actions w) (facts-clear .1) a (omega arith) h)
+
+  pub precondition-formed : (a : ℕ) → a < actions w → Rising (domains w) 0 (action w a .precondition)
+  unfolding action
+  precondition-formed a h = rising-group w _ _ (groups-clear a h .0)
+
+  -- in edition 1 an action is plain
+  pub action-plain : has-conditions w ≡ false → (a : ℕ) → a < actions w → Plain (domains w) (action w a)
+  unfolding action effects effects-place written
+  action-plain first a h =
+      let q : Assignment = facts w (effect-start w a) (effect-end w a) in
+      let all : action w a .effects ≡ map always q = rw first in
+      let facts-of : map (λ e. e .fact) (action w a .effects) ≡ q = ap (map (λ e. e .fact)) all ∙ each-written q in
+      record { without-condition = all ∙ ap (map always) (sym facts-of); rising = rw facts-of (rising-group w _ _ (rw first at (groups-clear a h .1))) }
+
+  -- in edition 2 the facts of an action's effects don't fall, and each effect has a condition over the domains and a known fact
+  pub action-in-order : has-conditions w ≡ true → (a : ℕ) → a < actions w → Unfalling 0 (written (action w a))
+  unfolding action effects-place written
+  action-in-order second a h = rw second (clear-unfalling w (effect-start w a) (effect-end w a) (rw second at (groups-clear a h .1)))
+
+  effect-formed : has-conditions w ≡ true → (a : ℕ) → a < actions w → (e : Effect) → List·Memᴰ e (action w a .effects)
+      → Rising (domains w) 0 (e .condition) × Known (domains w) (e .fact)
+  unfolding action effects effects-place effect-place effect-at
+  effect-formed second a h e m =
+      let from : ℕ = effect-start w a in
+      let end : ℕ = effect-end w a in
+      let (i, among, same) = Memᴰ·of-map (effect-at w end) (effect-words w end from (end - from)) (rw second at m) in
+      let clear-here : effect-place w from end i ≡ Nowhere = first-in-nowhere (effect-place w from end) (rw second at (groups-clear a h .1)) among in
+      let (group, own) = or-else-nowhere (group-place w (i + 1) (effect-fact w end i)) (when (bad-effect w from end i) (effect-fact w end i)) clear-here in
+      rw (← same) (rising-group w _ _ group, effect-known w from end i (when-nowhere (bad-effect w from end i) (effect-fact w end i) own))
+
+  pub effects-formed : (a : ℕ) → a < actions w → (e : Effect) → List·Memᴰ e (action w a .effects) → Rising (domains w) 0 (e .condition) × Known (domains w) (e .fact)
+  unfolding written
+  effects-formed a h e m = by-case (has-conditions w) refl
+    where
+      by-case : (b : Bool) → has-conditions w ≡ b → Rising (domains w) 0 (e .condition) × Known (domains w) (e .fact)
+      by-case true second = effect-formed second a h e m
+      by-case false first =
+          let plain : Plain (domains w) (action w a) = action-plain first a h in
+          (rw (plain-conditions plain e m) empty, plain-known plain (Memᴰ·map (λ d. d .fact) m))
+
 module _ (w : List ℕ) (accepted : Accepted w) where
   clear : Clear w
   clear = accepted-clear w accepted
@@ -120,39 +189,38 @@ module _ (w : List ℕ) (accepted : Accepted w) where
             rw (domains-at w v here, table-at (start w) 0 (variables w) v v 0 here (omega arith)) (variable v here .starts);
       }
 
-  facts-clear : (group-place w (goal-start w) (goal-end w) ≡ Nowhere) × (first-of (action-place w) 0 (actions w) ≡ Nowhere)
-  unfolding fact-place
-  facts-clear = or-else-nowhere (group-place w (goal-start w) (goal-end w)) (first-of (action-place w) 0 (actions w)) (clear .facts)
-
-  goal-formed : Rising (domains w) 0 (goal w)
-  unfolding goal
-  goal-formed = rising-group w (goal-start w) (goal-end w) (facts-clear .0)
-
-  groups-clear : (a : ℕ) → a < actions w
-      → (group-place w (precondition-start w a) (effect-start w a) ≡ Nowhere) × (group-place w (effect-start w a) (effect-end w a) ≡ Nowhere)
-  unfolding action-place
-  groups-clear a h =
-      or-else-nowhere (group-place w (precondition-start w a) (effect-start w a)) (group-place w (effect-start w a) (effect-end w a))
-      (first-of-nowhere (action-place w) 0 (actions w) (facts-clear .1) a (omega arith) h)
-
-  action-plain : (a : ℕ) → a < actions w → Plain (domains w) (action w a)
-  unfolding action
-  action-plain a h = record { effect = rising-group w _ _ (groups-clear a h .1) }
+  -- the edition is the first
+  pub accepted-first : has-conditions w ≡ false
+  unfolding bad-edition
+  accepted-first = let first : edition w ≡ first-edition = eqb-true _ _ (not-false _ (clear .edition)) in rw first
 
   action-formed : (a : ℕ) → a < actions w → Action-formed (domains w) (action w a)
-  unfolding action
-  action-formed a h = plain-formed (action w a) (rising-group w _ _ (groups-clear a h .0)) (action-plain a h)
+  unfolding action written conflict-place
+  action-formed a h =
+      record {
+        precondition = precondition-formed w (clear .facts) a h;
+        conditions = λ e m. effects-formed w (clear .facts) a h e m .0;
+        known = λ f n. let (e, m, same) = Memᴰ·of-map (λ d. d .fact) (action w a .effects) n in rw (← same) (effects-formed w (clear .facts) a h e m .1);
+        consistent = first-nowhere (λ b. conflicting (action w b)) 0 (actions w) (clear .conflicts) a (omega arith) h;
+      }
 
-  -- every action of an accepted sheet is plain: this is where theorems about plain actions get it from
+  -- every action of an accepted sheet of edition 1 is plain: this is where theorems about plain actions get it from
+  pub first-plain : has-conditions w ≡ false → {a : Action} → List·Memᴰ a (task w .actions) → Plain (domains w) a
+  first-plain first m = let (k, h, e) = action-numbered w m in rw e (action-plain w (clear .facts) first k h)
+
+  -- and of edition 2 one whose effects are in the order of their facts
+  pub second-in-order : has-conditions w ≡ true → {a : Action} → List·Memᴰ a (task w .actions) → Unfalling 0 (written a)
+  second-in-order second m = let (k, h, e) = action-numbered w m in rw e (action-in-order w (clear .facts) second k h)
+
   pub accepted-plain : {a : Action} → List·Memᴰ a (task w .actions) → Plain (domains w) a
-  accepted-plain m = let (k, h, e) = action-numbered w m in rw e (action-plain k h)
+  accepted-plain = first-plain accepted-first
 
   pub accepted-well-formed : Well-formed (task w)
   unfolding task
   accepted-well-formed =
       record {
         initial = initial-within;
-        goal = goal-formed;
+        goal = goal-formed w (clear .facts);
         actions = λ a m. let (k, h, e) = action-numbered w m in rw e (action-formed k h);
       }
 

@@ -7,7 +7,7 @@ use mathlib.Core.List.{List}
 use Rattle.refusal.specs.declared.place.Place.the-variants.{Nowhere}
 use Rattle.refusal.proofs.PlaceLaws.{when-nowhere}
 use Rattle.refusal.proofs.CheckLaws.{none-fires}
-use Rattle.sheet.specs.Causes.{bad-length, bad-edition, bad-counts, pair-place, variable-place, fact-place, cost-place, sheet-checks, Accepted}
+use Rattle.sheet.specs.Causes.{bad-length, bad-edition, bad-counts, pair-place, variable-place, fact-place, cost-place, conflict-place, sheet-checks, Accepted}
 
 -- where a choice of tests is false, each of them is
 pub neither : (a b : Bool) → (a || b) ≡ false → (a ≡ false) × (b ≡ false)
@@ -31,6 +31,7 @@ pub record Clear (w : List ℕ) : Type 0 where
   pub variables : variable-place w ≡ Nowhere
   pub facts : fact-place w ≡ Nowhere
   pub costs : cost-place w ≡ Nowhere
+  pub conflicts : conflict-place w ≡ Nowhere
 
 pub accepted-clear : (w : List ℕ) → Accepted w → Clear w
 unfolding sheet-checks
@@ -41,7 +42,8 @@ accepted-clear w h =
     let (pairs-clear, after-pairs) = none-fires _ _ after-counts in
     let (variables-clear, after-variables) = none-fires _ _ after-pairs in
     let (facts-clear, after-facts) = none-fires _ _ after-variables in
-    let (costs-clear, done) = none-fires _ _ after-facts in
+    let (costs-clear, after-costs) = none-fires _ _ after-facts in
+    let (conflicts-clear, done) = none-fires _ _ after-costs in
     record {
       length = when-nowhere (bad-length w) 0 length-clear;
       edition = when-nowhere (bad-edition w) 0 edition-clear;
@@ -50,4 +52,5 @@ accepted-clear w h =
       variables = variables-clear;
       facts = facts-clear;
       costs = costs-clear;
+      conflicts = conflicts-clear;
     }

@@ -14,7 +14,11 @@ pub mod EffectLaws
 pub mod Accepted
 -- LaidLaws: parts that stand end to end among words, as their pairs say; they do in just the words that `sheet-of` writes.
 pub mod LaidLaws
--- EncodeLaws: a fact and its word, and that words among which the parts of a task are laid out mean that task.
+-- FactWords: a fact and its word, and facts among words.
+pub mod FactWords
+-- ChainLaws: effects of edition 2 that stand one behind the other.
+pub mod ChainLaws
+-- EncodeLaws: that words among which the parts of a task are laid out mean that task.
 pub mod EncodeLaws
 -- PassLaws: words that are laid out in order and mean a task that can be written are accepted.
 pub mod PassLaws

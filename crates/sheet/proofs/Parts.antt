@@ -13,7 +13,7 @@ use Rattle.refusal.specs.declared.place.Place.the-variants.{Nowhere}
 use Rattle.refusal.specs.Place.{when, first}
 use Rattle.sheet.specs.Limits.{limits}
 use Rattle.sheet.specs.Layout.{word, variables, actions, stated-length, pairs, pairs-end, offset, size, part-end, effect-start, effect-end}
-use Rattle.sheet.specs.Causes.{bad-length, bad-counts, due, wrong-size, bad-pair, pair-place, Accepted}
+use Rattle.sheet.specs.Causes.{bad-length, bad-counts, due, past-part, wrong-size, bad-pair, pair-place, Accepted}
 use Rattle.refusal.proofs.PlaceLaws.{or-else-nowhere, first-nowhere}
 use Rattle.sheet.proofs.CauseLaws.{Clear, accepted-clear, neither, none-of-three, not-both}
 
@@ -51,13 +51,14 @@ unfolding due
 due-later w k = let before : k + 1 - 1 ≡ k = omega arith in rw (ne-eqb (k + 1) 0 (λ e. omega arith), due, before)
 
 -- pair k has the offset due, and its part ends where the words end or before, there if it is the last, and is as long as its kind may be:
--- a word for each variable, or for an action a cost, a number of precondition facts, and that many facts at least
+-- a word for each variable, or for an action a cost, a number of precondition facts, and that many facts at least, and then effects none of which runs past it
 record Good-pair (w : List ℕ) (k : ℕ) : Type 0 where
   in-place : offset w k ≡ due w k
   inside : part-end w k ≤ stated-length w
   last : k + 1 ≡ pairs w → stated-length w ≤ part-end w k
   variables-size : k < 2 → size w k ≡ variables w
   action-size : 3 ≤ k → word w (offset w k + 1) + 2 ≤ size w k
+  whole-effects : 3 ≤ k → past-part w (part-end w k) (offset w k + 2 + word w (offset w k + 1)) ≡ false
 
 good-pair : (w : List ℕ) (k : ℕ) → bad-pair w k ≡ false → Good-pair w k
 unfolding bad-pair wrong-size
@@ -70,13 +71,17 @@ good-pair w k h =
     let more-facts : Bool = ltb (size w k - 2) (word w (offset w k + 1)) in
     let (placed, ends, rest) = none-of-three (not (eqb (offset w k) (due w k))) long (is-last && short || wrong-size w k) h in
     let (unfinished, sizes) = neither (is-last && short) (wrong-size w k) rest in
-    let (small, large) = neither (ltb k 2 && not of-variables) (leb 3 k && (no-header || more-facts)) sizes in
+    let past : Bool = past-part w (part-end w k) (offset w k + 2 + word w (offset w k + 1)) in
+    let (small, large) = neither (ltb k 2 && not of-variables) (leb 3 k && (no-header || (more-facts || past))) sizes in
+    let action : 3 ≤ k → (no-header ≡ false) × (more-facts ≡ false) × (past ≡ false) =
+    λ e. none-of-three no-header more-facts past (not-both (leb 3 k) (no-header || (more-facts || past)) large (le-leb _ _ e)) in
     record {
       in-place = eqb-true _ _ (not-false _ placed);
       inside = ltb-false _ _ ends;
       last = λ e. ltb-false _ _ (not-both is-last short unfinished (eq-eqb _ _ e));
       variables-size = λ e. eqb-true _ _ (not-false _ (not-both (ltb k 2) (not of-variables) small (lt-ltb _ _ e)));
-      action-size = λ e. let (header, facts) = neither no-header more-facts (not-both (leb 3 k) (no-header || more-facts) large (le-leb _ _ e)) in omega (arith, ltb-false);
+      action-size = λ e. let (header, facts, none-past) = action e in omega (arith, ltb-false);
+      whole-effects = λ e. action e .2;
     }
 
 module _ (w : List ℕ) (accepted : Accepted w) where
@@ -130,3 +135,7 @@ module _ (w : List ℕ) (accepted : Accepted w) where
   effect-inside a h =
       let here : 3 + a < pairs w = omega arith in
       omega (arith, part-inside (3 + a) here, pair (3 + a) here .action-size (omega arith))
+
+  -- and none of its effects runs past it
+  pub effects-whole : (a : ℕ) → a < actions w → past-part w (effect-end w a) (effect-start w a) ≡ false
+  effects-whole a h = pair (3 + a) (omega arith) .whole-effects (omega arith)

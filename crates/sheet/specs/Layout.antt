@@ -1,8 +1,10 @@
 -- Where the parts of a task stand among its words (document 01, "The job sheet"). A word past the end reads as 0; in an
 -- accepted task none is read. Assumes nothing.
-use Prim.Native.Nat.{ℕ, _+_, _*_}
+use Prim.Native.Nat.{ℕ, _+_, _*_, min}
+use mathlib.Core.Bool.{Bool}
 use mathlib.Core.List.{List}
 use lib.ListN.{getD}
+use lib.Dec.{eqb}
 
 abbrev pub word : List ℕ → ℕ → ℕ
 word w i = getD w i 0
@@ -10,6 +12,16 @@ word w i = getD w i 0
 -- word 0, the edition
 abbrev pub edition : List ℕ → ℕ
 edition w = word w 0
+
+-- the edition of document 01, and that of document 02, C-15, whose effects have conditions
+abbrev pub first-edition : ℕ
+first-edition = 1
+
+abbrev pub second-edition : ℕ
+second-edition = 2
+
+abbrev pub has-conditions : List ℕ → Bool
+has-conditions w = eqb (edition w) second-edition
 
 -- word 1, 01's V
 abbrev pub variables : List ℕ → ℕ
@@ -62,8 +74,8 @@ goal-start w = offset w 2
 abbrev pub goal-end : List ℕ → ℕ
 goal-end w = part-end w 2
 
--- pair 3 + a: the part of action a is its cost, its number of precondition facts, those facts, and its effect facts up
--- to the end
+-- pair 3 + a: the part of action a is its cost, its number of precondition facts, those facts, and its effects up to the
+-- end: in edition 1 a fact each
 abbrev pub cost-word : List ℕ → ℕ → ℕ
 cost-word w a = word w (offset w (3 + a))
 
@@ -78,3 +90,9 @@ effect-start w a = offset w (3 + a) + 2 + precondition-count w a
 
 abbrev pub effect-end : List ℕ → ℕ → ℕ
 effect-end w a = part-end w (3 + a)
+
+-- in edition 2 an effect is its number of condition facts, those facts, and its own fact. That one stands behind the
+-- others, for the effect at word i of a part that ends at word `end`: in an accepted sheet before the end, and never
+-- past it
+abbrev pub effect-fact : List ℕ → ℕ → ℕ → ℕ
+effect-fact w end i = min (i + 1 + word w i) end

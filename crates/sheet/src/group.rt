@@ -5,6 +5,7 @@ use crate::effects::Effects;
 use crate::layout::ACTION_HEADER;
 use crate::layout::FIRST_ACTION;
 use crate::layout::GOAL;
+use crate::layout::has_conditions;
 use crate::layout::number;
 use crate::layout::offset;
 use crate::layout::size;
@@ -99,6 +100,7 @@ pub fn facts_of(w: &[u32], a: u32) -> ActionFacts
         effects: Effects {
             at: effect,
             end: from + size(w, k),
+            conditional: has_conditions(w),
         },
     }
 }

@@ -4,6 +4,7 @@ ghost use mathlib.Core.Path.{_≡_};
 ghost use Prim.Native.Nat.{_<_, _≤_, _^_};
 ghost use Rattle.sheet.specs.Layout.{word as word-at, variables as variables-of, actions as actions-of};
 ghost use Rattle.sheet.specs.Layout.{offset as offset-of, size as size-of, cost-word};
+ghost use Rattle.sheet.specs.Layout.{has-conditions, effect-fact};
 
 // The words of the header, and the pair where the actions begin.
 pub const EDITION_AT: usize = 0;
@@ -29,14 +30,37 @@ pub const FIRST_ACTION: usize = 3;
 // An action's part begins with its cost and its number of precondition facts.
 pub const ACTION_HEADER: usize = 2;
 
-// The one edition that is read and written.
+// The edition of document 01, and that of document 02 whose effects have conditions.
 pub const EDITION: usize = 1;
+
+pub const SECOND_EDITION: usize = 2;
 
 // A word as a number.
 pub fn number(w: &[u32], i: usize) -> usize
     ensures { λ r. ⌜ (r ≡ word-at (now (w .entry)) i) × (r < 2 ^ 32) ⌝ }
 {
     word(w, i) as usize
+}
+
+// Whether the edition is one whose effects have conditions.
+pub fn has_conditions(w: &[u32]) -> bool
+    ensures { λ r. ⌜ r ≡ has-conditions (now (w .entry)) ⌝ }
+{
+    number(w, EDITION_AT) == SECOND_EDITION
+}
+
+// Where the fact of an effect that has a condition stands, for the effect at word `at` of a part that ends at word
+// `end`: behind its number of condition facts and these, and never past the end.
+pub fn effect_fact(w: &[u32], end: usize, at: usize) -> usize
+    ensures { λ r. ⌜ r ≡ effect-fact (now (w .entry)) end at ⌝ }
+{
+    if at < end {
+        let behind = number(w, at) + 1;
+        if behind < end - at {
+            return at + behind;
+        }
+    }
+    end
 }
 
 // The number of variables, 01's V.

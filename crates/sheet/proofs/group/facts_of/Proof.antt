@@ -27,8 +27,14 @@ size-requires c κs = search needs
 add-t8 : tie.Need-add-t8
 add-t8 c = search needs
 
+has-conditions-requires : tie.Need-has-conditions-requires
+has-conditions-requires c κs = search needs
+
 returns : tie.Need-returns
-returns c = let from = c .before .before .offset .ensures .0 in (rw (c .before .number .ensures .0, from), rw (c .before .number .ensures .0, c .size .ensures .0, from))
+returns c =
+    let from = c .before .before .before .offset .ensures .0 in
+    let many = c .before .before .number .ensures .0 in
+    (rw (many, from), rw (many, c .before .size .ensures .0, c .has-conditions .ensures, from))
 
 pub facts-of-spec : {M : Type 1} → statement M
 facts-of-spec =
@@ -42,4 +48,5 @@ facts-of-spec =
     add-effect
     size-requires
     add-t8
+    has-conditions-requires
     returns)
