@@ -7,14 +7,18 @@ use sheet::layout::LENGTH_AT;
 use sheet::layout::PAIR;
 use sheet::layout::PAIRS_AT;
 use sheet::layout::actions;
+use sheet::layout::effect_fact;
+use sheet::layout::has_conditions;
 use sheet::layout::number;
 use sheet::layout::offset;
 use sheet::layout::size;
 use sheet::layout::variables;
 ghost use mathlib.Core.Path.{_≡_};
-ghost use Prim.Native.Nat.{_<_, _≤_, _^_};
+ghost use Prim.Native.Nat.{_<_, _≤_, _-_, _^_};
+ghost use Rattle.sas.specs.Conflict.{some-of};
 ghost use Rattle.sheet.specs.Layout.{pairs-end as pairs-end-of};
-ghost use Rattle.sheet.specs.Causes.{due as due-of, wrong-size, bad-pair, pair-place};
+ghost use Rattle.sheet.specs.Decode.{effect-words};
+ghost use Rattle.sheet.specs.Causes.{due as due-of, runs-past, past-part, wrong-size, bad-pair, pair-place};
 
 // Where the pairs end.
 fn pairs_end(w: &[u32]) -> usize
@@ -34,6 +38,29 @@ fn due(w: &[u32], k: usize) -> usize
     offset(w, k - 1) + size(w, k - 1)
 }
 
+// Whether an effect with a condition runs past the end of its part: the effects stand from word `from` on.
+fn some_past(w: &[u32], end: usize, from: usize) -> bool
+    ensures { λ r. ⌜ r ≡ some-of (runs-past (now (w .entry)) end) (effect-words (now (w .entry)) end from (end - from)) ⌝ }
+{
+    let mut i = from;
+    while i < end {
+        if end - (i + 1) < number(w, i) + 1 {
+            return true;
+        }
+        i = effect_fact(w, end, i) + 1;
+    }
+    false
+}
+
+fn past_part(w: &[u32], end: usize, from: usize) -> bool
+    ensures { λ r. ⌜ r ≡ past-part (now (w .entry)) end from ⌝ }
+{
+    if has_conditions(w) {
+        return some_past(w, end, from);
+    }
+    false
+}
+
 fn wrong_size(w: &[u32], k: usize) -> bool
     requires { ⌜ k ≤ 2 ^ 33 ⌝ }
     ensures { λ r. ⌜ r ≡ wrong-size (now (w .entry)) k ⌝ }
@@ -51,10 +78,12 @@ fn wrong_size(w: &[u32], k: usize) -> bool
     if words < ACTION_HEADER {
         return true;
     }
-    if words - ACTION_HEADER < number(w, offset(w, k) + 1) {
+    let from = offset(w, k);
+    let needed = number(w, from + 1);
+    if words - ACTION_HEADER < needed {
         return true;
     }
-    false
+    past_part(w, from + words, from + ACTION_HEADER + needed)
 }
 
 fn bad_pair(w: &[u32], k: usize) -> bool

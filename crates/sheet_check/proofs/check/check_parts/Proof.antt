@@ -5,7 +5,10 @@ use lib.ListN.{drop}
 use mathlib.Core.Path.{_≡_, sym, _∙_}
 use Rattle.refusal.specs.Check.{answer}
 use Rattle.refusal.proofs.CheckLaws.{answer-nothing, answer-fires, answer-passes}
-use Rattle.sheet.specs.Causes.{sheet-checks}
+use Rattle.refusal.specs.declared.place.Place.{Place}
+use Rattle.sheet.specs.Causes.{conflict-place, sheet-checks}
+use Rattle.conflict.specs.between.Found.{Finds}
+use Rattle.sheet_check.proofs.CountLaws.{variables-few}
 use borrow.Author.Needs.{needs}
 use Rattle.sheet_check.proofs.check.check_parts.Statement.{statement}
 use Rattle.sheet_check.proofs.check.check_parts.Tie as tie
@@ -26,6 +29,17 @@ past-variable c = past-pair (c .before .before .before) ∙ answer-passes _ _ (s
 past-fact : (c : tie.After-enum-told3) → answer (drop 3 (sheet-checks (words (c .before .before .before .before .before .before .before .before .before .before)))) ≡ answer (drop 6 (sheet-checks (words (c .before .before .before .before .before .before .before .before .before .before))))
 unfolding sheet-checks
 past-fact c = past-variable (c .before .before .before) ∙ answer-passes _ _ (sym (c .before .before .bad-fact-place .ensures) ∙ c .enum-told3 .given .1)
+
+past-cost : (c : tie.After-enum-told4) → answer (drop 3 (sheet-checks (words (c .before .before .before .before .before .before .before .before .before .before .before .before .before)))) ≡ answer (drop 7 (sheet-checks (words (c .before .before .before .before .before .before .before .before .before .before .before .before .before))))
+unfolding sheet-checks
+past-cost c = past-fact (c .before .before .before) ∙ answer-passes _ _ (sym (c .before .before .bad-cost-place .ensures) ∙ c .enum-told4 .given .1)
+
+-- past the checks of the header and of the facts, what the last check finds is the place of its cause
+conflict-found : (c : tie.After-enum-told4) {p : Place} → Finds (words (c .before .before .before .before .before .before .before .before .before .before .before .before .before)) p
+    → p ≡ conflict-place (words (c .before .before .before .before .before .before .before .before .before .before .before .before .before))
+conflict-found c found =
+    let fact = c .before .before .before in
+    found .told (sym (fact .before .before .bad-fact-place .ensures) ∙ fact .enum-told3 .given .1) (variables-few _ (fact .before .before .before .before .before .before .before .before .before .before .pre))
 
 bad-pair-place-requires : tie.Need-bad-pair-place-requires
 bad-pair-place-requires c κs = search needs
@@ -79,9 +93,26 @@ returns-4 c = sym (past-fact (c .before .before .before .before) ∙ answer-fire
 enum-told-4 : tie.Need-enum-told-4
 enum-told-4 c = search needs
 
+conflict-place-requires : tie.Need-conflict-place-requires
+conflict-place-requires c κs = search needs
+
+enum-known-conflict : tie.Need-enum-known-conflict
+enum-known-conflict c = search needs
+
 returns-5 : tie.Need-returns-5
 unfolding sheet-checks
-returns-5 c = sym (past-fact (c .before .before .before) ∙ answer-passes _ _ (sym (c .before .before .bad-cost-place .ensures) ∙ c .enum-told4 .given .1) ∙ answer-nothing)
+returns-5 c =
+    let past = c .before .before .before .before in
+    sym (past-cost past ∙ answer-fires _ _ _ (sym (conflict-found past (c .before .before .before .conflict-place .ensures)) ∙ c .before .conflict .given .1))
+
+enum-told-5 : tie.Need-enum-told-5
+enum-told-5 c = search needs
+
+returns-6 : tie.Need-returns-6
+unfolding sheet-checks
+returns-6 c =
+    let past = c .before .before .before in
+    sym (past-cost past ∙ answer-passes _ _ (sym (conflict-found past (c .before .before .conflict-place .ensures)) ∙ c .enum-told5 .given .1) ∙ answer-nothing)
 
 pub check-parts-spec : {M : Type 1} → statement M
 check-parts-spec =
@@ -103,4 +134,8 @@ check-parts-spec =
     enum-known-cost
     returns-4
     enum-told-4
-    returns-5)
+    conflict-place-requires
+    enum-known-conflict
+    returns-5
+    enum-told-5
+    returns-6)

@@ -28,7 +28,7 @@ unfolding sheet-checks
 returns-3 c = sym (answer-passes _ _ (rw (← c .before .before .before .before .before .bad-length .ensures, c .before .before .before .before .if1 .left)) ∙ answer-passes _ _ (rw (← c .before .before .before .bad-edition .ensures, c .before .before .if2 .left)) ∙ answer-fires _ _ 0 (rw (← c .before .bad-counts .ensures, c .if3 .taken)))
 
 check-parts-requires : tie.Need-check-parts-requires
-check-parts-requires c κs = search needs
+check-parts-requires c κs = sym (c .before .bad-counts .ensures) ∙ c .if3 .left
 
 returns-4 : tie.Need-returns-4
 unfolding sheet-checks

@@ -1,4 +1,4 @@
--- `bad_in_action` meets its contract: a bad fact of the precondition, or else the first of the effect. Assumes nothing.
+-- `bad_in_action` meets its contract: a bad fact of the precondition, or else the first of the effects. Assumes nothing.
 use Rattle.sheet_check.proofs.BadFactLaws.{in-precondition, not-in-precondition}
 use borrow.Author.Needs.{needs}
 use Rattle.sheet_check.proofs.facts.bad_in_action.Statement.{statement}
@@ -16,20 +16,16 @@ enum-known-found c = search needs
 enum-told : tie.Need-enum-told
 enum-told c = search needs
 
-group-requires : tie.Need-group-requires
-group-requires c κs = search needs
-
-bad-in-group-requires-2 : tie.Need-bad-in-group-requires-2
-bad-in-group-requires-2 c κs = search needs
+bad-in-effects-requires : tie.Need-bad-in-effects-requires
+bad-in-effects-requires c κs = search needs
 
 returns : tie.Need-returns
 returns c = in-precondition _ _ _ _ (c .before .before .before .before .facts-of .ensures .0) (c .before .before .before .bad-in-group .ensures) _ (c .before .found .given .1)
 
 returns-2 : tie.Need-returns-2
 returns-2 c =
-    let found = c .before .before .before .before in
-    not-in-precondition _ _ _ _ (found .before .facts-of .ensures .0) (found .bad-in-group .ensures) _ _ _ (c .before .before .enum-told .given .1) (found .before .facts-of .ensures .1)
-    (c .before .group .ensures) (c .bad-in-group2 .ensures)
+    let found = c .before .before .before in
+    not-in-precondition _ _ _ _ (found .before .facts-of .ensures .0) (found .bad-in-group .ensures) _ _ (c .before .enum-told .given .1) (found .before .facts-of .ensures .1) (c .bad-in-effects .ensures)
 
 pub bad-in-action-spec : {M : Type 1} → statement M
 bad-in-action-spec =
@@ -39,7 +35,6 @@ bad-in-action-spec =
     bad-in-group-requires
     enum-known-found
     enum-told
-    group-requires
-    bad-in-group-requires-2
+    bad-in-effects-requires
     returns
     returns-2)

@@ -2,7 +2,8 @@
 use Prim.Native.Nat.{ℕ, _<_}
 use native.Mathlib.Omega.{arith}
 use Rattle.sheet.specs.Causes.{wrong-size}
-use borrow.Author.Tests.{le-ltb, lt-ltb, le-leb, lt-leb, eq-eqb, ne-eqb}
+use Rattle.sheet_check.proofs.PastLaws.{no-header, no-needs, no-effects}
+use borrow.Author.Tests.{le-ltb, lt-ltb, lt-leb, eq-eqb, ne-eqb}
 use mathlib.Core.Path.{sym}
 use borrow.Author.Needs.{needs}
 use Rattle.sheet_check.proofs.pairs.wrong_size.Statement.{statement}
@@ -30,8 +31,7 @@ unfolding wrong-size
 returns-3 c = simp (sym (c .before .before .size .ensures .0), le-ltb _ _ (c .before .if1 .left), lt-leb _ _ (c .if3 .taken))
 
 returns-4 : tie.Need-returns-4
-unfolding wrong-size
-returns-4 c = simp (sym (c .before .before .before .size .ensures .0), le-ltb _ _ (c .before .before .if1 .left), le-leb _ _ (c .before .if3 .left), lt-ltb _ _ (c .if4 .taken))
+returns-4 c = no-header _ _ _ (c .before .if3 .left) (c .before .before .before .size .ensures .0) (c .if4 .taken)
 
 offset-requires : tie.Need-offset-requires
 offset-requires c κs = search needs
@@ -43,12 +43,27 @@ number-requires : tie.Need-number-requires
 number-requires c κs = search needs
 
 returns-5 : tie.Need-returns-5
-unfolding wrong-size
-returns-5 c = simp (sym (c .before .before .before .before .before .before .size .ensures .0), le-ltb _ _ (c .before .before .before .before .before .if1 .left), le-leb _ _ (c .before .before .before .before .if3 .left), le-ltb _ _ (c .before .before .before .if4 .left), sym (c .before .before .offset .ensures .0), sym (c .before .number .ensures .0), lt-ltb _ _ (c .if5 .taken))
+returns-5 c =
+    let start = c .before .before .before in
+    no-needs _ _ _ (start .before .if3 .left) (start .before .before .before .size .ensures .0) _ _ (c .before .before .offset .ensures .0) (c .before .number .ensures .0) (start .if4 .left) (c .if5 .taken)
+
+add-past-part : tie.Need-add-past-part
+add-past-part c = search needs
+
+add-past-part-2 : tie.Need-add-past-part-2
+add-past-part-2 c = search needs
+
+add-past-part-3 : tie.Need-add-past-part-3
+add-past-part-3 c = search needs
+
+past-part-requires : tie.Need-past-part-requires
+past-part-requires c κs = search needs
 
 returns-6 : tie.Need-returns-6
-unfolding wrong-size
-returns-6 c = simp (sym (c .before .before .before .before .before .before .size .ensures .0), le-ltb _ _ (c .before .before .before .before .before .if1 .left), le-leb _ _ (c .before .before .before .before .if3 .left), le-ltb _ _ (c .before .before .before .if4 .left), sym (c .before .before .offset .ensures .0), sym (c .before .number .ensures .0), le-ltb _ _ (c .if5 .left))
+returns-6 c =
+    let start = c .before .before .before .before in
+    no-effects _ _ _ (start .before .if3 .left) (start .before .before .before .size .ensures .0) _ _ (c .before .before .before .offset .ensures .0) (c .before .before .number .ensures .0) (start .if4 .left) _
+    (c .before .if5 .left) (c .past-part .ensures)
 
 pub wrong-size-spec : {M : Type 1} → statement M
 wrong-size-spec =
@@ -64,4 +79,8 @@ wrong-size-spec =
     add-number
     number-requires
     returns-5
+    add-past-part
+    add-past-part-2
+    add-past-part-3
+    past-part-requires
     returns-6)
