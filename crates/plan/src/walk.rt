@@ -4,6 +4,9 @@ use sheet::layout::cost;
 use step::advance::advance;
 use step::advance::goal_holds;
 use tally::Tally;
+ghost use Prim.Native.Nat.{_≤_};
+ghost use lib.ListN.{length};
+ghost use Rattle.sheet.specs.Limits.{limits};
 ghost use Rattle.plan.specs.between.Walk.{Walks};
 
 // Where a plan fails to be valid, and, where it does not, its tally.
@@ -14,6 +17,7 @@ pub(crate) struct Walked {
 
 // Does each step of a plan in turn in a lent state, and looks at the goal after the last.
 pub(crate) fn walk(words: &[u32], plan: &[u32], state: &mut [u32]) -> Walked
+    requires { ⌜ length (now state) ≤ limits .variables ⌝ }
     ensures { λ r. ⌜ Walks (now (words .entry)) (now (plan .entry)) (now (state .entry)) r (now (state .exit)) ⌝ }
 {
     let mut tally = Tally::new();

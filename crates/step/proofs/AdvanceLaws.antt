@@ -7,13 +7,13 @@ use mathlib.Core.Bool.{Bool, true, false}
 use mathlib.Core.List.{List, _++_}
 use lib.ListN.{length, take, drop}
 use lib.Seq.{length-take-le, take-all}
-use Rattle.sas.specs.Plan.{satisfies, applicable, assign}
+use Rattle.sas.specs.Plan.{satisfies, applicable, assign, acting}
 use Rattle.sas.proofs.ActionLaws.{apply-length, applicable-needed}
 use Rattle.sheet.specs.declared.group.Group.{Group}
 use Rattle.sheet.specs.declared.effects.Effects.{Effects}
 use Rattle.sheet.specs.Decode.{goal, action}
 use Rattle.sheet.specs.between.Group.{goal-group, needed-group, facts-in}
-use Rattle.sheet.specs.between.Effects.{effects-of, written-in}
+use Rattle.sheet.specs.between.Effects.{effects-of, effects-in}
 use Rattle.sheet.proofs.GroupLaws.{goal-facts, needed-facts}
 use Rattle.sheet.proofs.EffectLaws.{effects-applied}
 use Rattle.step.specs.declared.facts.Failing.{Failing}
@@ -30,7 +30,7 @@ module _ (w s : List ℕ) (a : ℕ) (g : Group) (f : Failing) (group : g ≡ nee
   pub advances-not : (x : ℕ) → f ≡ Fact x → Advances w s a false s
   advances-not x e = record { applied = ap passes (sym e) ∙ held; state = refl }
 
-  pub advances-done : (h : Effects) (after : List ℕ) → f ≡ Nothing → h ≡ effects-of w a → after ≡ assign s (written-in w h) → Advances w s a true after
+  pub advances-done : (h : Effects) (after : List ℕ) → f ≡ Nothing → h ≡ effects-of w a → after ≡ assign s (acting s (effects-in w h)) → Advances w s a true after
   advances-done h after e effects writes =
       record { applied = ap passes (sym e) ∙ held; state = writes ∙ rw effects (sym (effects-applied w a s)) }
 

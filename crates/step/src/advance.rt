@@ -6,13 +6,17 @@ use crate::state::size;
 use sheet::group::facts_of;
 use sheet::group::goal;
 ghost use mathlib.Core.Path.{_≡_};
+ghost use Prim.Native.Nat.{_≤_};
+ghost use lib.ListN.{length};
 ghost use Rattle.sas.specs.Plan.{satisfies};
+ghost use Rattle.sheet.specs.Limits.{limits};
 ghost use Rattle.sheet.specs.Decode.{goal as goal-of};
 ghost use Rattle.step.specs.State.{front};
 ghost use Rattle.step.specs.between.Advance.{Advances};
 
 // Does an action where it is applicable, and leaves the state where it is not; says which.
 pub fn advance(words: &[u32], state: &mut [u32], action: u32) -> bool
+    requires { ⌜ length (now state) ≤ limits .variables ⌝ }
     ensures { λ r. ⌜ Advances (now (words .entry)) (now (state .entry)) action r (now (state .exit)) ⌝ }
 {
     let facts = facts_of(words, action);

@@ -1,14 +1,21 @@
 // The test whether a group of facts holds, and the writes of an action's effects. Every service that does a step goes
 // through these two.
+use access::front;
 use access::put;
+use access::put_all;
 use sheet::effects::Effects;
 use sheet::group::Group;
 use sheet::limits::Sheet;
 ghost use mathlib.Core.Path.{_≡_};
-ghost use Rattle.sas.specs.Plan.{holds as holds-in, assign};
+ghost use mathlib.Core.Bool.{cond};
+ghost use mathlib.Core.List.{[], _∷_};
+ghost use Prim.Native.Nat.{_≤_};
+ghost use lib.ListN.{length, set};
+ghost use Rattle.sas.specs.Plan.{holds as holds-in, satisfies, assign, acting};
+ghost use Rattle.sheet.specs.Limits.{limits};
 ghost use Rattle.sheet.specs.Decode.{fact-of};
 ghost use Rattle.sheet.specs.between.Group.{facts-in, last-fact, front-of};
-ghost use Rattle.sheet.specs.between.Effects.{written-in};
+ghost use Rattle.sheet.specs.between.Effects.{effects-in, first-written, first-condition};
 ghost use Rattle.step.specs.between.Failing.{Tests};
 
 // Whether the fact that a word is holds in the state.
@@ -62,18 +69,74 @@ pub fn find_failing(words: &[u32], state: &[u32], group: Group) -> Failing
     Failing::Nothing
 }
 
-// Writes what an action's effects write into the state.
-pub fn write_effects(words: &[u32], state: &mut [u32], effects: Effects)
-    ensures { λ _. ⌜ now (state .exit) ≡ assign (now (state .entry)) (written-in (now (words .entry)) effects) ⌝ }
+// Writes a fact into the state.
+fn put_fact(state: &mut [u32], fact: u32)
+    ensures { λ _. ⌜ now (state .exit)
+        ≡ set (now (state .entry)) (fact-of fact .variable) (fact-of fact .value) ⌝ }
+{
+    put(
+        state,
+        fact as usize / Sheet::VALUES,
+        fact % Sheet::VALUES as u32,
+    );
+}
+
+// Writes the facts of a group into the state.
+fn write_group(words: &[u32], state: &mut [u32], group: Group)
+    ensures { λ _. ⌜ now (state .exit) ≡ assign (now (state .entry)) (facts-in (now (words .entry)) group) ⌝ }
+{
+    let mut rest = group;
+    while rest.at < rest.end {
+        put_fact(state, rest.first(words));
+        rest = rest.rest();
+    }
+}
+
+// Writes the fact of the first of an action's effects, where its condition holds in the state `before`.
+fn write_first(words: &[u32], before: &[u32], state: &mut [u32], effects: Effects)
+    ensures { λ _. ⌜ now (state .exit) ≡ assign (now (state .entry))
+        (cond (satisfies (now (before .entry)) (facts-in (now (words .entry)) (first-condition (now (words .entry)) effects)))
+        (fact-of (first-written (now (words .entry)) effects) ∷ []) []) ⌝ }
+{
+    let failing = find_failing(words, before, effects.condition(words));
+    match failing {
+        Failing::Fact(_) => {}
+        Failing::Nothing => put_fact(state, effects.first(words)),
+    }
+}
+
+// Writes the facts of those effects whose conditions hold in the state `before`.
+fn write_acting(words: &[u32], before: &[u32], state: &mut [u32], effects: Effects)
+    ensures { λ _. ⌜ now (state .exit) ≡ assign (now (state .entry))
+        (acting (now (before .entry)) (effects-in (now (words .entry)) effects)) ⌝ }
 {
     let mut rest = effects;
     while rest.at < rest.end {
-        let fact = rest.first(words);
-        put(
-            state,
-            fact as usize / Sheet::VALUES,
-            fact % Sheet::VALUES as u32,
-        );
+        write_first(words, before, state, rest);
         rest = rest.rest(words);
     }
+}
+
+// Writes what an action's effects write into the state. Their conditions are read in the state before any of it is
+// written, so that one with conditions is kept beside.
+pub fn write_effects(words: &[u32], state: &mut [u32], effects: Effects)
+    requires { ⌜ length (now state) ≤ limits .variables ⌝ }
+    ensures { λ _. ⌜ now (state .exit) ≡ assign (now (state .entry))
+        (acting (now (state .entry)) (effects-in (now (words .entry)) effects)) ⌝ }
+{
+    if effects.conditional {
+        let n = state.len();
+        let mut kept = [0u32; Sheet::VARIABLES];
+        put_all(&mut kept, state);
+        write_acting(words, front(&kept, n), state, effects);
+        return;
+    }
+    write_group(
+        words,
+        state,
+        Group {
+            at: effects.at,
+            end: effects.end,
+        },
+    );
 }

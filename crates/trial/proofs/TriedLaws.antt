@@ -13,7 +13,7 @@ use Rattle.tally.specs.Tally.{nothing, one-more}
 use Rattle.sheet.specs.Layout.{cost-word}
 use Rattle.sheet.specs.Decode.{domains, goal}
 use Rattle.sas.specs.Task.{Fact, Action}
-use Rattle.sas.specs.between.WellFormed.{Known}
+use Rattle.sas.specs.between.WellFormed.{Known, Action-formed}
 use Rattle.sas.proofs.WellFormedLaws.{rising-known}
 use Rattle.sas.proofs.ActionLaws.{needed-known}
 use Rattle.sas.proofs.PartLaws.{part-satisfies}
@@ -25,7 +25,7 @@ use Rattle.plan.specs.Readable.{Readable}
 use Rattle.plan.specs.Valid.{steps}
 use Rattle.plan.proofs.PlanLaws.{goal-rising, rest-formed}
 use Rattle.reduction.specs.Trials.{after}
-use Rattle.reduction.proofs.trials.PartWalk.{Own-needs, part-walk, after-length}
+use Rattle.reduction.proofs.trials.PartWalk.{Own-facts, part-walk, after-length}
 use Rattle.reduction.specs.Reduction.{Reduction}
 use Rattle.trial.specs.between.Walk.{flags-after, state-after, Fits, Balanced, Walks-rest}
 use Rattle.trial.specs.between.Trial.{Makes-trial}
@@ -49,13 +49,18 @@ module _ (w l : List ℕ) (i : ℕ) (m : Reduction) (s : List ℕ) (m′ : Reduc
         balanced = λ up fits. let over = first-balanced here up fits in balanced-then w l _ _ _ _ _ _ over (walks .balanced (balanced-fits w l _ _ _ _ over fits));
       }
 
--- what the actions of a list that can be read need, and the goal, are facts of the state's own variables
+-- what the actions of a list that can be read need and read, and the goal, are facts of the state's own variables
 module _ (w l : List ℕ) (readable : Readable w l) where
   own : (f : Fact) → Known (domains w) f → f .variable < state-size w
   own f known = omega (arith, known .variable, domains-length w, initial-length w, sized w (readable .accepted))
 
-  own-needs : (k : ℕ) → Own-needs (state-size w) (steps w (drop k l))
-  own-needs k a m f need = own f (needed-known a (rest-formed w l (readable .accepted) (readable .known) k a m) need)
+  own-facts : (k : ℕ) → Own-facts (state-size w) (steps w (drop k l))
+  own-facts k a m =
+      let formed : Action-formed (domains w) a = rest-formed w l (readable .accepted) (readable .known) k a m in
+      record {
+        needed = λ f need. own f (needed-known a formed need);
+        read = λ e among f n. own f (rising-known (formed .conditions e among) n);
+      }
 
   own-goal : (f : Fact) → List·Memᴰ f (goal w) → f .variable < state-size w
   own-goal f m = own f (rising-known (goal-rising w (readable .accepted)) m)
@@ -68,7 +73,7 @@ tries-front w l i m values m′ c none one struck price nothing-yet first left e
     let whole : Makes-trial w l i m values met left t = tries w l i m values m′ c none one struck price nothing-yet first left end met t inside here walks test in
     let room : state-size w ≤ length values = omega (arith, sized w (readable .accepted), few-variables w (readable .accepted)) in
     let rest : List Action = steps w (drop (i + 1) l) in
-    let (same, led) = part-walk (state-size w) values rest (drop (i + 1) m) (own-needs w l readable (i + 1)) room in
+    let (same, led) = part-walk (state-size w) values rest (drop (i + 1) m) (own-facts w l readable (i + 1)) room in
     let room-after : state-size w ≤ length (after values rest (drop (i + 1) m)) = rw (after-length values rest (drop (i + 1) m)) room in
     record {
       goal-met = whole .goal-met ∙ rw led (sym (part-satisfies (state-size w) _ room-after (goal w) (own-goal w l readable)));

@@ -7,6 +7,7 @@ ghost use mathlib.Core.Path.{_≡_};
 ghost use mathlib.Core.Bool.{true, false};
 ghost use Prim.Native.Nat.{_≤_};
 ghost use lib.ListN.{length, getD};
+ghost use Rattle.sheet.specs.Limits.{limits};
 ghost use Rattle.trial.specs.between.Walk.{Walks-rest, Does-or-strikes};
 
 // Does each kept step from index i on in turn, and strikes those that can't be done. Adds what it strikes to the tally
@@ -19,7 +20,7 @@ pub(crate) fn walk_rest(
     i: usize,
     struck: Tally,
 ) -> Tally
-    requires { ⌜ length (now plan) ≤ length (now flags) ⌝ }
+    requires { ⌜ (length (now plan) ≤ length (now flags)) × (length (now state) ≤ limits .variables) ⌝ }
     ensures { λ r. ⌜ Walks-rest (now (words .entry)) (now (plan .entry)) i
         (now (flags .entry)) (now (state .entry)) struck
         (now (flags .exit)) (now (state .exit)) r ⌝ }
@@ -46,7 +47,7 @@ fn do_or_strike(
     j: usize,
     struck: Tally,
 ) -> Tally
-    requires { ⌜ getD (now flags) j false ≡ true ⌝ }
+    requires { ⌜ (getD (now flags) j false ≡ true) × (length (now state) ≤ limits .variables) ⌝ }
     ensures { λ r. ⌜ Does-or-strikes (now (words .entry)) a j
         (now (flags .entry)) (now (state .entry)) struck
         (now (flags .exit)) (now (state .exit)) r ⌝ }

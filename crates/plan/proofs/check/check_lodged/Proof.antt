@@ -46,7 +46,7 @@ slice-aggregate-walk : tie.Need-slice-aggregate-walk
 slice-aggregate-walk c = lent-length _ _ _ (c .before .before .initial .ensures) (c .before .size .ensures .1)
 
 walk-requires : tie.Need-walk-requires
-walk-requires c κs = search needs
+walk-requires c κs = rw (← slice-aggregate-walk c) (c .before .size .ensures .1)
 
 enum-known-fault : tie.Need-enum-known-fault
 enum-known-fault c = search needs

@@ -14,7 +14,7 @@ slice-aggregate-advance : tie.Need-slice-aggregate-advance
 slice-aggregate-advance c = part-length _ _ (c .before .if1 .taken)
 
 advance-requires : tie.Need-advance-requires
-advance-requires c κs = search needs
+advance-requires c κs = rw (← part-length _ _ (c .before .if1 .taken)) (c .before .before .size .ensures .1)
 
 same-length : tie.Need-same-length
 same-length c = search needs

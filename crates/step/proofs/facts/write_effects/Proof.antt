@@ -1,70 +1,54 @@
--- `write_effects` meets its contract. The loop's invariant: writing what is left makes of the state what writing all makes, and no length changes. The measure is the number of words left. Assumes nothing.
-use Rattle.sheet.proofs.EffectLaws.{effects-shorter}
-use Rattle.step.proofs.FailingLaws.{assign-over, assign-next}
-use Rattle.sheet.specs.between.Effects.{written-in}
+-- `write_effects` meets its contract: conditions are read in a copy of the state, and effects without conditions are a group of facts. Assumes nothing.
+use mathlib.Core.Path.{refl, sym, _∙_, ap}
 use Rattle.sas.specs.Plan.{assign}
-use lib.ListN.{length}
-use Prim.Native.Nat.{_-_}
-use mathlib.Core.Path.{_≡_, refl, sym, _∙_}
+use Rattle.step.proofs.FailingLaws.{acted-beside, group-acting}
 use borrow.Author.Needs.{needs}
 use Rattle.step.proofs.facts.write_effects.Statement.{statement}
 use Rattle.step.proofs.facts.write_effects.Tie as tie
 
-abbrev Inv-loop : tie.InvT-loop
-Inv-loop words state₀ rest₀ state rest = (assign state (written-in words rest) ≡ assign state₀ (written-in words rest₀)) × (length state ≡ length state₀)
+slice-aggregate-put-all : tie.Need-slice-aggregate-put-all
+slice-aggregate-put-all c = search needs
 
-abbrev μ-loop : tie.MeasureT-loop
-μ-loop words state₀ rest₀ state rest = rest .end - rest .at
+put-all-requires : tie.Need-put-all-requires
+put-all-requires c κs = search needs
 
-loop-holds : tie.Need-loop-holds Inv-loop μ-loop
-loop-holds c = (refl, refl)
+slice-aggregate-front : tie.Need-slice-aggregate-front
+slice-aggregate-front c = search needs
 
-first-requires : tie.Need-first-requires Inv-loop μ-loop
-first-requires c κs = search needs
+front-requires : tie.Need-front-requires
+front-requires c κs = search needs
 
-cast-put : tie.Need-cast-put Inv-loop μ-loop
-cast-put c = search needs
+write-acting-requires : tie.Need-write-acting-requires
+write-acting-requires c κs = search needs
 
-cast-put-2 : tie.Need-cast-put-2 Inv-loop μ-loop
-cast-put-2 c = search needs
-
-rem-put : tie.Need-rem-put Inv-loop μ-loop
-rem-put c = search needs
-
-put-requires : tie.Need-put-requires Inv-loop μ-loop
-put-requires c κs = search needs
-
-rest-requires : tie.Need-rest-requires Inv-loop μ-loop
-rest-requires c κs = search needs
-
-loop-less : tie.Need-loop-less Inv-loop μ-loop
-loop-less c = effects-shorter (c .before .before .before .before .before .before .before .before .before .before .before .args .words .now) _ _ (c .rest .ensures) (c .before .before .before .before .before .before .if1 .taken)
-
-loop-again : tie.Need-loop-again Inv-loop μ-loop
-loop-again c =
-    let turn = c .before .before .before .before .before in
-    (rw (c .rest .ensures, c .before .before .before .put .ensures) (sym (assign-next _ _ _ (turn .before .if1 .taken) _ (turn .first .ensures .0)) ∙ turn .before .before .before .loop .inv .0), search needs)
-
-same-length : tie.Need-same-length Inv-loop μ-loop
+same-length : tie.Need-same-length
 same-length c = search needs
 
-returns : tie.Need-returns Inv-loop μ-loop
-returns c = sym (assign-over _ _ _ (c .if1 .left)) ∙ c .before .before .loop .inv .0
+returns : tie.Need-returns
+returns c =
+    let copied = c .before .before .before .before in
+    acted-beside _ _ _ _ _ _ _ refl (c .before .before .before .before .before .before .before .before .before .before .before .before .before .pre) (copied .before .before .before .put-all .ensures) (copied .front .ensures) (c .before .before .write-acting .ensures)
+
+write-group-requires : tie.Need-write-group-requires
+write-group-requires c κs = search needs
+
+same-length-2 : tie.Need-same-length-2
+same-length-2 c = search needs
+
+returns-2 : tie.Need-returns-2
+returns-2 c = c .before .before .write-group .ensures ∙ ap (assign _) (sym (group-acting _ _ _ (c .before .before .before .before .if1 .left)))
 
 pub write-effects-spec : {M : Type 1} → statement M
 write-effects-spec =
     tie.close
     (tie.spec
-    Inv-loop
-    μ-loop
-    loop-holds
-    first-requires
-    cast-put
-    cast-put-2
-    rem-put
-    put-requires
-    rest-requires
-    loop-less
-    loop-again
+    slice-aggregate-put-all
+    put-all-requires
+    slice-aggregate-front
+    front-requires
+    write-acting-requires
     same-length
-    returns)
+    returns
+    write-group-requires
+    same-length-2
+    returns-2)

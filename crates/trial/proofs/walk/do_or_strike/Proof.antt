@@ -11,7 +11,7 @@ same-length : tie.Need-same-length
 same-length c = search needs
 
 returns : tie.Need-returns
-returns c = turns-done _ _ _ _ _ _ _ _ (c .before .before .before .before .before .before .before .before .pre) (c .before .before .before .advance .ensures) (c .if1 .taken)
+returns c = turns-done _ _ _ _ _ _ _ _ (c .before .before .before .before .before .before .before .before .pre .0) (c .before .before .before .advance .ensures) (c .if1 .taken)
 
 strike-requires : tie.Need-strike-requires
 strike-requires c κs = search needs
@@ -29,7 +29,7 @@ same-length-3 : tie.Need-same-length-3
 same-length-3 c = search needs
 
 returns-2 : tie.Need-returns-2
-returns-2 c = let tested = c .before .before .before .before .before .before in turns-struck _ _ _ _ _ _ _ _ _ _ _ (tested .before .before .before .before .before .before .before .before .pre) (tested .before .before .before .advance .ensures) (tested .if1 .left) (c .before .before .before .before .strike .ensures) (c .before .cost .ensures .0) (c .add .ensures)
+returns-2 c = let tested = c .before .before .before .before .before .before in turns-struck _ _ _ _ _ _ _ _ _ _ _ (tested .before .before .before .before .before .before .before .before .pre .0) (tested .before .before .before .advance .ensures) (tested .if1 .left) (c .before .before .before .before .strike .ensures) (c .before .cost .ensures .0) (c .add .ensures)
 
 pub do-or-strike-spec : {M : Type 1} → statement M
 do-or-strike-spec =

@@ -28,7 +28,7 @@ shared-slice-read-do-or-strike : tie.Need-shared-slice-read-do-or-strike Inv-loo
 shared-slice-read-do-or-strike c = search needs
 
 do-or-strike-requires : tie.Need-do-or-strike-requires Inv-loop μ-loop
-do-or-strike-requires c κs = c .before .before .before .if1 .taken
+do-or-strike-requires c κs = (c .before .before .before .if1 .taken, search needs)
 
 add-j : tie.Need-add-j Inv-loop μ-loop
 add-j c = search needs
@@ -39,7 +39,7 @@ loop-less c = search needs
 loop-again : tie.Need-loop-again Inv-loop μ-loop
 loop-again c = let turn = c .before .before .before .before .before .before .before .before .before .before .before in let done = c .before .before .before .before .do-or-strike in (
   done .kept .1 .1 .0 ∙ turn .loop .inv .0,
-  along-turn _ _ _ _ _ _ _ _ _ _ (turn .loop .inv .1) _ _ _ (turn .before .before .before .before .before .pre)
+  along-turn _ _ _ _ _ _ _ _ _ _ (turn .loop .inv .1) _ _ _ (turn .before .before .before .before .before .pre .0)
       (c .before .before .before .before .before .before .before .before .before .before .loop-test .taken) (done .kept .1 .0) (done .ensures),
 )
 
@@ -52,7 +52,7 @@ loop-less-2 c = search needs
 loop-again-2 : tie.Need-loop-again-2 Inv-loop μ-loop
 loop-again-2 c = let turn = c .before .before .before in (
   turn .loop .inv .0,
-  along-turn _ _ _ _ _ _ _ _ _ _ (turn .loop .inv .1) _ _ _ (turn .before .before .before .before .before .pre) (c .before .before .loop-test .taken) refl
+  along-turn _ _ _ _ _ _ _ _ _ _ (turn .loop .inv .1) _ _ _ (turn .before .before .before .before .before .pre .0) (c .before .before .loop-test .taken) refl
       (turns-skip _ _ _ _ _ _ (c .if1 .left)),
 )
 
