@@ -8,17 +8,18 @@ use mathlib.Core.List.{List, [], _∷_, List·Memᴰ, List·Memᴰ·head, List·
 use lib.ListN.{length, getD, set, length-set}
 use lib.Seq.{getD-set-same, getD-set-other}
 use Rattle.sas.specs.Task.{Fact, Assignment}
-use Rattle.reduction.specs.between.Wanted.{some-fact, same-fact, has}
+use Rattle.reduction.specs.between.Wanted.{same-fact, has}
+use Rattle.sas.specs.Conflict.{some-of}
 use Rattle.reduction.proofs.MemberLaws.{same-fact-true, same-fact-refl}
 use Rattle.sheet.specs.declared.group.Group.{Group}
 use Rattle.sheet.specs.declared.effects.Effects.{Effects}
 use Rattle.sheet.specs.Limits.{limits}
 use Rattle.sheet.specs.between.Encode.{fact-word}
 use Rattle.sheet.specs.between.Group.{facts-in, first-fact, rest-of}
-use Rattle.sheet.proofs.EncodeLaws.{word-of-fact}
+use Rattle.sheet.proofs.FactWords.{word-of-fact}
 use Rattle.sheet.specs.between.Effects.{written-in, first-written, rest-effects}
 use Rattle.sheet.proofs.GroupLaws.{group-over, group-next}
-use Rattle.sheet.proofs.EffectLaws.{effects-over, effects-next}
+use Rattle.sheet.proofs.EffectLaws.{written-over, written-next}
 use Rattle.fact_table.specs.between.Tables.{stamped}
 
 module _ (t w : List ℕ) (g : Group) (x : ℕ) where
@@ -36,12 +37,12 @@ module _ (t w : List ℕ) (g : Group) (x : ℕ) where
 module _ (t w : List ℕ) (e : Effects) (x : ℕ) where
   pub stamped-effects-over : e .end ≤ e .at → stamped t (written-in w e) x ≡ t
   unfolding stamped
-  stamped-effects-over h = rw (effects-over w e h)
+  stamped-effects-over h = rw (written-over w e h)
 
   pub stamped-effects-next : (y : ℕ) → e .at < e .end → y ≡ first-written w e
       → stamped t (written-in w e) x ≡ stamped (set t y x) (written-in w (rest-effects w e)) x
   unfolding stamped
-  stamped-effects-next y h read = rw (effects-next w e h, ← read) (ap (λ j. stamped (set t j x) (written-in w (rest-effects w e)) x) (word-of-fact y))
+  stamped-effects-next y h read = rw (written-next w e h, ← read) (ap (λ j. stamped (set t j x) (written-in w (rest-effects w e)) x) (word-of-fact y))
 
 pub stamped-length : (t : List ℕ) (q : Assignment) (x : ℕ) → length (stamped t q x) ≡ length t
 unfolding stamped
@@ -63,7 +64,7 @@ same-word f g small small′ e =
 -- what stands at a fact of a stamped table
 pub stamped-at : (t : List ℕ) (q : Assignment) (x : ℕ) (f : Fact) → ((g : Fact) → List·Memᴰ g q → Small g) → Small f → fact-word f < length t
     → getD (stamped t q x) (fact-word f) 0 ≡ cond (has q f) x (getD t (fact-word f) 0)
-unfolding stamped has some-fact
+unfolding stamped has some-of
 stamped-at t [] x f smalls small room = refl
 stamped-at t (g ∷ q) x f smalls small room =
     stamped-at (set t (fact-word g) x) q x f (λ h m. smalls h (List·Memᴰ·tail m)) small (rw length-set room) ∙ by-case (same-fact f g) refl

@@ -11,7 +11,7 @@ use Rattle.sas.specs.Task.{Assignment}
 use Rattle.reduction.specs.Reduction.{Reduction}
 use Rattle.sheet.specs.declared.group.Group.{Group}
 use Rattle.sheet.specs.between.Group.{facts-in, first-fact, rest-of}
-use Rattle.sheet.proofs.EncodeLaws.{word-of-fact}
+use Rattle.sheet.proofs.FactWords.{word-of-fact}
 use Rattle.sheet.proofs.GroupLaws.{group-over, group-next}
 use Rattle.trace.specs.between.Traces.{trace-start}
 use Rattle.landmark.specs.between.Rows.{supports-noted, row-raised}

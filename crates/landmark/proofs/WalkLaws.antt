@@ -6,14 +6,14 @@ use mathlib.Core.Path.{_≡_, refl, _∙_}
 use mathlib.Core.Bool.{Bool, false}
 use mathlib.Core.List.{List}
 use lib.ListN.{length, getD, drop, drop-of-length-le}
-use Rattle.sas.specs.Plan.{written, needed}
+use Rattle.sas.specs.Plan.{written, written-always, needed}
 use Rattle.reduction.specs.Reduction.{Reduction}
 use Rattle.sheet.specs.declared.group.ActionFacts.{ActionFacts}
 use Rattle.sheet.specs.Decode.{action}
 use Rattle.sheet.specs.between.Group.{needed-group, facts-in}
-use Rattle.sheet.specs.between.Effects.{effects-of, written-in}
+use Rattle.sheet.specs.between.Effects.{effects-of, written-in, always-in}
 use Rattle.sheet.proofs.GroupLaws.{needed-facts}
-use Rattle.sheet.proofs.EffectLaws.{effects-written}
+use Rattle.sheet.proofs.EffectLaws.{effects-written, effects-always}
 use Rattle.plan.specs.Limits.{most-steps}
 use Rattle.plan.specs.Valid.{steps}
 use Rattle.plan.proofs.FaultLaws.{drop-next}
@@ -38,7 +38,7 @@ module _ (w l : List ℕ) (m : Reduction) (traces₀ latest₀ rows₀ : List �
     -- one step more
     pub walking-more : i < length l → (facts : ActionFacts) (marked : Bool) (traces′ latest′ rows′ : List ℕ) → facts .precondition ≡ needed-group w (getD l i 0)
         → facts .effects ≡ effects-of w (getD l i 0) → rows′ ≡ supports-noted traces (row-start (i + 1)) (facts-in w (facts .precondition)) rows → marked ≡ getD m (i + 1) false
-        → tables traces′ latest′ ≡ wrote-each (i + 1) marked (written-in w (facts .effects)) (tables traces latest) → length traces′ ≡ length traces
+        → tables traces′ latest′ ≡ wrote-each (i + 1) marked (written-in w (facts .effects)) (always-in w (facts .effects)) (tables traces latest) → length traces′ ≡ length traces
         → length latest′ ≡ length latest → length rows′ ≡ length rows → Walking w l m traces₀ latest₀ rows₀ (i + 1) traces′ latest′ rows′
     unfolding walked walked-step
     walking-more some facts marked traces′ latest′ rows′ needs writes notes is wrote-all same-traces same-latest same-rows =
@@ -53,8 +53,8 @@ module _ (w l : List ℕ) (m : Reduction) (traces₀ latest₀ rows₀ : List �
           whole = rw here (rw (drop-next l i some) at (along .whole));
         }
       where
-        behind : tables traces′ latest′ ≡ wrote-each (i + 1) (getD m (i + 1) false) (written (action w (getD l i 0))) (tables traces latest)
-        behind = wrote-all ∙ rw (is, writes, effects-written w (getD l i 0))
+        behind : tables traces′ latest′ ≡ wrote-each (i + 1) (getD m (i + 1) false) (written (action w (getD l i 0))) (written-always (action w (getD l i 0))) (tables traces latest)
+        behind = wrote-all ∙ rw (is, writes, effects-written w (getD l i 0), effects-always w (getD l i 0))
 
         row : rows′ ≡ supports-noted traces (row-start (i + 1)) (needed (action w (getD l i 0))) rows
         row = notes ∙ rw (needs, needed-facts w (getD l i 0))

@@ -6,17 +6,18 @@ use native.Mathlib.Numerals.{add-one}
 use native.Mathlib.Omega.{arith}
 use mathlib.Core.Path.{_≡_, refl, sym, _∙_, ap}
 use mathlib.Core.Bool.{Bool, true, false}
-use mathlib.Core.List.{List, [], _∷_}
+use mathlib.Core.List.{List, [], _∷_, _++_}
 use lib.ListN.{length, getD, set, length-set, replicate, length-replicate}
 use borrow.Author.Tests.{eq-eqb, ne-eqb, lt-ltb, le-ltb}
+use Rattle.sheet.specs.declared.group.Group.{Group}
 use Rattle.sheet.specs.declared.effects.Effects.{Effects}
 use Rattle.sas.specs.Task.{Fact, Assignment}
 use Rattle.sheet.specs.Limits.{limits}
 use Rattle.sheet.specs.Decode.{fact-of}
 use Rattle.sheet.specs.between.Encode.{fact-word}
-use Rattle.sheet.specs.between.Effects.{written-in, first-written, rest-effects}
-use Rattle.sheet.proofs.EncodeLaws.{word-of-fact}
-use Rattle.sheet.proofs.EffectLaws.{effects-over, effects-next}
+use Rattle.sheet.specs.between.Effects.{written-in, always-in, first-written, first-condition, first-always, rest-effects}
+use Rattle.sheet.proofs.FactWords.{word-of-fact}
+use Rattle.sheet.proofs.EffectLaws.{written-over, written-next, always-over, always-next}
 use Rattle.trace.specs.between.Traces.{trace-start, latest-start, until-at, supporting, trace-wrote, traces-wrote, latest-wrote, latest-each, tables, wrote-each, started}
 
 -- the words of the variable of a fact
@@ -84,12 +85,12 @@ module _ (w : List ℕ) (put : ℕ → List ℕ → List ℕ) (each : Assignment
           let first : put (fact-word (fact-of (first-written w rest))) l ≡ l′ = rw (writes, read) (ap (λ y. put y l) (word-of-fact (first-written w rest))) in
           record {
             sized = same ∙ so-far .sized;
-            whole = rw (is, ← first) (sym (more _ _ l) ∙ rw (effects-next w rest some) at (so-far .whole));
+            whole = rw (is, ← first) (sym (more _ _ l) ∙ rw (written-next w rest some) at (so-far .whole));
           }
 
       -- none is left
       pub writing-end : rest .end ≤ rest .at → l ≡ each (written-in w e) l₀
-      writing-end over = sym (none l) ∙ rw (effects-over w rest over) at (so-far .whole)
+      writing-end over = sym (none l) ∙ rw (written-over w rest over) at (so-far .whole)
 
 module _ (j : ℕ) where
   -- the supports and writers of the facts that the step at position j writes
@@ -111,13 +112,52 @@ module _ (j : ℕ) where
   unfolding latest-each
   latest-more f q l = refl
 
+  -- of the first effect that is left, where it has a condition, and where it has none
+  module _ (w : List ℕ) (e : Effects) (g : Group) (latest : List ℕ) (condition : g ≡ first-condition w e) where
+    pub marked-not : g .at < g .end → latest ≡ latest-each j (first-always w e) latest
+    unfolding first-always latest-each
+    marked-not some =
+        let has : first-condition w e .at < first-condition w e .end = rw condition at some in
+        rw (lt-ltb (first-condition w e .at) (first-condition w e .end) has)
+
+    pub marked-first : g .end ≤ g .at → (x : ℕ) (after : List ℕ) → x ≡ first-written w e → after ≡ latest-wrote j x latest → after ≡ latest-each j (first-always w e) latest
+    unfolding first-always latest-each
+    marked-first none x after read writes =
+        let has : first-condition w e .end ≤ first-condition w e .at = rw condition at none in
+        writes ∙ rw (le-ltb (first-condition w e .at) (first-condition w e .end) has, word-of-fact (first-written w e), read)
+
+  -- along the effects e, where to mark what is left of them is the rest of marking all
+  pub record Marking (w : List ℕ) (e : Effects) (l₀ : List ℕ) (rest : Effects) (l : List ℕ) : Type 0 where
+    pub sized : length l ≡ length l₀
+    pub whole : latest-each j (always-in w rest) l ≡ latest-each j (always-in w e) l₀
+
+  latest-both : (q r : Assignment) (l : List ℕ) → latest-each j (q ++ r) l ≡ latest-each j r (latest-each j q l)
+  latest-both [] r l = ap (latest-each j r) (sym (latest-none l))
+  latest-both (f ∷ q) r l = latest-more f (q ++ r) l ∙ latest-both q r (latest-wrote j (fact-word f) l) ∙ ap (latest-each j r) (sym (latest-more f q l))
+
+  module _ (w : List ℕ) (e : Effects) (l₀ : List ℕ) where
+    pub marking-start : Marking w e l₀ e l₀
+    marking-start = record { sized = refl; whole = refl }
+
+    module _ (rest : Effects) (l : List ℕ) (so-far : Marking w e l₀ rest l) where
+      pub marking-more : rest .at < rest .end → (l′ : List ℕ) → l′ ≡ latest-each j (first-always w rest) l → length l′ ≡ length l
+          → (rest′ : Effects) → rest′ ≡ rest-effects w rest → Marking w e l₀ rest′ l′
+      marking-more some l′ marks same rest′ is =
+          record {
+            sized = same ∙ so-far .sized;
+            whole = rw (is, marks) (sym (latest-both (first-always w rest) (always-in w (rest-effects w rest)) l) ∙ rw (always-next w rest some) at (so-far .whole));
+          }
+
+      pub marking-end : rest .end ≤ rest .at → l ≡ latest-each j (always-in w e) l₀
+      marking-end over = sym (latest-none l) ∙ rw (always-over w rest over) at (so-far .whole)
+
 -- both, by whether the step is marked
-module _ (j : ℕ) (marked : Bool) (q : Assignment) (traces latest traces′ : List ℕ) (notes : traces′ ≡ traces-wrote j latest q traces) where
-  pub wrote-marked : marked ≡ true → (latest′ : List ℕ) → latest′ ≡ latest-each j q latest → tables traces′ latest′ ≡ wrote-each j marked q (tables traces latest)
+module _ (j : ℕ) (marked : Bool) (q r : Assignment) (traces latest traces′ : List ℕ) (notes : traces′ ≡ traces-wrote j latest q traces) where
+  pub wrote-marked : marked ≡ true → (latest′ : List ℕ) → latest′ ≡ latest-each j r latest → tables traces′ latest′ ≡ wrote-each j marked q r (tables traces latest)
   unfolding wrote-each
   wrote-marked up latest′ marks = rw (up, notes, marks)
 
-  pub wrote-unmarked : marked ≡ false → tables traces′ latest ≡ wrote-each j marked q (tables traces latest)
+  pub wrote-unmarked : marked ≡ false → tables traces′ latest ≡ wrote-each j marked q r (tables traces latest)
   unfolding wrote-each
   wrote-unmarked down = rw (down, notes)
 

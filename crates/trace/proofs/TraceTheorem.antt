@@ -13,9 +13,11 @@ use lib.Seq.{getD-set-same, getD-set-other}
 use lib.Dec.{ltb, eqb}
 use borrow.Author.Tests.{eqb-true, eqb-false, eq-eqb, ne-eqb}
 use Rattle.sas.specs.Task.{Fact, Assignment, Action}
-use Rattle.sas.specs.Plan.{written}
+use Rattle.sas.specs.Plan.{written, written-always}
+use Rattle.sas.proofs.EffectLaws.{always-may}
 use Rattle.sas.specs.between.WellFormed.{Known, Action-formed}
-use Rattle.reduction.specs.between.Wanted.{some-fact, same-fact, has}
+use Rattle.reduction.specs.between.Wanted.{same-fact, has}
+use Rattle.sas.specs.Conflict.{some-of}
 use Rattle.reduction.specs.between.Landmarks.{other-value, sets-other, Trace, passed}
 use Rattle.reduction.proofs.MemberLaws.{same-fact-true, same-fact-refl}
 use Rattle.reduction.proofs.marks.LinkLaws.{either}
@@ -259,7 +261,7 @@ module _ (w : List ℕ) (accepted : Accepted w) where
       -- along the facts that a step writes, g has the step as its last writer where it is one of them
       last-each : (e : Assignment) (traces : List ℕ) → length traces ≡ trace-start most-facts → Knows e
           → last-of (traces-wrote j latest e traces) ≡ cond (has e g) j (last-of traces)
-      unfolding traces-wrote has some-fact
+      unfolding traces-wrote has some-of
       last-each [] traces sized knows = refl
       last-each (f ∷ e) traces sized knows =
           last-each e after (trace-sized latest (fact-word f) traces ∙ sized) (λ h m. knows h (List·Memᴰ·tail m))
@@ -297,7 +299,7 @@ module _ (w : List ℕ) (accepted : Accepted w) where
       -- and it is the one that it gets where it is written first
       support-each : (e : Assignment) (traces : List ℕ) → length traces ≡ trace-start most-facts → last-of traces ≢ j → Knows e
           → support-of (traces-wrote j latest e traces) ≡ cond (has e g) (new-support traces) (support-of traces)
-      unfolding traces-wrote has some-fact
+      unfolding traces-wrote has some-of
       support-each [] traces sized unwritten knows = refl
       support-each (f ∷ e) traces sized unwritten knows =
           ⊎-elim
@@ -313,13 +315,13 @@ module _ (w : List ℕ) (accepted : Accepted w) where
 
     -- the words of the variables along the facts that a marked step writes
     until-each : (e : Assignment) (t : Tables) → Sized t → ((f : Fact) → List·Memᴰ f e → Known (domains w) f) → (g : Fact) → Known (domains w) g
-        → until-at (latest-each j e (t .latest)) (fact-word g) ≡ cond (some-fact (other-value g) e) (suc j) (read t g .until)
-    unfolding latest-each latest-wrote some-fact
+        → until-at (latest-each j e (t .latest)) (fact-word g) ≡ cond (some-of (other-value g) e) (suc j) (read t g .until)
+    unfolding latest-each latest-wrote some-of
     until-each [] t sized knows g known = refl
     until-each (f ∷ e) t sized knows g known =
         let next : Tables = tables (t .traces) (latest-wrote j (fact-word f) (t .latest)) in
         until-each e next (record { traces = sized .traces; latest = wrote-sized }) (λ h m. knows h (List·Memᴰ·tail m)) g known
-        ∙ rw (until-marked t sized j f g (knows f (List·Memᴰ·head refl)) known) (either-other (some-fact (other-value g) e) (other-value g f))
+        ∙ rw (until-marked t sized j f g (knows f (List·Memᴰ·head refl)) known) (either-other (some-of (other-value g) e) (other-value g f))
       where
         wrote-sized : length (latest-wrote j (fact-word f) (t .latest)) ≡ latest-start (limits .variables)
         wrote-sized = simp length-set (sized .latest)
@@ -332,16 +334,16 @@ module _ (w : List ℕ) (accepted : Accepted w) where
 
   -- behind a step whose effects are written the tables tell the traces behind it
   module _ (a : Action) (j : ℕ) (marked : Bool) (t : Tables) (sized : Sized t) where
-    pub step-sized : Sized (wrote-each j marked (written a) t)
+    pub step-sized : Sized (wrote-each j marked (written a) (written-always a) t)
     unfolding wrote-each
     step-sized = record { traces = traces-sized j (t .latest) (written a) (t .traces) ∙ sized .traces; latest = by-mark marked }
       where
-        by-mark : (b : Bool) → length (cond b (latest-each j (written a) (t .latest)) (t .latest)) ≡ latest-start (limits .variables)
+        by-mark : (b : Bool) → length (cond b (latest-each j (written-always a) (t .latest)) (t .latest)) ≡ latest-start (limits .variables)
         by-mark false = sized .latest
-        by-mark true = latest-sized j (written a) (t .latest) ∙ sized .latest
+        by-mark true = latest-sized j (written-always a) (t .latest) ∙ sized .latest
 
     pub step-read : (g : Fact) → Action-formed (domains w) a → Known (domains w) g → read t g .last ≢ j
-        → read (wrote-each j marked (written a) t) g ≡ passed a j marked g (read t g)
+        → read (wrote-each j marked (written a) (written-always a) t) g ≡ passed a j marked g (read t g)
     unfolding wrote-each passed sets-other supporting
     step-read g formed known unwritten =
         λ i. record { last = last i; until = until marked i; support = support i }
@@ -349,10 +351,10 @@ module _ (w : List ℕ) (accepted : Accepted w) where
         last : getD (traces-wrote j (t .latest) (written a) (t .traces)) (trace-start (fact-word g)) 0 ≡ cond (has (written a) g) j (read t g .last)
         last = last-each j (t .latest) g known (written a) (t .traces) (sized .traces) (formed .known)
 
-        until : (b : Bool) → until-at (cond b (latest-each j (written a) (t .latest)) (t .latest)) (fact-word g)
-            ≡ cond (b && some-fact (other-value g) (written a)) (suc j) (read t g .until)
+        until : (b : Bool) → until-at (cond b (latest-each j (written-always a) (t .latest)) (t .latest)) (fact-word g)
+            ≡ cond (b && some-of (other-value g) (written-always a)) (suc j) (read t g .until)
         until false = refl
-        until true = until-each j (written a) t sized (formed .known) g known
+        until true = until-each j (written-always a) t sized (λ f m. formed .known f (always-may a m)) g known
 
         support : getD (traces-wrote j (t .latest) (written a) (t .traces)) (trace-start (fact-word g) + 1) 0
             ≡ cond (has (written a) g) (cond (ltb (read t g .last) (read t g .until)) j 0) (read t g .support)

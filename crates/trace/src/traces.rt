@@ -10,7 +10,7 @@ use step::state::initial;
 ghost use mathlib.Core.Path.{_≡_};
 ghost use Rattle.sheet.specs.Limits.{limits};
 ghost use Rattle.sheet.specs.Decode.{initial as initial-of};
-ghost use Rattle.sheet.specs.between.Effects.{written-in};
+ghost use Rattle.sheet.specs.between.Effects.{written-in, always-in, first-always};
 ghost use Rattle.step.specs.State.{in-array};
 ghost use Rattle.trace.specs.between.Traces.{until-at, supporting, trace-wrote, traces-wrote};
 ghost use Rattle.trace.specs.between.Traces.{latest-wrote, latest-each, tables, wrote-each, started};
@@ -89,14 +89,27 @@ fn mark_fact(latest: &mut [u32], at: u8, fact: u32)
     put(latest, v + OTHER, seen);
 }
 
-// The same of all facts that its effects may write.
+// The same of the fact of its first effect, where that has no condition: another value counts only where it is always
+// written.
+fn mark_first(words: &[u32], latest: &mut [u32], at: u8, effects: Effects)
+    ensures { λ _. ⌜ now (latest .exit) ≡ latest-each at
+        (first-always (now (words .entry)) effects) (now (latest .entry)) ⌝ }
+{
+    let condition = effects.condition(words);
+    if condition.at < condition.end {
+        return;
+    }
+    mark_fact(latest, at, effects.first(words));
+}
+
+// The same of all its effects.
 fn mark_effects(words: &[u32], latest: &mut [u32], at: u8, effects: Effects)
     ensures { λ _. ⌜ now (latest .exit) ≡ latest-each at
-        (written-in (now (words .entry)) effects) (now (latest .entry)) ⌝ }
+        (always-in (now (words .entry)) effects) (now (latest .entry)) ⌝ }
 {
     let mut rest = effects;
     while rest.at < rest.end {
-        mark_fact(latest, at, rest.first(words));
+        mark_first(words, latest, at, rest);
         rest = rest.rest(words);
     }
 }
@@ -112,7 +125,7 @@ pub fn write_effects(
     effects: Effects,
 )
     ensures { λ _. ⌜ tables (now (traces .exit)) (now (latest .exit))
-        ≡ wrote-each at marked (written-in (now (words .entry)) effects)
+        ≡ wrote-each at marked (written-in (now (words .entry)) effects) (always-in (now (words .entry)) effects)
         (tables (now (traces .entry)) (now (latest .entry))) ⌝ }
 {
     note_effects(words, traces, latest, at, effects);

@@ -60,11 +60,11 @@ pub record Tables : Type 0 where
 abbrev pub tables : List ℕ → List ℕ → Tables
 tables traces latest = record { traces = traces; latest = latest }
 
--- behind the step at position j, which may write the facts of an assignment: all supports are told by what the steps
--- before it wrote
-unfoldable pub wrote-each : ℕ → Bool → Assignment → Tables → Tables
-wrote-each j marked e t =
-    tables (traces-wrote j (t .latest) e (t .traces)) (cond marked (latest-each j e (t .latest)) (t .latest))
+-- behind the step at position j, which may write the facts of one assignment and always writes those of another: all
+-- supports are told by what the steps before it wrote
+unfoldable pub wrote-each : ℕ → Bool → Assignment → Assignment → Tables → Tables
+wrote-each j marked may always t =
+    tables (traces-wrote j (t .latest) may (t .traces)) (cond marked (latest-each j always (t .latest)) (t .latest))
 
 -- the words of the first n variables behind the start step, which writes these values at position 0; zeros for the rest
 unfoldable pub started : List ℕ → ℕ → List ℕ

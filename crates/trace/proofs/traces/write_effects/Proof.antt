@@ -17,7 +17,7 @@ same-length-2 : tie.Need-same-length-2
 same-length-2 c = search needs
 
 returns : tie.Need-returns
-returns c = wrote-marked _ _ _ _ _ _ (c .before .before .before .before .before .before .before .note-effects .ensures) (c .before .before .before .before .if1 .taken) _ (c .before .before .mark-effects .ensures)
+returns c = wrote-marked _ _ _ _ _ _ _ (c .before .before .before .before .before .before .before .note-effects .ensures) (c .before .before .before .before .if1 .taken) _ (c .before .before .mark-effects .ensures)
 
 same-length-3 : tie.Need-same-length-3
 same-length-3 c = search needs
@@ -26,7 +26,7 @@ same-length-4 : tie.Need-same-length-4
 same-length-4 c = search needs
 
 returns-2 : tie.Need-returns-2
-returns-2 c = wrote-unmarked _ _ _ _ _ _ (c .before .before .before .note-effects .ensures) (c .if1 .left)
+returns-2 c = wrote-unmarked _ _ _ _ _ _ _ (c .before .before .before .note-effects .ensures) (c .if1 .left)
 
 pub write-effects-spec : {M : Type 1} → statement M
 write-effects-spec =
