@@ -322,7 +322,7 @@ module _ (w l : List ℕ) (flags : Reduction) (wanted useless : List ℕ) (reada
             same-asked (rows-at (length l)) first (strike-row d) b
             (same-through (rows-at (length l)) last first (strike-row d) (block-stays (strike-row d) (omega arith))
             (strike-stays (rows-at i) d (getD wanted i 0) (all-bits - getD useless i 0) effect-there precondition-there))
-            ∙ stamped-asked narrow b u told (rows-at i) (strike-row d) (getD wanted i 0) (omega (arith, block-room)) sized-there (plain-at .effect)
+            ∙ stamped-asked narrow b u told (rows-at i) (strike-row d) (getD wanted i 0) (omega (arith, block-room)) sized-there (plain-at .rising)
             (empty-there (strike-row d) (omega arith))
 
         -- all that its row of a keep asks for just where it is applicable
@@ -358,7 +358,7 @@ module _ (w l : List ℕ) (flags : Reduction) (wanted useless : List ℕ) (reada
             (same-through (rows-at (length l)) last third (use-row d) (block-stays (use-row d) (omega arith))
             (use-stays (rows-at i) d (getD wanted i 0) (all-bits - getD useless i 0) effect-there precondition-there))
             ∙ stamped-asked narrow b u told second (use-row d) (all-bits - getD useless i 0) (omega (arith, block-room))
-            (second-sized (rows-at i) d (getD wanted i 0) (all-bits - getD useless i 0) effect-there precondition-there ∙ sized-there) (plain-at .effect)
+            (second-sized (rows-at i) d (getD wanted i 0) (all-bits - getD useless i 0) effect-there precondition-there ∙ sized-there) (plain-at .rising)
             (blank-on second (rows-at i) (use-row d)
             (second-other (rows-at i) d (getD wanted i 0) (all-bits - getD useless i 0) effect-there precondition-there (use-row d) (omega arith) (omega arith))
             (empty-there (use-row d) (omega arith)))

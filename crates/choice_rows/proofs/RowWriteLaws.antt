@@ -20,7 +20,8 @@ use Rattle.sas.specs.between.WellFormed.{Known, Rising, Plain}
 use Rattle.sas.specs.between.WellFormed.Rising.{empty, fact}
 use Rattle.sas.proofs.FactLaws.{satisfies-nothing, satisfies-more, satisfies-failing}
 use Rattle.sas.proofs.WellFormedLaws.{rising-few}
-use Rattle.sas.proofs.ActionLaws.{apply-length}
+use Rattle.sas.proofs.AssignLaws.{assign-length}
+use Rattle.sas.proofs.ActionLaws.{plain-apply}
 use Rattle.reduction.specs.between.Course.{held-after}
 use Rattle.reduction.proofs.turns.HeldLaws.{apply-held}
 use Rattle.fact_bits.specs.between.Bits.{bits-hold}
@@ -344,12 +345,12 @@ module _ {domains : List ℕ} (narrow : length domains ≤ state-bytes) (b : Lis
   -- to write a row that was stamped with what an action writes is to write the row and then to do the action
   pub stamped-held : (f : Fact) → Known domains f → has-byte (written-over (stamped-row rows r all-bits (written a)) r b) f
       ≡ held-after a f (has-byte (written-over rows r b) f)
-  unfolding written apply
   stamped-held f known =
-      let long : length domains ≤ length (written-over rows r b) = omega (arith, over-length rows r b) in
-      let longer : length domains ≤ length (assign (written-over rows r b) (a .effect)) = omega (arith, apply-length (written-over rows r b) a) in
-      rw (stamped-written narrow b rows r room sized (plain .effect))
-      (sym (front-holds (assign (written-over rows r b) (a .effect)) f longer known)
-      ∙ ap (λ s. holds s f) (front-assigned (written-over rows r b) (plain .effect))
-      ∙ apply-held a f (take (length domains) (written-over rows r b)) plain (length-take-le (length domains) (written-over rows r b) long)
-      ∙ ap (held-after a f) (front-holds (written-over rows r b) f long known))
+      let over : List ℕ = written-over rows r b in
+      let long : length domains ≤ length over = omega (arith, over-length rows r b) in
+      let longer : length domains ≤ length (assign over (written a)) = omega (arith, assign-length over (written a)) in
+      rw (stamped-written narrow b rows r room sized (plain .rising))
+      (sym (front-holds (assign over (written a)) f longer known)
+      ∙ ap (λ s. holds s f) (front-assigned over (plain .rising) ∙ sym (plain-apply (take (length domains) over) a plain))
+      ∙ apply-held a f (take (length domains) over) plain (length-take-le (length domains) over long)
+      ∙ ap (held-after a f) (front-holds over f long known))

@@ -13,8 +13,8 @@ use Rattle.mask.specs.Mask.{word-bits, digit, binary}
 use Rattle.mask.proofs.MaskWordLaws.{binary-below, lowest-digit}
 use Rattle.sheet.specs.declared.effects.Effects.{Effects}
 use Rattle.sheet.specs.between.Effects.{written-in, first-written, rest-effects}
-use Rattle.sheet.proofs.EncodeLaws.{word-of-fact}
-use Rattle.sheet.proofs.EffectLaws.{effects-over, effects-next}
+use Rattle.sheet.proofs.FactWords.{word-of-fact}
+use Rattle.sheet.proofs.EffectLaws.{written-over, written-next}
 use Rattle.fact_table.specs.between.Tables.{has-fact}
 use Rattle.fact_bits.specs.between.Bits.{flagged, packed}
 
@@ -29,11 +29,11 @@ module _ (t w : List ℕ) where
 
   over-none : (n : ℕ) (g : Effects) → g .end ≤ g .at → to-come n g ≡ 0
   unfolding binary
-  over-none n g h = rw (effects-over w g h, take-nil)
+  over-none n g h = rw (written-over w g h, take-nil)
 
   first-next : (n : ℕ) (g : Effects) → g .at < g .end → to-come (n + 1) g ≡ 2 * to-come n (rest-effects w g) + digit (has-fact t (first-written w g))
   unfolding binary
-  first-next n g h = rw (add-one, effects-next w g h, word-of-fact (first-written w g))
+  first-next n g h = rw (add-one, written-next w g h, word-of-fact (first-written w g))
 
   -- k facts of the effects g are packed, and `rest` is what is left of them
   pub record Packing (g rest : Effects) (k bits : ℕ) : Type 0 where

@@ -81,8 +81,7 @@ module _ (w : List ℕ) (accepted : Accepted w) where
 
   -- each fact that a plain action may write has a bit
   few-written : (a : Action) → Plain (domains w) a → length (written a) ≤ word-bits
-  unfolding written
-  few-written a plain = omega (arith, rising-few (plain .effect), domains-length w, accepted-measured w accepted .variables)
+  few-written a plain = omega (arith, rising-few (plain .rising), domains-length w, accepted-measured w accepted .variables)
 
 module _ (w l : List ℕ) (flags : Reduction) (wanted-words useless-words : List ℕ) (readable : Readable w l)
     (told : Told-behind w l flags wanted-words useless-words) (v : Visit) (inside : v .index < length l) (unflagged : getD flags (v .index) false ≡ false) where

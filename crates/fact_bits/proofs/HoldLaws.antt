@@ -11,7 +11,7 @@ use lib.ListN.{length, take}
 use lib.Dec.{eqb}
 use Rattle.sas.specs.Task.{Fact, Assignment, State}
 use Rattle.sas.specs.Plan.{holds}
-use Rattle.reduction.specs.between.Wanted.{some-fact}
+use Rattle.sas.specs.Conflict.{some-of}
 use Rattle.mask.specs.Mask.{digit, binary}
 use Rattle.mask.proofs.MaskWordLaws.{lowest-digit, other-digits, binary-below}
 use Rattle.fact_bits.specs.between.Bits.{bits-hold, idle-or-held}
@@ -25,8 +25,8 @@ bit-tested false held later = refl
 module _ (s : State) (told test : Fact → Bool) where
   -- the bits are those that are told of each fact, which the test agrees with
   pub bits-tell : (n : ℕ) (q : Assignment) → length q ≤ n → ((f : Fact) → List·Memᴰ f q → told f ≡ test f)
-      → bits-hold s (binary (take n (map told q))) q ≡ not (some-fact (λ f. test f && not (holds s f)) q)
-  unfolding bits-hold binary some-fact
+      → bits-hold s (binary (take n (map told q))) q ≡ not (some-of (λ f. test f && not (holds s f)) q)
+  unfolding bits-hold binary some-of
   bits-tell n [] few same = refl
   bits-tell zero (f ∷ q) few same = absurd (omega arith)
   bits-tell (suc n) (f ∷ q) few same =
@@ -36,7 +36,7 @@ module _ (s : State) (told test : Fact → Bool) where
         other-digits (binary (take n (map told q))) (test f),
         bits-tell n q (omega arith) (λ g m. same g (List·Memᴰ·tail m)),
       )
-      (bit-tested (test f) (holds s f) (some-fact (λ g. test g && not (holds s g)) q))
+      (bit-tested (test f) (holds s f) (some-of (λ g. test g && not (holds s g)) q))
 
 -- one fact's bit, which it has not where a test passes it
 idle-tested : (b held later : Bool) → ((eqb (digit (not b)) 1 || held) && not later) ≡ not (b && not held || later)
@@ -56,17 +56,17 @@ module _ (s : State) (told test : Fact → Bool) where
   Fails q = (f : Fact) → List·Memᴰ f q → told f ≡ not (test f)
 
   missing : Assignment → Bool
-  missing q = some-fact (λ f. test f && not (holds s f)) q
+  missing q = some-of (λ f. test f && not (holds s f)) q
 
   -- where there is no bit, each fact has to hold
   none-missing : (q : Assignment) → idle-or-held s 0 q ≡ true → missing q ≡ false
-  unfolding idle-or-held some-fact missing
+  unfolding idle-or-held some-of missing
   none-missing [] h = refl
   none-missing (f ∷ q) h = none-tested (test f) (holds s f) (idle-or-held s 0 q) (missing q) (none-missing q) h
 
   pub idle-sound : (n : ℕ) (q : Assignment) → Fails q → idle-or-held s (binary (take n (map told q))) q ≡ true
-      → some-fact (λ f. test f && not (holds s f)) q ≡ false
-  unfolding idle-or-held binary some-fact missing
+      → some-of (λ f. test f && not (holds s f)) q ≡ false
+  unfolding idle-or-held binary some-of missing
   idle-sound n [] fails h = refl
   idle-sound zero (f ∷ q) fails h = none-missing (f ∷ q) h
   idle-sound (suc n) (f ∷ q) fails h =
@@ -84,8 +84,8 @@ module _ (s : State) (told test : Fact → Bool) where
 
   -- where each fact has a bit, what is left of all bits asks for the facts that pass
   pub others-tell : (n : ℕ) (q : Assignment) → length q ≤ n → Fails q
-      → bits-hold s (2 ^ n - 1 - binary (take n (map told q))) q ≡ not (some-fact (λ f. test f && not (holds s f)) q)
-  unfolding bits-hold binary some-fact
+      → bits-hold s (2 ^ n - 1 - binary (take n (map told q))) q ≡ not (some-of (λ f. test f && not (holds s f)) q)
+  unfolding bits-hold binary some-of
   others-tell n [] few fails = refl
   others-tell zero (f ∷ q) few fails = absurd (omega arith)
   others-tell (suc n) (f ∷ q) few fails =
@@ -94,7 +94,7 @@ module _ (s : State) (told test : Fact → Bool) where
       let low : (2 ^ suc n - 1 - (2 * bits + digit (not (test f)))) % 2 ≡ digit (test f) = lowest-left bits (test f) below in
       let others : (2 ^ suc n - 1 - (2 * bits + digit (not (test f)))) / 2 ≡ 2 ^ n - 1 - bits = others-left bits (test f) below in
       rw (fails f (List·Memᴰ·head refl), low, others, others-tell n q (omega arith) (λ g m. fails g (List·Memᴰ·tail m)))
-      (bit-tested (test f) (holds s f) (some-fact (λ g. test g && not (holds s g)) q))
+      (bit-tested (test f) (holds s f) (some-of (λ g. test g && not (holds s g)) q))
     where
       lowest-left : (x : ℕ) (b : Bool) → x < 2 ^ n → (2 ^ suc n - 1 - (2 * x + digit (not b))) % 2 ≡ digit b
       lowest-left x true h = omega (arith, pow-suc 2 n)

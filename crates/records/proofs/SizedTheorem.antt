@@ -3,16 +3,20 @@
 use Prim.Native.Nat.{ℕ, suc, _+_, _*_, _≤_, _<_, _^_}
 use native.Mathlib.Omega.{arith}
 use mathlib.Core.Path.{_≡_, refl, subst}
-use mathlib.Core.List.{List, [], _∷_, map, flatten, List·Memᴰ, List·Memᴰ·head, List·Memᴰ·tail}
+use mathlib.Core.Logic.{_⊎_, inl, inr}
+use mathlib.Core.Bool.{Bool, true, false, cond}
+use mathlib.Core.List.{List, [], _∷_, map, flatten, List·Memᴰ, List·Memᴰ·head, List·Memᴰ·tail, Memᴰ·map}
 use lib.ListN.{length, getD, length-append}
-use Rattle.sas.specs.Task.{Assignment, Action, Task}
-use Rattle.sas.specs.between.WellFormed.{Rising, empty, fact}
-use Rattle.sas.proofs.WellFormedLaws.{rising-few}
+use lib.Dec.{eqb}
+use Rattle.sas.specs.Task.{Fact, Assignment, Effect, Action, Task}
+use Rattle.sas.specs.Plan.{written}
+use Rattle.sas.specs.between.WellFormed.{Known, Rising, Action-formed}
+use Rattle.sas.proofs.WellFormedLaws.{rising-few, rising-known}
 use Rattle.sheet.specs.Limits.{limits}
-use Rattle.sheet.specs.Layout.{header, actions}
+use Rattle.sheet.specs.Layout.{first-edition, second-edition, header, actions}
 use Rattle.sheet.specs.Causes.{Accepted}
 use Rattle.sheet.specs.Decode.{task}
-use Rattle.sheet.specs.between.Encode.{fact-word, fact-words, first-edition, action-part, parts, pairs-of, first-offset, body, sheet-of, encode, Encodable}
+use Rattle.sheet.specs.between.Encode.{fact-word, fact-words, effect-part, effects-part, action-part, parts, pairs-of, first-offset, body, sheet-of, encode, Encodable}
 use Rattle.sheet.proofs.LaidLaws.{pairs-of-length}
 use Rattle.sheet.proofs.Parts.{accepted-measured}
 use Rattle.sheet.proofs.EncodeTheorem.{decode-encodes, accepted-encodable}
@@ -33,44 +37,71 @@ sized-pairs from (p ∷ ps) fits =
     (sized-pairs (from + length p) ps (omega (arith, length-append p (flatten ps)))))
 
 -- a task that can be written
-module _ (T : Task) (can : Encodable first-edition T) where
-  sized-facts : {from : ℕ} {q : Assignment} → Rising (T .domains) from q → Word-sized (fact-words q)
-  sized-facts empty = nothing
-  sized-facts (fact {f = f} known low rest) =
-      word {x = fact-word f} (omega (arith, known .variable, known .value, can .variables, can .values (f .variable) (known .variable))) (sized-facts rest)
+module _ {edition : ℕ} (T : Task) (can : Encodable edition T) where
+  known-sized : {f : Fact} → Known (T .domains) f → fact-word f < 2 ^ 32
+  known-sized {f} known = omega (arith, known .variable, known .value, can .variables, can .values (f .variable) (known .variable))
 
-  sized-action : (a : Action) → List·Memᴰ a (T .actions) → Word-sized (action-part first-edition a)
+  sized-facts : (q : Assignment) → ((f : Fact) → List·Memᴰ f q → Known (T .domains) f) → Word-sized (fact-words q)
+  sized-facts [] known = nothing
+  sized-facts (f ∷ q) known = word {x = fact-word f} (known-sized (known f (List·Memᴰ·head refl))) (sized-facts q (λ g m. known g (List·Memᴰ·tail m)))
+
+  -- facts whose variables rise are no more than there are variables
+  sized-group : {q : Assignment} → Rising (T .domains) 0 q → (length q < 2 ^ 32) × Word-sized (fact-words q)
+  sized-group {q} rising = (omega (arith, rising-few rising, can .variables), sized-facts q (λ f m. rising-known rising m))
+
+  sized-conditional : (es : List Effect) → ((e : Effect) → List·Memᴰ e es → Rising (T .domains) 0 (e .condition) × Known (T .domains) (e .fact))
+      → Word-sized (flatten (map effect-part es))
+  unfolding flatten effect-part
+  sized-conditional [] formed = nothing
+  sized-conditional (e ∷ es) formed =
+      let (condition, known) = formed e (List·Memᴰ·head refl) in
+      let (few, facts) = sized-group condition in
+      sized-append (word {x = length (e .condition)} few (sized-append facts (word {x = fact-word (e .fact)} (known-sized known) nothing)))
+      (sized-conditional es (λ d m. formed d (List·Memᴰ·tail m)))
+
+  sized-effects : (a : Action) → Action-formed (T .domains) a → Word-sized (effects-part edition a)
+  unfolding effects-part written
+  sized-effects a formed = by-edition (eqb edition second-edition)
+    where
+      by-edition : (b : Bool) → Word-sized (cond b (flatten (map effect-part (a .effects))) (fact-words (map (λ e. e .fact) (a .effects))))
+      by-edition true = sized-conditional (a .effects) (λ e m. (formed .conditions e m, formed .known (e .fact) (Memᴰ·map (λ d. d .fact) m)))
+      by-edition false = sized-facts (map (λ e. e .fact) (a .effects)) (formed .known)
+
+  sized-action : (a : Action) → List·Memᴰ a (T .actions) → Word-sized (action-part edition a)
   unfolding action-part
   sized-action a is =
-      let formed = can .well-formed .actions a is .precondition in
-      word {x = a .cost} (omega (arith, can .costs a is))
-      (word {x = length (a .precondition)} (omega (arith, rising-few formed, can .variables))
-      (sized-append (sized-facts formed) (sized-facts (can .plain a is .effect))))
+      let formed : Action-formed (T .domains) a = can .well-formed .actions a is in
+      let (few, facts) = sized-group (formed .precondition) in
+      word {x = a .cost} (omega (arith, can .costs a is)) (word {x = length (a .precondition)} few (sized-append facts (sized-effects a formed)))
 
-  sized-actions : (some : List Action) → ((a : Action) → List·Memᴰ a some → List·Memᴰ a (T .actions)) → Word-sized (flatten (map (action-part first-edition) some))
+  sized-actions : (some : List Action) → ((a : Action) → List·Memᴰ a some → List·Memᴰ a (T .actions)) → Word-sized (flatten (map (action-part edition) some))
   unfolding flatten
   sized-actions [] among = nothing
   sized-actions (a ∷ some) among = sized-append (sized-action a (among a (List·Memᴰ·head refl))) (sized-actions some (λ b is. among b (List·Memᴰ·tail is)))
 
-  sized-parts : Word-sized (flatten (parts first-edition T))
+  sized-parts : Word-sized (flatten (parts edition T))
   unfolding parts flatten
   sized-parts =
       let start = can .well-formed .initial in
       sized-append (sized-each (T .domains) (λ v h. omega (arith, can .values v h)))
       (sized-append (sized-each (T .initial) (λ v h. let inside : v < length (T .domains) = omega (arith, start .complete) in omega (arith, start .below v inside, can .values v inside)))
-      (sized-append (sized-facts (can .well-formed .goal)) (sized-actions (T .actions) (λ a is. is))))
+      (sized-append (sized-group (can .well-formed .goal) .1) (sized-actions (T .actions) (λ a is. is))))
 
-  sized-encoded : Word-sized (encode first-edition T)
+  sized-encoded : Word-sized (encode edition T)
   unfolding encode sheet-of body
   sized-encoded =
       let all = can .words in
-      let number : length (body (parts first-edition T)) ≡ 2 * length (parts first-edition T) + length (flatten (parts first-edition T)) =
-      omega (arith, length-append (pairs-of (first-offset (parts first-edition T)) (parts first-edition T)) (flatten (parts first-edition T)), pairs-of-length (first-offset (parts first-edition T)) (parts first-edition T)) in
-      word {x = first-edition} (omega arith)
+      let number : length (body (parts edition T)) ≡ 2 * length (parts edition T) + length (flatten (parts edition T)) =
+      omega (arith, length-append (pairs-of (first-offset (parts edition T)) (parts edition T)) (flatten (parts edition T)), pairs-of-length (first-offset (parts edition T)) (parts edition T)) in
+      word {x = edition} (known-edition (can .known))
       (word {x = length (T .domains)} (omega (arith, can .variables))
       (word {x = length (T .actions)} (omega (arith, can .actions))
-      (word {x = header + length (body (parts first-edition T))} (omega (arith, all))
-      (sized-append (sized-pairs (first-offset (parts first-edition T)) (parts first-edition T) (omega (arith, all, number))) sized-parts))))
+      (word {x = header + length (body (parts edition T))} (omega (arith, all))
+      (sized-append (sized-pairs (first-offset (parts edition T)) (parts edition T) (omega (arith, all, number))) sized-parts))))
+    where
+      known-edition : (edition ≡ first-edition) ⊎ (edition ≡ second-edition) → edition < 2 ^ 32
+      known-edition (inl one) = omega arith
+      known-edition (inr two) = omega arith
 
 accepted-sized : (w : List ℕ) → Accepted w → Word-sized w
 accepted-sized w accepted = subst Word-sized (decode-encodes w accepted) (sized-encoded (task w) (accepted-encodable w accepted))

@@ -100,7 +100,7 @@ module _ (w l : List ℕ) (flags : Reduction) (lent : Lent w l flags) where
       let whole-steps : whole (steps w l) ≡ whole l = rw length-map in
       rw (
         ← search-finds (tests (goal w) (steps w l) flags) (initial w) (steps w l)
-            (tests-sound (goal w) (lent .flagged) (flags-fit w l flags lent) (all-plain w l flags lent) (starts-sized w l flags lent)),
+            (tests-sound (goal w) (lent .flagged) (flags-fit w l flags lent) (all-plain w l flags lent)),
         search-turns,
         comes .turned,
       )

@@ -2,7 +2,7 @@
 -- the row still has room for. Assumes nothing.
 use Prim.Native.Nat.{_-_}
 use Rattle.sheet.specs.between.Effects.{written-in}
-use Rattle.sheet.proofs.EffectLaws.{effects-over, effects-next}
+use Rattle.sheet.proofs.EffectLaws.{written-over, written-next}
 use Rattle.choice_rows.proofs.StampRowLaws.{Stamping, stamping-start, stamping-more, row-over, row-full}
 use borrow.Author.Needs.{needs}
 use Rattle.choice_rows.proofs.rows.stamp_effects.Statement.{statement}
@@ -22,7 +22,7 @@ same-length : tie.Need-same-length Inv-loop μ-loop
 same-length c = search needs
 
 returns : tie.Need-returns Inv-loop μ-loop
-returns c = row-over _ _ _ _ _ _ _ _ (c .before .before .before .loop .inv) (effects-over _ _ (c .if1 .taken))
+returns c = row-over _ _ _ _ _ _ _ _ (c .before .before .before .loop .inv) (written-over _ _ (c .if1 .taken))
 
 first-requires : tie.Need-first-requires Inv-loop μ-loop
 first-requires c κs = search needs
@@ -43,7 +43,7 @@ loop-again : tie.Need-loop-again Inv-loop μ-loop
 loop-again c =
     rw (c .rest .ensures)
     (stamping-more _ _ _ _ _ _ _ _ (c .before .before .before .before .before .before .before .before .before .loop .inv)
-    (c .before .before .before .before .before .before .before .before .loop-test .taken) _ _ _ _ (effects-next _ _ (c .before .before .before .before .before .before .if1 .left))
+    (c .before .before .before .before .before .before .before .before .loop-test .taken) _ _ _ _ (written-next _ _ (c .before .before .before .before .before .before .if1 .left))
     (c .before .before .before .before .first .ensures .0) (c .before .before .before .lay .ensures) (search needs))
 
 same-length-2 : tie.Need-same-length-2 Inv-loop μ-loop
