@@ -7,6 +7,7 @@ use lib.ListN.{length}
 use Rattle.refusal.specs.declared.place.Place.{Place}
 use Rattle.refusal.specs.declared.place.Place.the-variants.{Nowhere, At}
 use Rattle.sas.specs.Task.{Fact, Assignment, Action, Task}
+use Rattle.sas.specs.Task as sas
 use Rattle.planner.specs.Text.{Change, Effect, Operator, Text}
 use Rattle.planner.specs.Printed.{Line, lines}
 
@@ -17,12 +18,16 @@ old-fact c = elim (c .old) [ none ↦ [] | some v ↦ record { variable = c .var
 abbrev pub new-fact : Change → Fact
 new-fact c = record { variable = c .variable; value = c .new }
 
+-- an effect, with its conditions
+abbrev pub meant-effect : Effect → sas.Effect
+meant-effect e = record { condition = e .conditions; fact = new-fact (e .change) }
+
 -- "prevail conditions and old values become preconditions; metric 0 makes every price 1"
 abbrev pub meant-action : Bool → Operator → Action
 meant-action metric o =
     record {
       precondition = o .prevail ++ flatten (map (λ e. old-fact (e .change)) (o .effects));
-      effect = map (λ e. new-fact (e .change)) (o .effects);
+      effects = map meant-effect (o .effects);
       cost = cond metric (o .cost) 1;
     }
 

@@ -11,7 +11,8 @@ use lib.Dec.{leb}
 use borrow.Author.Tests.{lt-leb, le-leb}
 use Rattle.sas.specs.Task.{Task}
 use Rattle.sheet.specs.Limits.{limits}
-use Rattle.sheet.specs.between.Encode.{first-edition, parts, encode}
+use Rattle.sheet.specs.Layout.{first-edition}
+use Rattle.sheet.specs.between.Encode.{parts, encode}
 use Rattle.task_sheet.specs.declared.build.Built.{Built}
 use Rattle.task_sheet.specs.declared.action.Written.{Written}
 use Rattle.meaning.specs.between.Sections.{number-at, variables, ranges, state, operators-at, meaning}

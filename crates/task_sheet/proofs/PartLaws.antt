@@ -7,10 +7,14 @@ use mathlib.Core.Bool.{Bool, true, false, _&&_}
 use mathlib.Core.List.{List, [], _∷_, _++_}
 use lib.ListN.{length, length-append, length-map}
 use lib.Seq.{sets}
+use lib.Dec.{leb}
 use borrow.Author.Tests.{le-leb, lt-leb}
 use Rattle.sas.specs.Task.{Assignment}
+use Rattle.sas.specs.Plan.{written}
+use Rattle.sas.proofs.EffectLaws.{each-written}
 use Rattle.sheet.specs.Limits.{limits}
-use Rattle.sheet.specs.between.Encode.{fact-word, fact-words, first-edition, action-part}
+use Rattle.sheet.specs.Layout.{first-edition}
+use Rattle.sheet.specs.between.Encode.{fact-word, fact-words, effects-part, action-part}
 use Rattle.access.specs.Bits.{word-bits}
 use Rattle.access.proofs.StoreLaws.{stores-joined}
 use Rattle.meaning.specs.declared.numbers.Lines.{Lines}
@@ -25,6 +29,8 @@ use Rattle.sheet_writer.specs.between.Laid.{part-most}
 use Rattle.task_sheet.specs.between.Parts.{Writes, Writes-put, Writes-onto, Writes-group}
 use Rattle.sheet_writer.proofs.HeldLaws.{nothing-held}
 use Rattle.meaning.proofs.GatherLaws.{and-whole, put-in-append, fit-in-append}
+use Rattle.meaning.proofs.OrderLaws.{no-conditions}
+use Rattle.meaning.proofs.OrderTheorem.{ordered-written}
 use Rattle.sheet_writer.proofs.LayLaws.{stores-apart}
 
 pub and-none : (a b : Bool) → b ≡ false → a && b ≡ false
@@ -94,22 +100,38 @@ module _ (x : List ℕ) (i : ℕ) (before middle after : List ℕ) (at : ℕ) (n
   abbrev Writes-action : Type 0
   Writes-action = Writes (action-fits (ranges x) (action-at x i)) (action-part first-edition (ordered-action (action-at x i))) part-most before after at r
 
-  pub action-unneeded : n .fits ≡ false → r .fits ≡ false → Writes-action
+  abbrev pre : Assignment
+  pre = put-in [] (prevail x i ++ old-values x i)
+
+  abbrev eff : Assignment
+  eff = put-in [] (new-values x i)
+
+  -- what it may write
+  writes-new : written (action-at x i) ≡ new-values x i
+  unfolding written action-at
+  writes-new = each-written (new-values x i)
+
+  -- its tests, and its words
+  tests : action-fits (ranges x) (action-at x i)
+      ≡ group-fits (ranges x) (prevail x i ++ old-values x i) && (group-fits (ranges x) (new-values x i) && leb (action-at x i .cost) (limits .cost))
   unfolding action-fits action-at
-  action-unneeded none unfit = writes-unfit (rw (← needed .fits, none)) unfit
+  tests = rw (no-conditions (new-values x i), writes-new)
+
+  words : action-part first-edition (ordered-action (action-at x i)) ≡ action-at x i .cost ∷ length pre ∷ (fact-words pre ++ fact-words eff)
+  unfolding action-part effects-part ordered-action action-at
+  words = rw (ordered-written (action-at x i), writes-new)
+
+  pub action-unneeded : n .fits ≡ false → r .fits ≡ false → Writes-action
+  action-unneeded none unfit = writes-unfit (tests ∙ rw (← needed .fits, none)) unfit
 
   pub action-dear : limits .cost < action-at x i .cost → r .fits ≡ false → Writes-action
-  unfolding action-fits
-  action-dear dear unfit = writes-unfit (and-none (group-fits _ _) _ (and-none (group-fits _ _) _ (lt-leb _ _ dear))) unfit
+  action-dear dear unfit = writes-unfit (tests ∙ and-none (group-fits _ _) _ (and-none (group-fits _ _) _ (lt-leb _ _ dear))) unfit
 
   pub action-written : n .fits ≡ true → (price : ℕ) → price ≡ action-at x i .cost → price ≤ limits .cost
       → (headed : List ℕ) → headed ≡ sets middle at (price ∷ (n .end - at - 2) ∷ [])
       → (lines : Lines) → lines ≡ effect-lines x i 2 → (slots : List ℕ)
       → Writes-onto (ranges x) (line-facts x lines) slots 0 headed after (n .end) r → Writes-action
-  unfolding action-fits action-part ordered-action action-at
   action-written fits price priced cheap headed stored lines told slots writes =
-      let pre : Assignment = put-in [] (prevail x i ++ old-values x i) in
-      let eff : Assignment = put-in [] (new-values x i) in
       let head : List ℕ = price ∷ length pre ∷ [] in
       let wrote : Writes-group (ranges x) (new-values x i) headed after (n .end) r = rw told at (writes .onto [] (nothing-held slots 0 word-bits)) in
       let ends : n .end ≡ at + 2 + length (fact-words pre) = needed .end fits in
@@ -122,9 +144,9 @@ module _ (x : List ℕ) (i : ℕ) (before middle after : List ℕ) (at : ℕ) (n
       ∙ rw (count, needed .written fits)
       (sym (stores-apart before at head (at + 2) (fact-words pre) (omega arith)) ∙ stores-joined before head (fact-words pre) at) in
       let behind : n .end ≡ at + length (head ++ fact-words pre) = omega arith in
-      record {
-        fits = wrote .fits ∙ rw (← needed .fits, fits, ← priced, le-leb price (limits .cost) cheap) (sym (and-whole _));
+      rw words (record {
+        fits = wrote .fits ∙ rw (tests, ← needed .fits, fits, ← priced, le-leb price (limits .cost) cheap) (sym (and-whole _));
         few = λ done. omega (arith, needed .few fits, wrote .few done);
         end = λ done. wrote .end done ∙ omega arith;
         written = λ done. wrote .written done ∙ rw (heads, behind, stores-joined before (head ++ fact-words pre) (fact-words eff) at, ← priced);
-      }
+      })

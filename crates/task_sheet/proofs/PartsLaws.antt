@@ -12,7 +12,8 @@ use Rattle.refusal.proofs.PlaceLaws.{one-fewer, none-left}
 use Rattle.sas.specs.Task.{Action}
 use Rattle.sheet.specs.Layout.{header}
 use Rattle.sheet.specs.Decode.{table}
-use Rattle.sheet.specs.between.Encode.{fact-words, first-edition, action-part, parts}
+use Rattle.sheet.specs.Layout.{first-edition}
+use Rattle.sheet.specs.between.Encode.{fact-words, action-part, parts}
 use Rattle.sheet.proofs.TableLaws.{table-length}
 use Rattle.task_sheet.specs.declared.action.Written.{Written}
 use Rattle.meaning.specs.between.Sections.{number-at, variables, range-of, ranges, state, goal, operators-at, operator-end, action-at, actions-from, meaning}

@@ -4,7 +4,7 @@ use Prim.Native.Nat.{ℕ, suc, _+_, _≤_, _<_}
 use native.Mathlib.Omega.{arith}
 use mathlib.Core.Path.{_≡_, refl, sym, _∙_, ap, subst}
 use mathlib.Core.Logic.{⊎-elim}
-use mathlib.Core.Bool.{Bool, true, false, not, cond, _&&_, _||_, false≢true, and-eq-true-iff}
+use mathlib.Core.Bool.{Bool, true, false, cond, _||_, false≢true, and-eq-true-iff}
 use mathlib.Core.List.{List, [], _∷_, List·Memᴰ, List·Memᴰ·head, List·Memᴰ·tail, List·Memᴰ·not-nil, List·Memᴰ·cases-cons}
 use lib.ListN.{length, getD}
 use lib.Dec.{eqb, leb}
@@ -17,18 +17,15 @@ use Rattle.meaning.specs.between.Order.{insert, put-in, in-order}
 use Rattle.meaning.specs.between.Writable.{known, has, fit-in, group-fits}
 use Rattle.meaning.proofs.OrderLaws.{insert-cases}
 use Rattle.meaning.proofs.OrderTheorem.{in-order-same, group-rising}
-use Rattle.translation.specs.Translation.{copies, Same-facts}
-
-abbrev alike : Fact → Fact → Bool
-alike f g = eqb (f .variable) (g .variable) && eqb (f .value) (g .value)
+use Rattle.translation.specs.Translation.{alike, copies, Same-facts}
 
 abbrev one : Bool → ℕ
 one b = cond b 1 0
 
-alike-self : (f : Fact) → alike f f ≡ true
+pub alike-self : (f : Fact) → alike f f ≡ true
 alike-self f = rw (eq-eqb (f .variable) (f .variable) refl, eq-eqb (f .value) (f .value) refl)
 
-alike-same : (f g : Fact) → alike f g ≡ true → f ≡ g
+pub alike-same : (f g : Fact) → alike f g ≡ true → f ≡ g
 alike-same f g e =
     let (first, second) = and-eq-true-iff (eqb (f .variable) (g .variable)) (eqb (f .value) (g .value)) .0 e in
     ap (λ v. record { variable = v; value = f .value }) (eqb-true (f .variable) (g .variable) first)
@@ -43,12 +40,12 @@ copies-more : (f g : Fact) (q : Assignment) → copies f q ≤ copies f (g ∷ q
 unfolding copies
 copies-more f g q = omega arith
 
-member-copies : (f : Fact) (q : Assignment) → List·Memᴰ f q → 1 ≤ copies f q
+pub member-copies : (f : Fact) (q : Assignment) → List·Memᴰ f q → 1 ≤ copies f q
 member-copies f [] m = absurd (List·Memᴰ·not-nil m)
 member-copies f (g ∷ q) (List·Memᴰ·head e) = subst (λ h. 1 ≤ copies f (h ∷ q)) e (omega (arith, copies-self f q))
 member-copies f (g ∷ q) (List·Memᴰ·tail m) = omega (arith, member-copies f q m, copies-more f g q)
 
-copies-member : (f : Fact) (q : Assignment) → 1 ≤ copies f q → List·Memᴰ f q
+pub copies-member : (f : Fact) (q : Assignment) → 1 ≤ copies f q → List·Memᴰ f q
 unfolding copies
 copies-member f [] some-one = absurd (omega arith)
 copies-member f (g ∷ q) some-one = by-case (copies-member f q) (alike f g) refl some-one

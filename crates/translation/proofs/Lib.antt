@@ -6,6 +6,8 @@ pub mod MeantTheorem
 pub mod SatLaws
 -- CopyLaws: the same facts in another order.
 pub mod CopyLaws
+-- EffectOrderLaws: the same effects but for their order.
+pub mod EffectOrderLaws
 -- SheetTheorem: which tasks have a sheet, and that it is one.
 pub mod SheetTheorem
 -- TranslationLaws: what the service answers, by each way to a return.

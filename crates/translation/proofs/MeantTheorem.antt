@@ -1,32 +1,35 @@
 -- The task that the numbers kept of a text mean is the text's, with each number as it is read. Assumes nothing.
-use Prim.Native.Nat.{ℕ, zero, suc, _+_, _*_, _≤_, _<_, min}
+use Prim.Native.Nat.{ℕ, suc, _+_, _*_, _≤_}
 use native.Mathlib.Omega.{arith}
-use mathlib.Core.Path.{_≡_, refl, sym, _∙_, ap, subst}
-use mathlib.Core.Bool.{Bool, true, false, cond, false≢true}
+use mathlib.Core.Path.{_≡_, refl, sym, _∙_, ap}
+use mathlib.Core.Bool.{Bool, true, false, cond}
 use mathlib.Core.Option.{Option, none, some}
-use mathlib.Core.List.{List, [], _∷_, _++_, map, map-append, map-map, flatten, append-assoc, append-nil}
-use lib.ListN.{length, getD, drop, length-append, length-map}
+use mathlib.Core.List.{List, [], _∷_, _++_, map, map-append, map-map, flatten, append-assoc}
+use lib.ListN.{length, drop, length-append, length-map}
 use lib.Dec.{eqb, ltb}
-use borrow.Author.Tests.{ne-eqb, lt-ltb}
-use Rattle.sas.specs.Task.{Fact, Assignment, Action, Task}
+use Rattle.sas.specs.Task.{Assignment, always, Action, Task}
+use Rattle.sas.specs.Task as sas
 use Rattle.sheet.specs.Decode.{table}
-use Rattle.fields.specs.between.Numbers.{most-number, any-value}
-use Rattle.meaning.specs.between.Sections.{number-at, facts-at, fact-wide, effect-wide, metric, variables, range-of, starting, ranges, state, goal-at, goal, operators-at, effects-at, cost-at, operator-end, prevail, old-values, new-values, action-at, actions-from, meaning}
-use Rattle.planner.specs.Text.{Change, Effect, Operator, Variable, Text}
+use Rattle.fields.specs.between.Numbers.{most-number}
+use Rattle.meaning.specs.between.Sections.{number-at, facts-at, fact-wide, effect-wide, metric, variables, range-of, ranges, state, goal-at, goal, operators-at, effects-at, cost-at, operator-end, prevail, old-values, new-values, action-at, actions-from, meaning}
+use Rattle.planner.specs.Text.{Change, Effect, Operator, Text}
 use Rattle.planner.specs.Printed.{Line, said, keyword, numbers, number-line, fact-numbers, effect-numbers, lines, counted, variable-lines, group-lines, value-lines, fact-lines, effect-lines, operator-lines, axiom-lines, axioms-line}
-use Rattle.planner.specs.Meant.{old-fact, new-fact, meant-action, meant}
+use Rattle.planner.specs.Meant.{old-fact, new-fact, meant-effect, meant-action, meant}
 use Rattle.printed_form.specs.between.Datum.{sat}
 use Rattle.printed_form.proofs.DatumLaws.{sat-small}
 use Rattle.printed_form.proofs.BlockLaws.{fact-tape, value-tape, effect-tape, counted-tape, variable-tape, operator-tape}
-use Rattle.printed_form.proofs.TextTheorem.{behind-tape, text-tape}
-use Rattle.translation.proofs.TapeLaws.{number-here, behind, behind-one, sat-fact, facts-told, sat-change, All-sayable, sayable-parts, plain-effect, olds-told, news-told}
+use Rattle.printed_form.proofs.TextTheorem.{text-tape}
+use Rattle.translation.proofs.TapeLaws.{number-here, behind, behind-one, sat-fact, facts-told, sat-change, All-sayable, sayable-parts, unconditional, plain-effect, olds-told, news-told}
 
 -- a task with each number as it is read
 abbrev pub sat-number : ℕ → ℕ
 sat-number n = sat (some n)
 
+abbrev pub sat-effect : sas.Effect → sas.Effect
+sat-effect e = record { condition = map sat-fact (e .condition); fact = sat-fact (e .fact) }
+
 abbrev pub sat-action : Action → Action
-sat-action a = record { precondition = map sat-fact (a .precondition); effect = map sat-fact (a .effect); cost = sat-number (a .cost) }
+sat-action a = record { precondition = map sat-fact (a .precondition); effects = map sat-effect (a .effects); cost = sat-number (a .cost) }
 
 abbrev pub sat-task : Task → Task
 sat-task T =
@@ -53,9 +56,13 @@ sat-olds (e ∷ es) =
     ∙ ap (λ gs. map sat-fact (old-fact (e .change)) ++ gs) (sat-olds es)
     ∙ sym (map-append sat-fact (old-fact (e .change)) (flatten (map (λ d. old-fact (d .change)) es)))
 
-sat-news : (es : List Effect) → map (λ e. new-fact (sat-change (e .change))) es ≡ map sat-fact (map (λ e. new-fact (e .change)) es)
-sat-news [] = refl
-sat-news (e ∷ es) = ap (λ gs. new-fact (sat-change (e .change)) ∷ gs) (sat-news es)
+sat-news : (es : List Effect) → All-sayable (flatten (map effect-lines es))
+    → map always (map (λ e. new-fact (sat-change (e .change))) es) ≡ map sat-effect (map meant-effect es)
+unfolding flatten
+sat-news [] all = refl
+sat-news (e ∷ es) (says, others) =
+    ap (λ d. d ∷ map always (map (λ c. new-fact (sat-change (c .change))) es)) (ap (λ cs. record { condition = map sat-fact cs; fact = new-fact (sat-change (e .change)) }) (sym (unconditional (e .conditions) says)))
+    ∙ ap (λ ds. sat-effect (meant-effect e) ∷ ds) (sat-news es others)
 
 -- how many numbers there are
 facts-long : (fs : Assignment) → length (flatten (map fact-tape fs)) ≡ 2 * length fs
@@ -111,11 +118,11 @@ module _ (x : List ℕ) (b : Bool) (scale : metric x ≡ cond b 1 0) (o : Operat
       ∙ ap (facts-at x effect-wide 1 (effects-at x i + 1 + 1)) effects-many
       ∙ olds-told x (o .effects) (effects-at x i + 1) (sat (some (o .cost)) ∷ rest) says effects-behind ∙ sat-olds (o .effects)
 
-  news : new-values x i ≡ map sat-fact (map (λ e. new-fact (e .change)) (o .effects))
+  news : map always (new-values x i) ≡ map sat-effect (map meant-effect (o .effects))
   news =
-      ap (λ k. facts-at x effect-wide 2 k (number-at x (effects-at x i))) first-effect
-      ∙ ap (facts-at x effect-wide 2 (effects-at x i + 1 + 1)) effects-many
-      ∙ news-told x (o .effects) (effects-at x i + 1) (sat (some (o .cost)) ∷ rest) says effects-behind ∙ sat-news (o .effects)
+      ap (λ k. map always (facts-at x effect-wide 2 k (number-at x (effects-at x i)))) first-effect
+      ∙ ap (λ n. map always (facts-at x effect-wide 2 (effects-at x i + 1 + 1) n)) effects-many
+      ∙ ap (map always) (news-told x (o .effects) (effects-at x i + 1) (sat (some (o .cost)) ∷ rest) says effects-behind) ∙ sat-news (o .effects) says
 
   cost-place : cost-at x i ≡ effects-at x i + 1 + length (flatten (map effect-tape (o .effects)))
   cost-place = let long = effects-long (o .effects) says in let many = effects-many in omega arith
@@ -138,11 +145,11 @@ module _ (x : List ℕ) (b : Bool) (scale : metric x ≡ cond b 1 0) (o : Operat
   pub action-told : action-at x i ≡ sat-action (meant-action b o)
   unfolding action-at
   action-told =
-      ap (λ ps. record { precondition = ps; effect = new-values x i; cost = cond (eqb (metric x) 0) 1 (number-at x (cost-at x i)) })
+      ap (λ ps. record { precondition = ps; effects = map always (new-values x i); cost = cond (eqb (metric x) 0) 1 (number-at x (cost-at x i)) })
       (ap (λ ps. ps ++ old-values x i) prevail-told ∙ ap (λ qs. map sat-fact (o .prevail) ++ qs) olds
       ∙ sym (map-append sat-fact (o .prevail) (flatten (map (λ e. old-fact (e .change)) (o .effects)))))
-      ∙ ap (λ es. record { precondition = map sat-fact (meant-action b o .precondition); effect = es; cost = cond (eqb (metric x) 0) 1 (number-at x (cost-at x i)) }) news
-      ∙ ap (λ c. record { precondition = map sat-fact (meant-action b o .precondition); effect = map sat-fact (meant-action b o .effect); cost = c }) costs
+      ∙ ap (λ es. record { precondition = map sat-fact (meant-action b o .precondition); effects = es; cost = cond (eqb (metric x) 0) 1 (number-at x (cost-at x i)) }) news
+      ∙ ap (λ c. record { precondition = map sat-fact (meant-action b o .precondition); effects = map sat-effect (meant-action b o .effects); cost = c }) costs
 
   pub operator-over : drop (operator-end x i) x ≡ rest
   operator-over = behind-one x (cost-at x i) _ _ cost-here

@@ -2,31 +2,35 @@
 -- with its numbers as they are or as they are read, has none of them. Assumes nothing.
 use Prim.Native.Nat.{ℕ, _≤_, _<_}
 use native.Mathlib.Omega.{arith}
-use mathlib.Core.Path.{_≡_, refl, sym, _∙_, ap, subst}
-use mathlib.Core.Bool.{Bool, true, _&&_, false≢true, and-eq-true-iff}
+use mathlib.Core.Path.{_≡_, refl, _∙_, ap}
+use mathlib.Core.Bool.{true, _&&_, false≢true, and-eq-true-iff}
 use mathlib.Core.List.{List, [], _∷_, map, map-id}
 use lib.ListN.{length, getD}
 use lib.Dec.{ltb, leb}
 use borrow.Author.Tests.{ltb-true, leb-true}
-use Rattle.sas.specs.Task.{Fact, Assignment, State, Action, Task}
+use Rattle.sas.specs.Task.{Fact, Assignment, State, Effect, always, Action, Task}
+use Rattle.sas.specs.Plan.{written}
 use Rattle.sas.specs.between.WellFormed.{Known}
 use Rattle.sheet.specs.Limits.{limits}
 use Rattle.fields.specs.between.Numbers.{most-number}
 use Rattle.meaning.specs.between.Order.{insert}
-use Rattle.meaning.specs.between.Writable.{fit-in, group-fits, variables-fit, action-fits, actions-fit, writable}
+use Rattle.meaning.specs.between.Writable.{fit-in, variables-fit, no-condition, action-fits, actions-fit, writable}
 use Rattle.meaning.proofs.OrderLaws.{fit-first}
 use Rattle.meaning.proofs.OrderTheorem.{variable-fits, Action-fit, fit-action, Fits-sheet, writable-fits}
 use Rattle.printed_form.proofs.DatumLaws.{sat-small}
 use Rattle.translation.proofs.TapeLaws.{sat-fact}
-use Rattle.translation.proofs.MeantTheorem.{sat-number, sat-action, sat-task}
+use Rattle.translation.proofs.MeantTheorem.{sat-number, sat-effect, sat-action, sat-task}
 
 -- numbers that are taken as h gives them
 module _ (h : ℕ → ℕ) where
   abbrev h-fact : Fact → Fact
   h-fact f = record { variable = h (f .variable); value = h (f .value) }
 
+  abbrev h-effect : Effect → Effect
+  h-effect e = record { condition = map h-fact (e .condition); fact = h-fact (e .fact) }
+
   abbrev h-action : Action → Action
-  h-action a = record { precondition = map h-fact (a .precondition); effect = map h-fact (a .effect); cost = h (a .cost) }
+  h-action a = record { precondition = map h-fact (a .precondition); effects = map h-effect (a .effects); cost = h (a .cost) }
 
   abbrev h-task : Task → Task
   h-task T =
@@ -72,19 +76,37 @@ module _ (h : ℕ → ℕ) (tells : (n : ℕ) → h n < most-number → sat-numb
         let (known, new, rest) = fit-first rs q (h-fact h f) (map (h-fact h) fs) fit in
         ap (λ g. g ∷ map sat-fact fs) (fact-tells f known) ∙ ap (λ gs. f ∷ gs) (facts-tell (insert (h-fact h f) q) fs rest)
 
-    action-tells : (a : Action) → Action-fit rs (h-action h a) → sat-action a ≡ a
-    action-tells a fit =
+    -- effects without conditions
+    effects-tell : (q : Assignment) (es : List Effect) → no-condition (map (h-effect h) es) ≡ true → fit-in rs q (map (λ e. e .fact) (map (h-effect h) es)) ≡ true
+        → map sat-effect es ≡ es
+    unfolding no-condition
+    effects-tell q [] none fit = refl
+    effects-tell q (e ∷ es) none fit =
+        let (known, new, rest) = fit-first rs q (h-fact h (e .fact)) (map (λ d. d .fact) (map (h-effect h) es)) fit in
+        by-case (e .condition) none (fact-tells (e .fact) known) (λ all. effects-tell (insert (h-fact h (e .fact)) q) es all rest)
+      where
+        by-case : (cs : Assignment) → no-condition (record { condition = map (h-fact h) cs; fact = h-fact h (e .fact) } ∷ map (h-effect h) es) ≡ true
+            → sat-fact (e .fact) ≡ e .fact → (no-condition (map (h-effect h) es) ≡ true → map sat-effect es ≡ es)
+            → record { condition = map sat-fact cs; fact = sat-fact (e .fact) } ∷ map sat-effect es ≡ record { condition = cs; fact = e .fact } ∷ es
+        by-case [] all fact rest = ap (λ f. always f ∷ map sat-effect es) fact ∙ ap (λ ds. always (e .fact) ∷ ds) (rest all)
+        by-case (g ∷ cs) all fact rest = absurd (false≢true all)
+
+    action-tells : (a : Action) → action-fits rs (h-action h a) ≡ true → sat-action a ≡ a
+    unfolding action-fits written
+    action-tells a passes =
+        let fit : Action-fit rs (h-action h a) = fit-action rs (h-action h a) passes in
+        let none : no-condition (map (h-effect h) (a .effects)) ≡ true = and-eq-true-iff (no-condition (map (h-effect h) (a .effects))) _ .0 passes .0 in
         let cost : sat-number (a .cost) ≡ a .cost = tells (a .cost) (omega (arith, fit .cost)) in
-        ap (λ ps. record { precondition = ps; effect = map sat-fact (a .effect); cost = sat-number (a .cost) }) (facts-tell [] (a .precondition) (fit .precondition))
-        ∙ ap (λ es. record { precondition = a .precondition; effect = es; cost = sat-number (a .cost) }) (facts-tell [] (a .effect) (fit .effect))
-        ∙ ap (λ c. record { precondition = a .precondition; effect = a .effect; cost = c }) cost
+        ap (λ ps. record { precondition = ps; effects = map sat-effect (a .effects); cost = sat-number (a .cost) }) (facts-tell [] (a .precondition) (fit .precondition))
+        ∙ ap (λ es. record { precondition = a .precondition; effects = es; cost = sat-number (a .cost) }) (effects-tell [] (a .effects) none (fit .effect))
+        ∙ ap (λ c. record { precondition = a .precondition; effects = a .effects; cost = c }) cost
 
     actions-tell : (p : List Action) → actions-fit rs (map (h-action h) p) ≡ true → map sat-action p ≡ p
     unfolding actions-fit
     actions-tell [] fit = refl
     actions-tell (a ∷ p) fit =
         let (first, others) = and-eq-true-iff (action-fits rs (h-action h a)) (actions-fit rs (map (h-action h) p)) .0 fit in
-        ap (λ b. b ∷ map sat-action p) (action-tells a (fit-action rs (h-action h a) first)) ∙ ap (λ q. a ∷ q) (actions-tell p others)
+        ap (λ b. b ∷ map sat-action p) (action-tells a first) ∙ ap (λ q. a ∷ q) (actions-tell p others)
 
   task-tells : (T : Task) → length (T .initial) ≡ length (T .domains) → writable (h-task h T) ≡ true → sat-task T ≡ T
   task-tells T complete can =
@@ -104,10 +126,14 @@ pub read-same : (T : Task) → length (T .initial) ≡ length (T .domains) → w
 read-same T complete can = task-tells sat-number (λ n low. sat-small n (omega arith)) T complete can
 
 -- and as they are
+effects-same : (es : List Effect) → map (h-effect (λ n. n)) es ≡ es
+effects-same [] = refl
+effects-same (e ∷ es) = ap (λ q. record { condition = q; fact = e .fact } ∷ map (h-effect (λ n. n)) es) (map-id (e .condition)) ∙ ap (λ ds. e ∷ ds) (effects-same es)
+
 action-same : (a : Action) → h-action (λ n. n) a ≡ a
 action-same a =
-    ap (λ ps. record { precondition = ps; effect = map (h-fact (λ n. n)) (a .effect); cost = a .cost }) (map-id (a .precondition))
-    ∙ ap (λ es. record { precondition = a .precondition; effect = es; cost = a .cost }) (map-id (a .effect))
+    ap (λ ps. record { precondition = ps; effects = map (h-effect (λ n. n)) (a .effects); cost = a .cost }) (map-id (a .precondition))
+    ∙ ap (λ es. record { precondition = a .precondition; effects = es; cost = a .cost }) (effects-same (a .effects))
 
 actions-same : (p : List Action) → map (h-action (λ n. n)) p ≡ p
 actions-same [] = refl

@@ -3,42 +3,53 @@
 use Prim.Native.Nat.{ℕ, suc, _≤_, _<_}
 use native.Mathlib.Omega.{arith}
 use mathlib.Core.Path.{_≡_, refl, sym, _∙_, ap, subst}
-use mathlib.Core.Bool.{Bool, true, _&&_}
+use mathlib.Core.Bool.{true}
 use mathlib.Core.List.{List, [], _∷_, map, List·Memᴰ, List·Memᴰ·head, List·Memᴰ·tail}
 use lib.ListN.{length, getD, length-map}
-use lib.Dec.{ltb, leb}
 use borrow.Author.Tests.{lt-ltb, le-leb}
-use Rattle.sas.specs.Task.{Fact, Assignment, State, Action, Task}
-use Rattle.sas.specs.between.WellFormed.{Rising, Within, Action-formed, Plain, Well-formed}
+use Rattle.sas.specs.Task.{State, always, Action, Task}
+use Rattle.sas.specs.Plan.{written}
+use Rattle.sas.specs.between.WellFormed.{Rising, Action-formed, Plain, Well-formed}
 use Rattle.sheet.specs.Limits.{limits}
 use Rattle.sheet.specs.Decode.{task}
 use Rattle.sheet.specs.Causes.{Accepted}
-use Rattle.sheet.specs.between.Encode.{first-edition, encode, Encodable}
-use Rattle.sheet.proofs.EncodeTheorem.{encode-decodes, encode-accepted, decode-encodes, accepted-encodable}
+use Rattle.sheet.specs.Layout.{first-edition}
+use Rattle.sheet.specs.between.Encode.{encode, Encodable}
+use Rattle.sheet.proofs.EncodeTheorem.{encode-decodes, encode-accepted, edition-read, decode-encodes, accepted-encodable}
 use Rattle.meaning.specs.between.Order.{in-order, ordered-action, ordered}
-use Rattle.meaning.specs.between.Writable.{group-fits, variables-fit, action-fits, actions-fit, writable}
-use Rattle.meaning.proofs.OrderTheorem.{writable-encodable}
-use Rattle.translation.specs.Translation.{Same-facts, Same-actions, Same-task}
+use Rattle.meaning.specs.between.Writable.{group-fits, variables-fit, no-condition, action-fits, actions-fit, writable}
+use Rattle.meaning.proofs.OrderTheorem.{actions-each-fit, writable-fits, writable-encodable}
+use Rattle.translation.specs.Translation.{Same-facts, Same-effects, Same-actions, Same-task}
 use Rattle.translation.specs.Translation.Same-actions.{no-action, action}
 use Rattle.translation.proofs.CopyLaws.{in-order-facts, group-same, in-order-is}
+use Rattle.translation.proofs.EffectOrderLaws.{same-written, always-same, same-always}
 
 -- a task and the same with its groups in order
-same-actions : (p : List Action) → Same-actions p (map ordered-action p)
+same-actions : (p : List Action) → ((a : Action) → List·Memᴰ a p → a .effects ≡ map always (written a)) → Same-actions p (map ordered-action p)
 unfolding ordered-action
-same-actions [] = no-action
-same-actions (a ∷ p) = action (in-order-facts (a .precondition)) (in-order-facts (a .effect)) refl (same-actions p)
+same-actions [] plain = no-action
+same-actions (a ∷ p) plain =
+    action (in-order-facts (a .precondition))
+    (subst (λ es. Same-effects es (map always (in-order (written a)))) (sym (plain a (List·Memᴰ·head refl))) (always-same (written a) (in-order (written a)) (in-order-facts (written a))))
+    refl (same-actions p (λ b m. plain b (List·Memᴰ·tail m)))
 
-same-ordered : (T : Task) → Same-task T (ordered T)
+same-ordered : (T : Task) → writable T ≡ true → Same-task T (ordered T)
 unfolding ordered
-same-ordered T = record { domains = refl; initial = refl; goal = in-order-facts (T .goal); actions = same-actions (T .actions) }
+same-ordered T can =
+    record {
+      domains = refl;
+      initial = refl;
+      goal = in-order-facts (T .goal);
+      actions = same-actions (T .actions) (λ a m. actions-each-fit (T .domains) (T .actions) (writable-fits T can .each-action) m .without-condition);
+    }
 
 -- a task that passes the test has a sheet
 module _ (T : Task) (complete : length (T .initial) ≡ length (T .domains)) (can : writable T ≡ true) where
   pub has-sheet : Accepted (encode first-edition (ordered T))
-  has-sheet = encode-accepted (ordered T) (writable-encodable T complete can)
+  has-sheet = encode-accepted (ordered T) (writable-encodable T complete can) refl
 
   pub sheet-means : Same-task T (task (encode first-edition (ordered T)))
-  sheet-means = subst (Same-task T) (sym (encode-decodes (ordered T) (writable-encodable T complete can))) (same-ordered T)
+  sheet-means = subst (Same-task T) (sym (encode-decodes (ordered T) (writable-encodable T complete can))) (same-ordered T can)
 
 -- of a task that can be written, and the same but for the order of facts: each group in order is the written one
 variables-pass : (rs : List ℕ) (s : State) → length s ≡ length rs → ((v : ℕ) → v < length rs → getD rs v 0 ≤ limits .values)
@@ -53,26 +64,33 @@ variables-pass (r ∷ rs) (v ∷ s) same low below =
 actions-pass : (rs : List ℕ) {p q : List Action} → Same-actions p q → ((b : Action) → List·Memᴰ b q → Action-formed rs b)
     → ((b : Action) → List·Memᴰ b q → Plain rs b) → ((b : Action) → List·Memᴰ b q → b .cost ≤ limits .cost)
     → (actions-fit rs p ≡ true) × (map ordered-action p ≡ q)
-unfolding actions-fit action-fits ordered-action
+unfolding actions-fit action-fits ordered-action written
 actions-pass rs no-action formed plain cheap = (refl, refl)
 actions-pass rs (action {a} {b} {p} {q} pre eff same rest) formed plain cheap =
     let here : List·Memᴰ b (b ∷ q) = List·Memᴰ·head refl in
     let (fit, are) = actions-pass rs rest (λ c m. formed c (List·Memᴰ·tail m)) (λ c m. plain c (List·Memᴰ·tail m)) (λ c m. cheap c (List·Memᴰ·tail m)) in
     let low : a .cost ≤ limits .cost = omega (arith, cheap b here) in
     let first : group-fits rs (a .precondition) ≡ true = group-same rs (b .precondition) (formed b here .precondition) (a .precondition) pre in
-    let second : group-fits rs (a .effect) ≡ true = group-same rs (b .effect) (plain b here .effect) (a .effect) eff in (
-      rw (first, second, le-leb (a .cost) (limits .cost) low) fit,
+    let none : no-condition (a .effects) ≡ true = same-always (a .effects) (written b) (subst (Same-effects (a .effects)) (plain b here .without-condition) eff) in
+    let facts : Same-facts (written a) (written b) = same-written (a .effects) (b .effects) eff in
+    let second : group-fits rs (written a) ≡ true = group-same rs (written b) (plain b here .rising) (written a) facts in
+    let effects : map always (in-order (written a)) ≡ b .effects =
+    ap (map always) (in-order-is rs (written a) (written b) (plain b here .rising) facts) ∙ sym (plain b here .without-condition) in (
+      rw (none, first, second, le-leb (a .cost) (limits .cost) low) fit,
       ap (λ c. c ∷ map ordered-action p)
-          (ap (λ ps. record { precondition = ps; effect = in-order (a .effect); cost = a .cost }) (in-order-is rs (a .precondition) (b .precondition) (formed b here .precondition) pre)
-          ∙ ap (λ es. record { precondition = b .precondition; effect = es; cost = a .cost }) (in-order-is rs (a .effect) (b .effect) (plain b here .effect) eff)
-          ∙ ap (λ c. record { precondition = b .precondition; effect = b .effect; cost = c }) same)
+          (ap (λ ps. record { precondition = ps; effects = map always (in-order (written a)); cost = a .cost }) (in-order-is rs (a .precondition) (b .precondition) (formed b here .precondition) pre)
+          ∙ ap (λ es. record { precondition = b .precondition; effects = es; cost = a .cost }) effects
+          ∙ ap (λ c. record { precondition = b .precondition; effects = b .effects; cost = c }) same)
           ∙ ap (λ r. b ∷ r) are,
     )
 
 -- a task that has a sheet passes the test, and has no other sheet
 module _ (T : Task) (w : List ℕ) (accepted : Accepted w) (means : Same-task T (task w)) where
-  abbrev encodes : Encodable first-edition (task w)
-  encodes = accepted-encodable w accepted
+  encodes : Encodable first-edition (task w)
+  encodes = subst (λ e. Encodable e (task w)) (edition-read w accepted) (accepted-encodable w accepted)
+
+  encoded : encode first-edition (task w) ≡ w
+  encoded = ap (λ e. encode e (task w)) (sym (edition-read w accepted)) ∙ decode-encodes w accepted
 
   abbrev formed : Well-formed (task w)
   formed = encodes .well-formed
@@ -86,7 +104,7 @@ module _ (T : Task) (w : List ℕ) (accepted : Accepted w) (means : Same-task T 
   acts : (actions-fit (T .domains) (T .actions) ≡ true) × (map ordered-action (T .actions) ≡ task w .actions)
   acts =
       actions-pass (T .domains) (means .actions) (λ b m. in-domains (λ ds. Action-formed ds b) (formed .actions b m))
-      (λ b m. in-domains (λ ds. Plain ds b) (encodes .plain b m)) (encodes .costs)
+      (λ b m. in-domains (λ ds. Plain ds b) (encodes .plain refl b m)) (encodes .costs)
 
   ordered-is : ordered T ≡ task w
   unfolding ordered
@@ -98,7 +116,7 @@ module _ (T : Task) (w : List ℕ) (accepted : Accepted w) (means : Same-task T 
       (in-order-is (T .domains) (T .goal) (task w .goal) rises (means .goal))
 
   pub sheet-is : encode first-edition (ordered T) ≡ w
-  sheet-is = ap (encode first-edition) ordered-is ∙ decode-encodes w accepted
+  sheet-is = ap (encode first-edition) ordered-is ∙ encoded
 
   variables-fit-in : variables-fit (T .domains) (T .initial) ≡ true
   variables-fit-in =
@@ -113,7 +131,7 @@ module _ (T : Task) (w : List ℕ) (accepted : Accepted w) (means : Same-task T 
   sheet-writable =
       let many : length (T .domains) ≡ length (task w .domains) = ap length (means .domains) in
       let words : length (encode first-edition (ordered T)) ≤ limits .words =
-      subst (λ v. length v ≤ limits .words) (sym sheet-is) (subst (λ v. length v ≤ limits .words) (decode-encodes w accepted) (encodes .words)) in
+      subst (λ v. length v ≤ limits .words) (sym sheet-is) (subst (λ v. length v ≤ limits .words) encoded (encodes .words)) in
       let some-variable : 1 ≤ length (T .domains) = omega (arith, encodes .some-variable) in
       let variables : length (T .domains) ≤ limits .variables = omega (arith, encodes .variables) in
       rw (

@@ -1,26 +1,23 @@
 -- The numbers kept of a text that a sheet can say, as their places tell them: facts, changes, actions, and the task, with
 -- each number as it is read. Assumes nothing.
-use Prim.Native.Nat.{ℕ, zero, suc, _+_, _*_, _≤_, _<_, min}
+use Prim.Native.Nat.{ℕ, suc, _+_, min}
 use native.Mathlib.Omega.{arith}
-use mathlib.Core.Path.{_≡_, refl, sym, _∙_, ap, subst}
-use mathlib.Core.Bool.{Bool, true, false, cond, false≢true}
+use mathlib.Core.Path.{_≡_, refl, sym, _∙_, ap}
+use mathlib.Core.Bool.{false, false≢true}
 use mathlib.Core.Option.{Option, none, some}
-use mathlib.Core.List.{List, [], _∷_, _++_, map, flatten, append-assoc, append-nil}
-use lib.ListN.{length, getD, drop, length-append}
+use mathlib.Core.List.{List, [], _∷_, _++_, map, flatten, append-assoc}
+use lib.ListN.{length, getD, drop}
 use lib.Seq.{drop-drop, drop-append-seam, getD-drop}
 use lib.Dec.{eqb, ltb}
 use borrow.Author.Tests.{ne-eqb, lt-ltb}
-use Rattle.sas.specs.Task.{Fact, Assignment, Action, Task}
-use Rattle.sheet.specs.Decode.{table}
+use Rattle.sas.specs.Task.{Fact, Assignment}
 use Rattle.fields.specs.between.Numbers.{most-number, any-value}
-use Rattle.meaning.specs.between.Sections.{number-at, fact-at, facts-at, fact-wide, effect-wide, metric, variables, range-of, starting, ranges, state, goal-at, goal, operators-at, effects-at, cost-at, operator-end, prevail, old-values, new-values, action-at, actions-from, meaning}
-use Rattle.planner.specs.Text.{Change, Effect, Operator, Variable, Text}
-use Rattle.planner.specs.Printed.{Line, lines, effect-lines, operator-lines, effect-numbers}
+use Rattle.meaning.specs.between.Sections.{number-at, fact-at, facts-at, fact-wide, effect-wide}
+use Rattle.planner.specs.Text.{Change, Effect}
+use Rattle.planner.specs.Printed.{Line, effect-lines}
 use Rattle.planner.specs.Meant.{old-fact, new-fact}
 use Rattle.printed_form.specs.between.Datum.{sat}
-use Rattle.printed_form.proofs.DatumLaws.{sat-small}
-use Rattle.printed_form.proofs.BlockLaws.{fact-tape, value-tape, effect-tape, counted-tape, variable-tape, operator-tape}
-use Rattle.printed_form.proofs.TextTheorem.{behind-tape, text-tape}
+use Rattle.printed_form.proofs.BlockLaws.{fact-tape, effect-tape}
 
 -- numbers that stand from a place on
 module _ (x : List ℕ) where
@@ -81,16 +78,16 @@ sayable-parts [] ms all = (tt, all)
 sayable-parts (l ∷ ls) ms (here, there) = let (first, second) = sayable-parts ls ms there in ((here, first), second)
 
 -- so an effect has no condition
-no-condition : (cs : Assignment) → ltb 0 (length cs) ≡ false → cs ≡ []
-no-condition [] e = refl
-no-condition (f ∷ cs) e = absurd (false≢true (sym e ∙ lt-ltb 0 (suc (length cs)) (omega arith)))
+pub unconditional : (cs : Assignment) → ltb 0 (length cs) ≡ false → cs ≡ []
+unconditional [] e = refl
+unconditional (f ∷ cs) e = absurd (false≢true (sym e ∙ lt-ltb 0 (suc (length cs)) (omega arith)))
 
 abbrev pub plain-tape : Change → List ℕ
 plain-tape c = sat (some 0) ∷ sat (some (c .variable)) ∷ sat (c .old) ∷ sat (some (c .new)) ∷ []
 
 pub plain-effect : (e : Effect) → ltb 0 (length (e .conditions)) ≡ false → effect-tape e ≡ plain-tape (e .change)
 unfolding flatten
-plain-effect e says = ap (λ cs. effect-tape (record { conditions = cs; change = e .change })) (no-condition (e .conditions) says)
+plain-effect e says = ap (λ cs. effect-tape (record { conditions = cs; change = e .change })) (unconditional (e .conditions) says)
 
 module _ (x : List ℕ) where
   old-told : (i j v : ℕ) (o : Option ℕ) → number-at x i ≡ sat (some v) → number-at x j ≡ sat o

@@ -15,7 +15,8 @@ use Rattle.refusal.specs.declared.Refusal.the-variants as refusal
 use Rattle.refusal.specs.Check.{answer}
 use Rattle.sas.specs.Task.{Task}
 use Rattle.sheet.specs.Limits.{limits}
-use Rattle.sheet.specs.between.Encode.{first-edition, encode}
+use Rattle.sheet.specs.Layout.{first-edition}
+use Rattle.sheet.specs.between.Encode.{encode}
 use Rattle.planner.specs.Text.{most-bytes}
 use Rattle.form.specs.between.Form.{walked, whole, broken-line, unsupported-line, numbers-of}
 use Rattle.form.specs.between.Reading.{Outcome, barred-at}

@@ -5,19 +5,18 @@ use native.Mathlib.Omega.{arith}
 use mathlib.Core.Path.{_≡_, refl, sym, _∙_, ap, subst}
 use mathlib.Core.Logic.{_⊎_, inl, inr}
 use mathlib.Core.Bool.{Bool, true, false, cond, false≢true}
-use mathlib.Core.Option.{Option, none, some}
+use mathlib.Core.Option.{none, some}
 use mathlib.Core.List.{List, [], _∷_, _++_}
 use lib.ListN.{length, drop, take-append-drop, length-map}
 use lib.Dec.{ltb}
 use borrow.Author.Tests.{lt-ltb, le-ltb}
 use Rattle.refusal.specs.declared.place.Place.{Place}
 use Rattle.refusal.specs.declared.place.Place.the-variants.{Nowhere, At}
-use Rattle.refusal.specs.Refusal.{Told}
 use Rattle.refusal.specs.Check.{answer}
 use Rattle.sas.specs.Task.{Task}
-use Rattle.sheet.specs.between.Encode.{first-edition, encode}
-use Rattle.fields.specs.between.Numbers.{most-number}
-use Rattle.form.specs.between.Form.{walked, whole, unsupported-line, numbers-of}
+use Rattle.sheet.specs.Layout.{first-edition}
+use Rattle.sheet.specs.between.Encode.{encode}
+use Rattle.form.specs.between.Form.{walked, whole, numbers-of}
 use Rattle.meaning.specs.between.Sections.{meaning}
 use Rattle.meaning.specs.between.Order.{ordered}
 use Rattle.meaning.specs.between.Writable.{writable}
@@ -25,12 +24,11 @@ use Rattle.planner.specs.Text.{Text, most-bytes}
 use Rattle.planner.specs.Printed.{Line, lines}
 use Rattle.planner.specs.Meant.{meant, first-barred, unsayable}
 use Rattle.planner.specs.Broken.{Formed, Prints, Breaks}
-use Rattle.printed_form.proofs.TextTheorem.{text-tape}
 use Rattle.printed_form.proofs.PrintedTheorem.{lines-few, whole-printed, printed-whole, printed-numbers, printed-barred, broken-breaks, breaks-once, no-text-breaks}
 use Rattle.translation.specs.declared.translate.Translated.{Translated}
 use Rattle.translation.specs.declared.translate.Translated.the-variants.{Refused, Written}
-use Rattle.translation.specs.Translation.{Sheet-of, Told-of, Told-of-bytes, told-translated, Leaves, Translates}
-use Rattle.translation.specs.between.Checks.{text-sheet, task-checks, translation-checks, Answers-checks, Leaves-task, Writes-sheet}
+use Rattle.translation.specs.Translation.{Sheet-of, Told-of, Told-of-bytes, Leaves, Translates}
+use Rattle.translation.specs.between.Checks.{text-sheet, task-checks, translation-checks, Answers-checks, Leaves-task}
 use Rattle.translation.proofs.TranslationLaws.{told-unwritable, told-short, told-none, told-long, told-form, told-barred, told-passed}
 use Rattle.translation.proofs.TapeLaws.{All-sayable}
 use Rattle.translation.proofs.MeantTheorem.{sat-task, task-told}

@@ -12,7 +12,7 @@ use Rattle.ascii.specs.Bytes.{ascii, split, all-digits, decimal-from}
 use Rattle.refusal.specs.Refusal.{Told}
 use Rattle.refusal.specs.Check.{answer}
 use Rattle.sheet.specs.Decode.{table}
-use Rattle.sheet.specs.between.Encode.{action-part, parts, pairs-of, body, sheet-of, encode}
+use Rattle.sheet.specs.between.Encode.{effects-part, action-part, parts, pairs-of, body, sheet-of, encode}
 use Rattle.fields.specs.between.Fields.{same, is-number, number, word-reads, word-number, all-read, all-plain, plain-but-old}
 use Rattle.form.specs.between.Form.{numbers-fit, fits, times, after-count, further, walk, nothing-left, whole, walked, broken-line, bars}
 use Rattle.form.specs.between.Form.{first-barred as first-barred-entry}
@@ -20,9 +20,10 @@ use Rattle.planner.specs.Text.{most-bytes}
 use Rattle.form.specs.between.Form.{unsupported-line, kept, kept-of, numbers-of}
 use Rattle.meaning.specs.between.Sections.{fact-at, facts-at, ranges, state, goal, action-at, actions-from, meaning}
 use Rattle.meaning.specs.between.Order.{insert, put-in, ordered-action, ordered}
-use Rattle.meaning.specs.between.Writable.{known, has, fit-in, variables-fit, action-fits, actions-fit, writable}
+use Rattle.meaning.specs.between.Writable.{known, has, fit-in, variables-fit, no-condition, action-fits, actions-fit, writable}
 use Rattle.lines.specs.Lines.{numeral, numeral-within}
-use Rattle.sas.specs.Task.{Assignment}
+use Rattle.sas.specs.Task.{Assignment, always}
+use Rattle.sas.specs.Plan.{written}
 use Rattle.refusal.specs.declared.place.Place.the-variants.{Nowhere, At}
 use Rattle.planner.specs.Text.{Text}
 use Rattle.planner.specs.Printed.{joined, counted, ended, printed}
@@ -47,7 +48,7 @@ refused n place = record { number = n; place = place }
 
 pub good-text : (text-sheet (with-effect (ascii "0 0 0 1")) ≡ 1 ∷ 1 ∷ 1 ∷ 19 ∷ 12 ∷ 1 ∷ 13 ∷ 1 ∷ 14 ∷ 1 ∷ 15 ∷ 4 ∷ 2 ∷ 0 ∷ 1 ∷ 5 ∷ 1 ∷ 0 ∷ 1 ∷ [])
     × (answer (translation-checks (with-effect (ascii "0 0 0 1")) 19) ≡ none)
-unfolding answer translation-checks task-checks split all-digits decimal-from table action-part parts pairs-of body sheet-of encode same is-number number word-reads word-number all-read all-plain plain-but-old numbers-fit fits times after-count further walk nothing-left whole walked broken-line bars first-barred-entry unsupported-line kept kept-of numbers-of fact-at facts-at ranges state goal action-at actions-from meaning insert put-in ordered-action ordered known has fit-in variables-fit action-fits actions-fit writable flatten
+unfolding answer translation-checks task-checks split all-digits decimal-from table effects-part action-part parts pairs-of body sheet-of encode same is-number number word-reads word-number all-read all-plain plain-but-old numbers-fit fits times after-count further walk nothing-left whole walked broken-line bars first-barred-entry unsupported-line kept kept-of numbers-of fact-at facts-at ranges state goal action-at actions-from meaning insert put-in written ordered-action ordered known has fit-in variables-fit no-condition action-fits actions-fit writable flatten
 good-text = (refl, refl)
 
 -- by the line of the effect, in a buffer of so many words: a needless zero, a sign where none stands, an old value that may be −1, a condition, a value and a
@@ -59,14 +60,14 @@ pub texts-refused : (answer (translation-checks (with-effect (ascii "0 0 00 1"))
     × (answer (translation-checks (with-effect (ascii "0 0 0 2")) 19) ≡ some (refused 15 0))
     × (answer (translation-checks (with-effect (ascii "0 1 -1 0")) 19) ≡ some (refused 15 0))
     × (answer (translation-checks (with-effect (ascii "0 0 0 1")) 18) ≡ some (refused 10 19))
-unfolding answer translation-checks task-checks split all-digits decimal-from table action-part parts pairs-of body sheet-of encode same is-number number word-reads word-number all-read all-plain plain-but-old numbers-fit fits times after-count further walk nothing-left whole walked broken-line bars first-barred-entry unsupported-line kept kept-of numbers-of fact-at facts-at ranges state goal action-at actions-from meaning insert put-in ordered-action ordered known has fit-in variables-fit action-fits actions-fit writable flatten
+unfolding answer translation-checks task-checks split all-digits decimal-from table effects-part action-part parts pairs-of body sheet-of encode same is-number number word-reads word-number all-read all-plain plain-but-old numbers-fit fits times after-count further walk nothing-left whole walked broken-line bars first-barred-entry unsupported-line kept kept-of numbers-of fact-at facts-at ranges state goal action-at actions-from meaning insert put-in written ordered-action ordered known has fit-in variables-fit no-condition action-fits actions-fit writable flatten
 texts-refused = (refl, refl, refl, refl, refl, refl, refl)
 
 -- a line that is missing, and one too many
 pub texts-cut : (answer (translation-checks before 19) ≡ some (refused 13 32))
     × (answer (translation-checks (with-effect (ascii "0 0 0 1\n0 0 0 1")) 19) ≡ some (refused 13 33))
     × (answer (translation-checks [] 19) ≡ some (refused 13 1))
-unfolding answer translation-checks task-checks split all-digits decimal-from table action-part parts pairs-of body sheet-of encode same is-number number word-reads word-number all-read all-plain plain-but-old numbers-fit fits times after-count further walk nothing-left whole walked broken-line bars first-barred-entry unsupported-line kept kept-of numbers-of fact-at facts-at ranges state goal action-at actions-from meaning insert put-in ordered-action ordered known has fit-in variables-fit action-fits actions-fit writable flatten
+unfolding answer translation-checks task-checks split all-digits decimal-from table effects-part action-part parts pairs-of body sheet-of encode same is-number number word-reads word-number all-read all-plain plain-but-old numbers-fit fits times after-count further walk nothing-left whole walked broken-line bars first-barred-entry unsupported-line kept kept-of numbers-of fact-at facts-at ranges state goal action-at actions-from meaning insert put-in written ordered-action ordered known has fit-in variables-fit no-condition action-fits actions-fit writable flatten
 texts-cut = (refl, refl, refl)
 
 -- a text of more than 65,536 bytes
@@ -109,7 +110,7 @@ lock-barred = (refl, refl)
 pub lock-meant : meant (lock [])
     ≡ record {
       domains = 2 ∷ [];
-      actions = record { precondition = open-gate; effect = record { variable = 0; value = 1 } ∷ []; cost = 5 } ∷ [];
+      actions = record { precondition = open-gate; effects = always (record { variable = 0; value = 1 }) ∷ []; cost = 5 } ∷ [];
       initial = 0 ∷ [];
       goal = record { variable = 0; value = 1 } ∷ [];
     }

@@ -3,14 +3,14 @@
 -- `no-text-breaks`, `sheet-once`, `sheet-or-none`). Assumes nothing.
 use Prim.Native.Nat.{ℕ, _+_, _≤_, _<_}
 use mathlib.Core.Path.{_≡_}
-use mathlib.Core.Bool.{cond, _&&_}
+use mathlib.Core.Bool.{Bool, cond, _&&_}
 use mathlib.Core.Option.{Option, none, some}
 use mathlib.Core.List.{List, [], _∷_, _++_}
 use lib.ListN.{length, drop}
 use lib.Dec.{eqb}
 use Rattle.refusal.specs.declared.place.Place.the-variants.{Nowhere, At}
 use Rattle.refusal.specs.Refusal.{Told, told-refusal}
-use Rattle.sas.specs.Task.{Fact, Assignment, Action, Task}
+use Rattle.sas.specs.Task.{Fact, Assignment, Effect, Action, Task}
 use Rattle.sheet.specs.Decode.{task}
 use Rattle.sheet.specs.Causes.{Accepted}
 use Rattle.planner.specs.Text.{Text, most-bytes}
@@ -19,20 +19,39 @@ use Rattle.planner.specs.Broken.{Prints, Breaks}
 use Rattle.translation.specs.declared.translate.Translated.{Translated}
 use Rattle.translation.specs.declared.translate.Translated.the-variants.{Refused, Written}
 
+-- two facts are the same
+abbrev pub alike : Fact → Fact → Bool
+alike f g = eqb (f .variable) (g .variable) && eqb (f .value) (g .value)
+
 -- how often a fact stands among facts
 unfoldable pub copies : Fact → Assignment → ℕ
 copies f [] = 0
-copies f (g ∷ q) = cond (eqb (f .variable) (g .variable) && eqb (f .value) (g .value)) 1 0 + copies f q
+copies f (g ∷ q) = cond (alike f g) 1 0 + copies f q
 
 -- the same facts, in any order
 abbrev pub Same-facts : Assignment → Assignment → Type 0
 Same-facts fs gs = (f : Fact) → copies f fs ≡ copies f gs
 
--- the same actions in the same order, but for the order of the facts in a group
+-- the conditions of the effects with this fact, in their order
+unfoldable pub conditions-of : Fact → List Effect → List Assignment
+conditions-of f [] = []
+conditions-of f (e ∷ es) = cond (alike f (e .fact)) (e .condition ∷ conditions-of f es) (conditions-of f es)
+
+-- the same conditions in the same order, but for the order of the facts in each
+pub data Same-conditions : List Assignment → List Assignment → Type 0 where
+  no-effect : Same-conditions [] []
+  effect : {q r : Assignment} {qs rs : List Assignment} → Same-facts q r → Same-conditions qs rs
+      → Same-conditions (q ∷ qs) (r ∷ rs)
+
+-- the same effects, in any order, but those of one fact in the same order
+abbrev pub Same-effects : List Effect → List Effect → Type 0
+Same-effects es ds = (f : Fact) → Same-conditions (conditions-of f es) (conditions-of f ds)
+
+-- the same actions in the same order, but for the order of the facts in a group, and of effects
 pub data Same-actions : List Action → List Action → Type 0 where
   no-action : Same-actions [] []
   action : {a b : Action} {p q : List Action} → Same-facts (a .precondition) (b .precondition)
-      → Same-facts (a .effect) (b .effect) → a .cost ≡ b .cost → Same-actions p q → Same-actions (a ∷ p) (b ∷ q)
+      → Same-effects (a .effects) (b .effects) → a .cost ≡ b .cost → Same-actions p q → Same-actions (a ∷ p) (b ∷ q)
 
 -- the same task, but for that order
 pub record Same-task (T U : Task) : Type 0 where

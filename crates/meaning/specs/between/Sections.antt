@@ -5,10 +5,10 @@
 -- text that has the form none is. Assumes nothing.
 use Prim.Native.Nat.{ℕ, zero, suc, _+_, _*_}
 use mathlib.Core.Bool.{cond}
-use mathlib.Core.List.{List, [], _∷_, _++_}
+use mathlib.Core.List.{List, [], _∷_, _++_, map}
 use lib.ListN.{getD}
 use lib.Dec.{eqb}
-use Rattle.sas.specs.Task.{Assignment, State, Action, Task}
+use Rattle.sas.specs.Task.{Assignment, State, always, Action, Task}
 use Rattle.sheet.specs.Decode.{table}
 use Rattle.fields.specs.between.Numbers.{any-value}
 
@@ -84,7 +84,7 @@ unfoldable pub action-at : List ℕ → ℕ → Action
 action-at x i =
     record {
       precondition = prevail x i ++ old-values x i;
-      effect = new-values x i;
+      effects = map always (new-values x i);
       cost = cond (eqb (metric x) 0) 1 (number-at x (cost-at x i));
     }
 

@@ -5,9 +5,11 @@ use mathlib.Core.Bool.{Bool, true, false, not, _&&_, _||_}
 use mathlib.Core.List.{List, [], _∷_}
 use lib.ListN.{length, getD}
 use lib.Dec.{ltb, leb, eqb}
-use Rattle.sas.specs.Task.{Fact, Assignment, State, Action, Task}
+use Rattle.sas.specs.Task.{Fact, Assignment, State, Effect, Action, Task}
+use Rattle.sas.specs.Plan.{written}
 use Rattle.sheet.specs.Limits.{limits}
-use Rattle.sheet.specs.between.Encode.{first-edition, encode}
+use Rattle.sheet.specs.Layout.{first-edition}
+use Rattle.sheet.specs.between.Encode.{encode}
 use Rattle.meaning.specs.between.Order.{insert, ordered}
 
 -- a fact of a variable that has a range, at a value in it
@@ -33,9 +35,15 @@ variables-fit [] s = true
 variables-fit (r ∷ rs) [] = false
 variables-fit (r ∷ rs) (v ∷ s) = leb r (limits .values) && (ltb v r && variables-fit rs s)
 
+-- effects none of which has a condition
+unfoldable pub no-condition : List Effect → Bool
+no-condition [] = true
+no-condition (e ∷ es) = elim (e .condition) [ [] ↦ no-condition es | f ∷ q ↦ false ]
+
 unfoldable pub action-fits : List ℕ → Action → Bool
 action-fits ranges a =
-    group-fits ranges (a .precondition) && (group-fits ranges (a .effect) && leb (a .cost) (limits .cost))
+    no-condition (a .effects)
+    && (group-fits ranges (a .precondition) && (group-fits ranges (written a) && leb (a .cost) (limits .cost)))
 
 unfoldable pub actions-fit : List ℕ → List Action → Bool
 actions-fit ranges [] = true

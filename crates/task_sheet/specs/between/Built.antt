@@ -5,7 +5,8 @@ use mathlib.Core.Path.{_≡_}
 use mathlib.Core.Bool.{true}
 use mathlib.Core.List.{List}
 use lib.ListN.{length, take}
-use Rattle.sheet.specs.between.Encode.{first-edition, encode}
+use Rattle.sheet.specs.Layout.{first-edition}
+use Rattle.sheet.specs.between.Encode.{encode}
 use Rattle.task_sheet.specs.declared.build.Built.{Built}
 use Rattle.meaning.specs.between.Sections.{meaning}
 use Rattle.meaning.specs.between.Order.{ordered}

@@ -7,7 +7,8 @@ use lib.ListN.{length}
 use lib.Seq.{sets}
 use Rattle.sas.specs.Task.{Assignment, Action, Task}
 use Rattle.sheet.specs.Limits.{limits}
-use Rattle.sheet.specs.between.Encode.{fact-words, first-edition, action-part}
+use Rattle.sheet.specs.Layout.{first-edition}
+use Rattle.sheet.specs.between.Encode.{fact-words, action-part}
 use Rattle.task_sheet.specs.declared.action.Written.{Written}
 use Rattle.meaning.specs.between.Order.{put-in, ordered-action}
 use Rattle.meaning.specs.between.Writable.{fit-in, group-fits, actions-fit}

@@ -9,7 +9,8 @@ use lib.Dec.{ltb}
 use Rattle.refusal.specs.Place.{when}
 use Rattle.refusal.specs.Check.{Check, answer}
 use Rattle.sas.specs.Task.{Task}
-use Rattle.sheet.specs.between.Encode.{first-edition, encode}
+use Rattle.sheet.specs.Layout.{first-edition}
+use Rattle.sheet.specs.between.Encode.{encode}
 use Rattle.planner.specs.Text.{most-bytes}
 use Rattle.form.specs.between.Form.{broken-line, unsupported-line, numbers-of}
 use Rattle.meaning.specs.between.Sections.{meaning}
