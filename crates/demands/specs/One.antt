@@ -58,9 +58,9 @@ pub record Refuses-just (numbers : List ℕ) (checks : List Check) (refusal : Op
   pub answers : refusal ≡ none ↔ None-fires checks
 
 -- document 01: "The sheet check has 1 to 7; one step 1 to 7, 9 and 11; list check and marks 1 to 9 and 11; the greedy
--- services 1 to 11; the exact reduction all."
+-- services 1 to 11; the exact reduction all." Document 02, C-15: "new is 16, after 7"
 abbrev pub sheet-numbers : List ℕ
-sheet-numbers = 1 ∷ 2 ∷ 3 ∷ 4 ∷ 5 ∷ 6 ∷ 7 ∷ []
+sheet-numbers = 1 ∷ 2 ∷ 3 ∷ 4 ∷ 5 ∷ 6 ∷ 7 ∷ 16 ∷ []
 
 abbrev pub step-numbers : List ℕ
 step-numbers = sheet-numbers ++ (9 ∷ 11 ∷ [])

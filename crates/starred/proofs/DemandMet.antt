@@ -9,17 +9,18 @@ use mathlib.Core.List.{List, [], _∷_}
 use lib.ListN.{length}
 use lib.Seq.{sets}
 use lib.Dec.{lit≤}
-use Rattle.sas.specs.Plan.{holds, satisfies, applicable, assign, apply, written, needed, cost, Plan}
+use Rattle.sas.specs.Plan.{holds, satisfies, applicable, assign, acting, apply, written, unconditional, written-always, needed, cost, Plan}
 use Rattle.reduction.specs.Reduction.{kept, count}
 use Rattle.reduction.specs.between.Order.{lower}
 use Rattle.reduction.specs.between.Elimination.{better}
-use Rattle.reduction.specs.between.Wanted.{some-fact, same-fact, has}
+use Rattle.reduction.specs.between.Wanted.{same-fact, has}
+use Rattle.sas.specs.Conflict.{some-of}
 use Rattle.reduction.specs.Landmark.{values-from, framed}
 use Rattle.reduction.specs.between.Landmarks.{sets-other, passed, trace, raised, round-to, rounds as mark-rounds, landmarks}
 use Rattle.reduction.specs.between.Found.{found, minimal}
 use Rattle.mask.specs.Mask.{binary, words-of, mask-words}
 use Rattle.landmark.specs.Marks.{marks}
-use Rattle.sheet.specs.Decode.{table, facts, initial, goal, action, task}
+use Rattle.sheet.specs.Decode.{table, facts, initial, goal, effects, action, task}
 use Rattle.plan.specs.declared.check.Answer.{Answer}
 use Rattle.plan.specs.Readable.{Readable}
 use Rattle.plan.specs.Valid.{steps}
@@ -48,7 +49,7 @@ module _ (before : List ℕ) (six : length before ≡ 6) where
     -- and so the service answers as document 01 says of worked list 2
     pub answer-met : (told-answer given ≡ none) × (told-tally given ≡ record { cost = 12; steps = 3 })
         × (mask ≡ 56 ∷ 0 ∷ 0 ∷ 0 ∷ []) × (after ≡ sets before 0 (0 ∷ 1 ∷ 2 ∷ []))
-    unfolding table facts initial goal action holds satisfies applicable assign apply written needed cost kept count lower better found minimal some-fact same-fact has values-from framed sets-other passed trace raised round-to mark-rounds landmarks marks binary words-of mask-words
+    unfolding table facts initial goal effects action holds satisfies applicable assign acting apply written unconditional written-always needed cost kept count lower better found minimal some-of same-fact has values-from framed sets-other passed trace raised round-to mark-rounds landmarks marks binary words-of mask-words
     answer-met =
         let (readable, plan, roomy) = premises-met in
         let answered : Answers none sheet-p list-1 (demand-three-met .left) before given mask after = demand-three-met .answered (lit≤ tt) in

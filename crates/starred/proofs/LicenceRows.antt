@@ -8,18 +8,19 @@ use mathlib.Core.List.{[], _∷_, _++_}
 use lib.ListN.{length, replicate}
 use Rattle.refusal.specs.Place.{first-of-next, first-of, first}
 use Rattle.refusal.specs.Check.{answer}
-use Rattle.sas.specs.Plan.{holds, satisfies, applicable, assign, apply, written, needed, result, run, cost}
+use Rattle.sas.specs.Plan.{holds, satisfies, applicable, assign, apply, written, needed, result, run, cost, acting, unconditional, written-always}
 use Rattle.reduction.specs.Reduction.{Reduction, keeps, kept, count, compose, valid-for}
 use Rattle.reduction.specs.between.Order.{lower}
 use Rattle.reduction.specs.between.Elimination.{trial, eliminated, eliminate, better, best, rounds, greedy}
 use Rattle.reduction.specs.Trials.{walk, after}
-use Rattle.reduction.specs.between.Wanted.{some-fact, same-fact, has}
+use Rattle.reduction.specs.between.Wanted.{same-fact, has}
+use Rattle.sas.specs.Conflict.{some-of, differ, contradictory, conflict, conflicting}
 use Rattle.reduction.specs.Landmark.{values-from, framed}
 use Rattle.reduction.specs.between.Landmarks.{sets-other, passed, trace, raised, round-to, rounds as mark-rounds, landmarks}
 use Rattle.reduction.specs.between.Found.{found, minimal}
 use Rattle.tally.specs.Tally.{comparison}
-use Rattle.sheet.specs.Decode.{table, facts, initial, goal, action}
-use Rattle.sheet.specs.Causes.{bad-length, bad-edition, bad-counts, due, wrong-size, bad-pair, pair-place, bad-variable, variable-place, bad-fact, group-place, action-place, fact-place, cost-place, sheet-checks}
+use Rattle.sheet.specs.Decode.{table, facts, initial, goal, action, effects}
+use Rattle.sheet.specs.Causes.{bad-length, bad-edition, bad-counts, due, wrong-size, bad-pair, pair-place, bad-variable, variable-place, bad-fact, group-place, action-place, fact-place, cost-place, sheet-checks, effects-place, past-part, conflict-place}
 use Rattle.plan.specs.between.Fault.{fault}
 use Rattle.plan.specs.Checked.{unknown-place, list-checks, read-checks, valid-checks, lodged-checks, plan-checks}
 use Rattle.plan.proofs.PlanTheorem.{passes-exactly}
@@ -59,7 +60,7 @@ licensed r m passes left others claims is positions tally =
     }
 
 least : Row-licensed least-row
-unfolding answer sheet-checks bad-length bad-edition bad-counts due wrong-size bad-pair pair-place bad-variable variable-place bad-fact group-place action-place fact-place cost-place first first-of first-of-next table facts initial goal action fault unknown-place list-checks read-checks valid-checks lodged-checks holds satisfies applicable assign apply written needed result run cost kept count compose valid-for lower walk after trial eliminated eliminate better best rounds greedy found minimal some-fact same-fact has values-from framed sets-other passed trace raised round-to mark-rounds landmarks marks comparison cheaper-of claim-of positions-from
+unfolding answer sheet-checks bad-length bad-edition bad-counts due past-part wrong-size bad-pair pair-place bad-variable variable-place bad-fact group-place effects-place action-place fact-place cost-place conflict-place first first-of first-of-next table facts effects initial goal action fault unknown-place list-checks read-checks valid-checks lodged-checks differ contradictory conflict conflicting holds satisfies applicable assign acting apply written needed result run cost kept count compose valid-for lower walk after trial eliminated eliminate better best rounds greedy found minimal some-of same-fact has values-from framed unconditional written-always sets-other passed trace raised round-to mark-rounds landmarks marks comparison cheaper-of claim-of positions-from
 least = licensed least-row (false ∷ false ∷ false ∷ []) refl refl refl refl refl refl refl
 
 -- what the cheaper elimination leaves of the lamps
@@ -67,11 +68,11 @@ abbrev gates-left : Reduction
 gates-left = replicate 9 false ++ (true ∷ true ∷ true ∷ replicate 9 false) ++ (true ∷ true ∷ true ∷ [])
 
 gates-eliminated : cheaper-of gates-and-lamp lamps-between ≡ gates-left
-unfolding answer sheet-checks bad-length bad-edition bad-counts due wrong-size bad-pair pair-place bad-variable variable-place bad-fact group-place action-place fact-place cost-place first first-of first-of-next table facts initial goal action fault unknown-place list-checks read-checks valid-checks lodged-checks holds satisfies applicable assign apply written needed result run cost kept count compose valid-for lower walk after trial eliminated eliminate better best rounds greedy found minimal some-fact same-fact has values-from framed sets-other passed trace raised round-to mark-rounds landmarks marks comparison cheaper-of claim-of positions-from
+unfolding answer sheet-checks bad-length bad-edition bad-counts due past-part wrong-size bad-pair pair-place bad-variable variable-place bad-fact group-place effects-place action-place fact-place cost-place conflict-place first first-of first-of-next table facts effects initial goal action fault unknown-place list-checks read-checks valid-checks lodged-checks differ contradictory conflict conflicting holds satisfies applicable assign acting apply written needed result run cost kept count compose valid-for lower walk after trial eliminated eliminate better best rounds greedy found minimal some-of same-fact has values-from framed unconditional written-always sets-other passed trace raised round-to mark-rounds landmarks marks comparison cheaper-of claim-of positions-from
 gates-eliminated = refl
 
 irreducible : Row-licensed irreducible-row
-unfolding answer sheet-checks bad-length bad-edition bad-counts due wrong-size bad-pair pair-place bad-variable variable-place bad-fact group-place action-place fact-place cost-place first first-of first-of-next table facts initial goal action fault unknown-place list-checks read-checks valid-checks lodged-checks holds satisfies applicable assign apply written needed result run cost kept count compose valid-for lower walk after trial eliminated eliminate better best rounds greedy found minimal some-fact same-fact has values-from framed sets-other passed trace raised round-to mark-rounds landmarks marks comparison cheaper-of claim-of positions-from
+unfolding answer sheet-checks bad-length bad-edition bad-counts due past-part wrong-size bad-pair pair-place bad-variable variable-place bad-fact group-place effects-place action-place fact-place cost-place conflict-place first first-of first-of-next table facts effects initial goal action fault unknown-place list-checks read-checks valid-checks lodged-checks differ contradictory conflict conflicting holds satisfies applicable assign acting apply written needed result run cost kept count compose valid-for lower walk after trial eliminated eliminate better best rounds greedy found minimal some-of same-fact has values-from framed unconditional written-always sets-other passed trace raised round-to mark-rounds landmarks marks comparison cheaper-of claim-of positions-from
 irreducible = licensed irreducible-row (compose gates-left (false ∷ false ∷ false ∷ true ∷ true ∷ true ∷ [])) refl refl refl claims is refl refl
   where
     claims : claim-of gates-and-lamp lamps-between ≡ Irreducible
@@ -81,7 +82,7 @@ irreducible = licensed irreducible-row (compose gates-left (false ∷ false ∷ 
     is = ap (λ c. claimed-by c gates-and-lamp lamps-between) claims ∙ ap (λ c. compose c (minimal-of gates-and-lamp (kept c lamps-between))) gates-eliminated
 
 still-open : Row-licensed open-row
-unfolding answer sheet-checks bad-length bad-edition bad-counts due wrong-size bad-pair pair-place bad-variable variable-place bad-fact group-place action-place fact-place cost-place first first-of first-of-next table facts initial goal action fault unknown-place list-checks read-checks valid-checks lodged-checks holds satisfies applicable assign apply written needed result run cost kept count compose valid-for lower walk after trial eliminated eliminate better best rounds greedy found minimal some-fact same-fact has values-from framed sets-other passed trace raised round-to mark-rounds landmarks marks comparison cheaper-of claim-of positions-from
+unfolding answer sheet-checks bad-length bad-edition bad-counts due past-part wrong-size bad-pair pair-place bad-variable variable-place bad-fact group-place effects-place action-place fact-place cost-place conflict-place first first-of first-of-next table facts effects initial goal action fault unknown-place list-checks read-checks valid-checks lodged-checks differ contradictory conflict conflicting holds satisfies applicable assign acting apply written needed result run cost kept count compose valid-for lower walk after trial eliminated eliminate better best rounds greedy found minimal some-of same-fact has values-from framed unconditional written-always sets-other passed trace raised round-to mark-rounds landmarks marks comparison cheaper-of claim-of positions-from
 still-open = licensed open-row (replicate 21 true) refl refl refl refl refl refl refl
 
 pub licences : Licences-hold
@@ -89,14 +90,14 @@ licences = least also irreducible also still-open also tt
 
 -- the theorem of lists whose steps are all marked has a list to speak of
 list-3-marked : (i : ℕ) → i < 3 → keeps (marks sheet-p list-3) i
-unfolding table facts initial goal action written needed some-fact same-fact has values-from framed sets-other passed trace raised round-to mark-rounds landmarks marks
+unfolding table facts initial goal effects action written needed some-of same-fact has values-from framed unconditional written-always sets-other passed trace raised round-to mark-rounds landmarks marks
 list-3-marked zero h = refl
 list-3-marked (suc zero) h = refl
 list-3-marked (suc (suc zero)) h = refl
 list-3-marked (suc (suc (suc i))) h = absurd (omega arith)
 
 list-3-passes : answer (plan-checks sheet-p list-3) ≡ none
-unfolding answer sheet-checks bad-length bad-edition bad-counts due wrong-size bad-pair pair-place bad-variable variable-place bad-fact group-place action-place fact-place cost-place first first-of first-of-next table facts initial goal action fault unknown-place list-checks read-checks valid-checks lodged-checks holds satisfies applicable assign apply result run
+unfolding answer sheet-checks bad-length bad-edition bad-counts due past-part wrong-size bad-pair pair-place bad-variable variable-place bad-fact group-place effects-place action-place fact-place cost-place conflict-place first first-of first-of-next table facts effects initial goal action fault unknown-place list-checks read-checks valid-checks lodged-checks some-of differ contradictory conflict conflicting holds satisfies applicable assign acting apply result run
 list-3-passes = refl
 
 pub list-3-whole : List-3-whole

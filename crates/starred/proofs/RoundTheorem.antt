@@ -7,14 +7,15 @@ use mathlib.Core.Bool.{false, true≢false}
 use lib.ListN.{getD}
 use lib.Dec.{ltb}
 use borrow.Author.Tests.{ltb-true, ltb-false}
-use Rattle.sas.specs.Plan.{written, needed}
+use Rattle.sas.specs.Plan.{written, needed, unconditional, written-always}
 use Rattle.reduction.specs.Reduction.{Reduction, keeps}
 use Rattle.reduction.specs.Landmark.{values-from, framed}
-use Rattle.reduction.specs.between.Wanted.{some-fact, same-fact, has}
+use Rattle.reduction.specs.between.Wanted.{same-fact, has}
+use Rattle.sas.specs.Conflict.{some-of}
 use Rattle.reduction.specs.between.Landmarks.{sets-other, passed, trace, raised, round-to, rounds}
 use Rattle.reduction.proofs.marks.LinkLaws.{either}
 use Rattle.reduction.proofs.marks.LandmarkTheorem.{flags, flagged-in-round, in-round-flagged}
-use Rattle.sheet.specs.Decode.{table, facts, initial, goal, action}
+use Rattle.sheet.specs.Decode.{table, facts, initial, goal, action, effects}
 use Rattle.plan.specs.Valid.{steps}
 use Rattle.starred.specs.Sheets.{sheet-p}
 use Rattle.starred.specs.Rounds.{list-3, Of-round, First-round, Rounds-of-list-3}
@@ -37,5 +38,5 @@ first-round r k up down = (flagged-in-round (initial sheet-p) (goal sheet-p) (st
         (either (ltb a (suc r)))
 
 pub rounds-of-list-3 : Rounds-of-list-3
-unfolding table facts initial goal action written needed some-fact same-fact has values-from framed sets-other passed trace raised round-to rounds
+unfolding table facts initial goal effects action written needed some-of same-fact has values-from framed unconditional written-always sets-other passed trace raised round-to rounds
 rounds-of-list-3 = (first-round 0 2 refl refl, first-round 1 1 refl refl, first-round 2 3 refl refl)

@@ -3,9 +3,11 @@
 use Prim.Native.Nat.{ℕ}
 use mathlib.Core.Path.{_≡_, refl}
 use mathlib.Core.List.{[], _∷_, flatten}
-use Rattle.sas.specs.Task.{Fact, Task}
-use Rattle.sheet.specs.Decode.{table, facts, domains, initial, goal, action, task}
-use Rattle.sheet.specs.between.Encode.{first-edition, action-part, parts, pairs-of, body, sheet-of, encode, Encodable}
+use Rattle.sas.specs.Task.{Fact, always, Task}
+use Rattle.sas.specs.Plan.{written}
+use Rattle.sheet.specs.Decode.{table, facts, domains, initial, goal, effects, action, task}
+use Rattle.sheet.specs.between.Encode.{effects-part, action-part, parts, pairs-of, body, sheet-of, encode, Encodable}
+use Rattle.sheet.specs.Layout.{first-edition}
 use Rattle.sheet.proofs.EncodeTheorem.{accepted-encodable}
 use Rattle.starred.specs.Sheets.{sheet-p}
 use Rattle.starred.proofs.Starred.{starred}
@@ -26,21 +28,21 @@ task-p =
       domains = 2 ∷ 2 ∷ 2 ∷ [];
       actions =
           -- lift, drain, drop, lamp
-          record { precondition = gate 0 ∷ []; effect = gate 1 ∷ []; cost = 5 }
-          ∷ record { precondition = gate 1 ∷ []; effect = basin 1 ∷ []; cost = 2 }
-          ∷ record { precondition = gate 1 ∷ []; effect = gate 0 ∷ []; cost = 5 }
-          ∷ record { precondition = []; effect = lamp 1 ∷ []; cost = 1 }
+          record { precondition = gate 0 ∷ []; effects = always (gate 1) ∷ []; cost = 5 }
+          ∷ record { precondition = gate 1 ∷ []; effects = always (basin 1) ∷ []; cost = 2 }
+          ∷ record { precondition = gate 1 ∷ []; effects = always (gate 0) ∷ []; cost = 5 }
+          ∷ record { precondition = []; effects = always (lamp 1) ∷ []; cost = 1 }
           ∷ [];
       initial = 0 ∷ 0 ∷ 0 ∷ [];
       goal = gate 0 ∷ basin 1 ∷ [];
     }
 
 pub encodes : encode first-edition task-p ≡ sheet-p
-unfolding encode sheet-of body pairs-of parts action-part flatten
+unfolding encode sheet-of body pairs-of parts action-part effects-part written flatten
 encodes = refl
 
 pub decodes : task sheet-p ≡ task-p
-unfolding task domains initial goal action facts table
+unfolding task domains initial goal action effects facts table
 decodes = refl
 
 pub encodable : Encodable first-edition task-p

@@ -11,19 +11,20 @@ use mathlib.Core.List.{List, [], _∷_}
 use lib.ListN.{length}
 use Rattle.refusal.specs.Place.{first-of-next, first-of, first}
 use Rattle.refusal.specs.Check.{answer}
-use Rattle.sas.specs.Plan.{holds, satisfies, applicable, assign, apply, written, needed, result, run, cost}
+use Rattle.sas.specs.Plan.{holds, satisfies, applicable, assign, apply, written, needed, result, run, cost, acting, unconditional, written-always}
 use Rattle.reduction.specs.Reduction.{Reduction, kept, count, valid-for, valid, meets}
 use Rattle.reduction.specs.between.Order.{lower}
 use Rattle.reduction.specs.between.Elimination.{trial, eliminated, eliminate, better, best, rounds, greedy}
 use Rattle.reduction.specs.Trials.{walk, after}
-use Rattle.reduction.specs.between.Wanted.{some-fact, same-fact, has}
+use Rattle.reduction.specs.between.Wanted.{same-fact, has}
+use Rattle.sas.specs.Conflict.{some-of, differ, contradictory, conflict, conflicting}
 use Rattle.reduction.specs.Landmark.{values-from, framed}
 use Rattle.reduction.specs.between.Landmarks.{sets-other, passed, trace, raised, round-to, rounds as mark-rounds, landmarks}
 use Rattle.reduction.specs.between.Found.{found, minimal}
 use Rattle.reduction.proofs.minimal.MinimalTheorem.{minimal-found}
 use Rattle.mask.specs.Mask.{binary, words-of, mask-words}
-use Rattle.sheet.specs.Decode.{table, facts, initial, goal, action}
-use Rattle.sheet.specs.Causes.{bad-length, bad-edition, bad-counts, due, wrong-size, bad-pair, pair-place, bad-variable, variable-place, bad-fact, group-place, action-place, fact-place, cost-place, sheet-checks}
+use Rattle.sheet.specs.Decode.{table, facts, initial, goal, action, effects}
+use Rattle.sheet.specs.Causes.{bad-length, bad-edition, bad-counts, due, wrong-size, bad-pair, pair-place, bad-variable, variable-place, bad-fact, group-place, action-place, fact-place, cost-place, sheet-checks, effects-place, past-part, conflict-place}
 use Rattle.plan.specs.Limits.{most-steps}
 use Rattle.plan.specs.Valid.{steps}
 use Rattle.plan.specs.between.Fault.{fault}
@@ -76,7 +77,7 @@ module _ (w l : List ℕ) where
 
 -- what document 01 says of each list holds
 pub starred : Each Row-holds starred-rows
-unfolding answer sheet-checks bad-length bad-edition bad-counts due wrong-size bad-pair pair-place bad-variable variable-place bad-fact group-place action-place fact-place cost-place first first-of first-of-next table facts initial goal action fault unknown-place list-checks read-checks valid-checks lodged-checks room-checks unmarked-checks minimal-checks holds satisfies applicable assign apply written needed result run cost kept count valid-for lower walk after trial eliminated eliminate better best rounds greedy found minimal some-fact same-fact has values-from framed sets-other passed trace raised round-to mark-rounds landmarks marks positions-from binary words-of mask-words
+unfolding answer sheet-checks bad-length bad-edition bad-counts due past-part wrong-size bad-pair pair-place bad-variable variable-place bad-fact group-place effects-place action-place fact-place cost-place conflict-place first first-of first-of-next table facts effects initial goal action fault unknown-place list-checks read-checks valid-checks lodged-checks room-checks unmarked-checks minimal-checks differ contradictory conflict conflicting holds satisfies applicable assign acting apply written needed result run cost kept count valid-for lower walk after trial eliminated eliminate better best rounds greedy found minimal some-of same-fact has values-from framed unconditional written-always sets-other passed trace raised round-to mark-rounds landmarks marks positions-from binary words-of mask-words
 starred =
     (refl, valid-truly sheet-p list-1 refl refl)
     also (refl, (marks-just sheet-p list-1, refl))
