@@ -21,18 +21,18 @@ stored_past l [] i h = refl
 stored_past l (u ∷ us) i h = rw (set_out l i u h) (stored_past l us (suc i) (omega arith))
 
 -- from the end of the list or of the words on nothing is stored
-pub rest-or-room-over : (l vs : List ℕ) (i : ℕ) → min (length l) (length vs) ≤ i → sets l i (drop i vs) ≡ l
-rest-or-room-over l vs i h = by-case (leb (length l) i) refl
+pub rest_or_room_over : (l vs : List ℕ) (i : ℕ) → min (length l) (length vs) ≤ i → sets l i (drop i vs) ≡ l
+rest_or_room_over l vs i h = by_case (leb (length l) i) refl
   where
-    by-case : (t : Bool) → leb (length l) i ≡ t → sets l i (drop i vs) ≡ l
-    by-case true e = stored_past l (drop i vs) i (leb-true (length l) i e)
-    by-case false e = rest_over l vs i (omega (arith, leb-false (length l) i e))
+    by_case : (t : Bool) → leb (length l) i ≡ t → sets l i (drop i vs) ≡ l
+    by_case true e = stored_past l (drop i vs) i (leb-true (length l) i e)
+    by_case false e = rest_over l vs i (omega (arith, leb-false (length l) i e))
 
 -- before its end, the value here is stored first
-pub rest-next : (l vs : List ℕ) (i : ℕ) → i < length vs → sets l i (drop i vs) ≡ sets (set l i (get_or vs i 0)) (i + 1) (drop (i + 1) vs)
-rest-next l vs i h = rw (add-one i, drop-cons vs i 0)
+pub rest_next : (l vs : List ℕ) (i : ℕ) → i < length vs → sets l i (drop i vs) ≡ sets (set l i (get_or vs i 0)) (i + 1) (drop (i + 1) vs)
+rest_next l vs i h = rw (add-one i, drop-cons vs i 0)
 
 -- the words stored one after the other are those stored in one go
-pub stores-joined : (out vs us : List ℕ) (at : ℕ) → sets (sets out at vs) (at + length vs) us ≡ sets out at (vs ++ us)
-stores-joined out [] us at = rw add-zero
-stores-joined out (v ∷ vs) us at = rw (add-suc, ← suc-add) (stores-joined (set out at v) vs us (suc at))
+pub stores_joined : (out vs us : List ℕ) (at : ℕ) → sets (sets out at vs) (at + length vs) us ≡ sets out at (vs ++ us)
+stores_joined out [] us at = rw add-zero
+stores_joined out (v ∷ vs) us at = rw (add-suc, ← suc-add) (stores_joined (set out at v) vs us (suc at))

@@ -1,8 +1,10 @@
 // Reads and writes that are safe at any index: past the end a read finds 0, and a write does nothing.
+#![tactic(auto)]
+
 ghost use Rattle.std.specs.Prelude.{◌≡◌, true, false, min, ◌+◌, ◌<◌, ◌^◌, length, get_or, set, take};
 ghost use Rattle.std.proofs.lemmas.List.Edits.{sets};
-ghost use Rattle.access.specs.Bits.{word-bits};
-ghost use Rattle.access.specs.between.Places.{ones-at, at_places};
+ghost use Rattle.access.specs.Bits.{word_bits};
+ghost use Rattle.access.specs.Between.Places.{ones_at, at_places};
 
 // The word at index i.
 pub fn word(words: &[u32], i: usize) -> u32
@@ -51,8 +53,8 @@ pub fn put_all(words: &mut [u32], values: &[u32])
 // Returns the index after them.
 pub fn write_word(bits: u64, from: u32, words: &[u32], out: &mut [u32], at: u32) -> usize
     ensures { (out.new
-        ≡ sets out.old at (at_places words.now (ones-at from word-bits bits)))
-        × (result ≡ at + length (ones-at from word-bits bits)) }
+        ≡ sets out.old at (at_places words.now (ones_at from word_bits bits)))
+        × (result ≡ at + length (ones_at from word_bits bits)) }
 {
     let mut rest = bits;
     let mut to = at as usize;

@@ -11,38 +11,38 @@ pub split_at : (test : ℕ → Bool) (b : ℕ) (bs : List ℕ) → test b ≡ tr
 unfolding split
 split_at test b bs e = rw (e, split)
 
-pub split-in : (test : ℕ → Bool) (b : ℕ) (bs : List ℕ) → test b ≡ false
+pub split_in : (test : ℕ → Bool) (b : ℕ) (bs : List ℕ) → test b ≡ false
     → split test (b ∷ bs) ≡ record { first = b ∷ (split test bs).first; others = (split test bs).others }
 unfolding split
-split-in test b bs e = rw (e, split)
+split_in test b bs e = rw (e, split)
 
 -- a byte in front of the first run
-abbrev put-in-front : ℕ → Split → Split
-put-in-front b c = record { first = b ∷ c.first; others = c.others }
+abbrev put_in_front : ℕ → Split → Split
+put_in_front b c = record { first = b ∷ c.first; others = c.others }
 
 module _ (test : ℕ → Bool) where
   -- where the first run is as long as the bytes, it is all of them
-  pub split-last : (bs : List ℕ) → length bs ≤ length (split test bs).first → split test bs ≡ record { first = bs; others = [] }
+  pub split_last : (bs : List ℕ) → length bs ≤ length (split test bs).first → split test bs ≡ record { first = bs; others = [] }
   unfolding split
-  split-last [] h = refl
-  split-last (b ∷ bs) h = by-case (split-last bs) (test b) refl
+  split_last [] h = refl
+  split_last (b ∷ bs) h = by_case (split_last bs) (test b) refl
     where
-      by-case : (length bs ≤ length (split test bs).first → split test bs ≡ record { first = bs; others = [] }) → (t : Bool) → test b ≡ t
+      by_case : (length bs ≤ length (split test bs).first → split test bs ≡ record { first = bs; others = [] }) → (t : Bool) → test b ≡ t
           → split test (b ∷ bs) ≡ record { first = b ∷ bs; others = [] }
-      by-case rest true e = absurd (omega (arith, rw (split_at test b bs e) at h))
-      by-case rest false e = split-in test b bs e ∙ ap (put-in-front b) (rest (omega (arith, rw (split-in test b bs e) at h)))
+      by_case rest true e = absurd (omega (arith, rw (split_at test b bs e) at h))
+      by_case rest false e = split_in test b bs e ∙ ap (put_in_front b) (rest (omega (arith, rw (split_in test b bs e) at h)))
 
   -- where it is shorter, a byte for which the test holds is behind it, and the other runs are behind that byte
-  abbrev Cut-behind : List ℕ → Type 0
-  Cut-behind bs =
+  abbrev CutBehind : List ℕ → Type 0
+  CutBehind bs =
       let n = length (split test bs).first in
       split test bs ≡ record { first = take n bs; others = runs (split test (drop (suc n) bs)) }
 
-  pub split-more : (bs : List ℕ) → length (split test bs).first < length bs → Cut-behind bs
+  pub split_more : (bs : List ℕ) → length (split test bs).first < length bs → CutBehind bs
   unfolding split
-  split-more [] h = absurd (omega arith)
-  split-more (b ∷ bs) h = by-case (split-more bs) (test b) refl
+  split_more [] h = absurd (omega arith)
+  split_more (b ∷ bs) h = by_case (split_more bs) (test b) refl
     where
-      by-case : (length (split test bs).first < length bs → Cut-behind bs) → (t : Bool) → test b ≡ t → Cut-behind (b ∷ bs)
-      by-case rest true e = rw (split_at test b bs e)
-      by-case rest false e = rw (split-in test b bs e) (ap (put-in-front b) (rest (omega (arith, rw (split-in test b bs e) at h))))
+      by_case : (length (split test bs).first < length bs → CutBehind bs) → (t : Bool) → test b ≡ t → CutBehind (b ∷ bs)
+      by_case rest true e = rw (split_at test b bs e)
+      by_case rest false e = rw (split_in test b bs e) (ap (put_in_front b) (rest (omega (arith, rw (split_in test b bs e) at h))))

@@ -11,21 +11,21 @@ ascii (c then s) = code c ∷ ascii s
 abbrev pub space : ℕ
 space = 32
 
-abbrev pub line-end : ℕ
-line-end = 10
+abbrev pub line_end : ℕ
+line_end = 10
 
-abbrev pub ends-line : ℕ → Bool
-ends-line b = eqb b line-end
+abbrev pub ends_line : ℕ → Bool
+ends_line b = eqb b line_end
 
 -- the first digit and the last
-abbrev pub ascii-zero : ℕ
-ascii-zero = 48
+abbrev pub ascii_zero : ℕ
+ascii_zero = 48
 
-abbrev pub ascii-nine : ℕ
-ascii-nine = 57
+abbrev pub ascii_nine : ℕ
+ascii_nine = 57
 
-abbrev pub ascii-digit : ℕ → Bool
-ascii-digit b = leb ascii-zero b && leb b ascii-nine
+abbrev pub ascii_digit : ℕ → Bool
+ascii_digit b = leb ascii_zero b && leb b ascii_nine
 
 -- bytes cut at each byte for which a test holds, which is left out: the bytes to the first such byte, and the other
 -- runs of bytes
@@ -47,9 +47,9 @@ split test (b ∷ bs) =
 -- whether all bytes are digits
 unfoldable pub all_digits : List ℕ → Bool
 all_digits [] = true
-all_digits (b ∷ bs) = ascii-digit b && all_digits bs
+all_digits (b ∷ bs) = ascii_digit b && all_digits bs
 
 -- the number that digits stand for in decimal, where those in front of them stand for v
-unfoldable pub decimal-from : ℕ → List ℕ → ℕ
-decimal-from v [] = v
-decimal-from v (b ∷ bs) = decimal-from (10 * v + (b - ascii-zero)) bs
+unfoldable pub decimal_from : ℕ → List ℕ → ℕ
+decimal_from v [] = v
+decimal_from v (b ∷ bs) = decimal_from (10 * v + (b - ascii_zero)) bs

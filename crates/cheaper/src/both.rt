@@ -4,9 +4,9 @@ ghost use Rattle.reduction.specs.Reduction.{valid};
 ghost use Rattle.sheet.specs.Decode.{goal, initial};
 ghost use Rattle.plan.specs.Valid.{steps};
 ghost use Rattle.plan.specs.Readable.{Readable};
-ghost use Rattle.reduced.specs.between.Held.{flags_of};
-ghost use Rattle.cheaper.specs.Cheaper.{Reduces-both, cheaper-part};
-ghost use Rattle.cheaper.specs.between.Computed.{cheaper-of};
+ghost use Rattle.reduced.specs.Between.Held.{flags_of};
+ghost use Rattle.cheaper.specs.Cheaper.{ReducesBoth, cheaper_part};
+ghost use Rattle.cheaper.specs.Between.Computed.{cheaper_of};
 
 use access::front;
 use elimination::single::{Elimination, flags_left};
@@ -28,7 +28,7 @@ pub struct Both {
 
 // Writes what elimination leaves of a plan to `first`, and what greedy elimination leaves to `second`.
 pub fn cheaper(words: &[u32], plan: &[u32], first: &mut [u32], second: &mut [u32]) -> Both
-    ensures { Reduces-both words.now plan.now first.old second.old
+    ensures { ReducesBoth words.now plan.now first.old second.old
         result.verdict result.first result.second first.new second.new }
 {
     let room = shorter(first.len(), second.len());
@@ -59,7 +59,7 @@ pub fn cheaper(words: &[u32], plan: &[u32], first: &mut [u32], second: &mut [u32
 pub fn flags_of_cheaper(words: &[u32], plan: &[u32]) -> [bool; Plan::STEPS]
     requires readable { Readable words.now plan.now }
     requires plan_value { valid (initial words.now) (goal words.now) (steps words.now plan.now) ≡ true }
-    ensures { result ≡ flags_of plan.now (cheaper-of words.now plan.now) }
+    ensures { result ≡ flags_of plan.now (cheaper_of words.now plan.now) }
 {
     let n = plan.len();
     let eliminated = flags_left(words, plan, Elimination::Plain);
@@ -77,7 +77,7 @@ pub fn flags_of_cheaper(words: &[u32], plan: &[u32]) -> [bool; Plan::STEPS]
 // The kept part of whichever list is cheaper: lower cost, then fewer steps, then the first. `tally` is that of the
 // first.
 pub fn kept_part<'a>(first: &'a [u32], second: &'a [u32], tally: Tally, other: Tally) -> &'a [u32]
-    ensures { result.now ≡ cheaper-part first.now second.now tally other }
+    ensures { result.now ≡ cheaper_part first.now second.now tally other }
 {
     let order = other.compare(tally);
     match order {

@@ -1,5 +1,5 @@
 // What the cheaper elimination leaves, as a service: refusals 1 to 11, and the tally, the mask and the list left.
-ghost use Rattle.cheaper.specs.Cheaper.{Reduces-cheaper};
+ghost use Rattle.cheaper.specs.Cheaper.{ReducesCheaper};
 
 use crate::both::flags_of_cheaper;
 use plan::check::{Answer, check_lodged};
@@ -10,7 +10,7 @@ use reduced::room::check_room;
 
 // Writes what the cheaper elimination leaves of a plan to the front of `out`.
 pub fn cheaper_left(words: &[u32], plan: &[u32], out: &mut [u32]) -> Reduced
-    ensures { Reduces-cheaper words.now plan.now
+    ensures { ReducesCheaper words.now plan.now
         out.old result.answer result.mask.words out.new }
 {
     let checked = check_lodged(words, plan, Plan::STEPS, check_room(plan.len(), out.len()));

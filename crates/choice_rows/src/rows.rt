@@ -5,10 +5,10 @@
 ghost use Rattle.std.specs.Prelude.{◌≡◌, ◌≤◌, ◌<◌, not};
 ghost use Rattle.mask.specs.Mask.{digit};
 ghost use Rattle.sheet.specs.Decode.{fact_of};
-ghost use Rattle.sheet.specs.between.Effects.{written_in};
-ghost use Rattle.sheet.specs.between.Group.{facts-in};
-ghost use Rattle.packed_state.specs.between.Packed.{most-rows};
-ghost use Rattle.choice_rows.specs.between.Rows.{laid, stamped-row, noted, noted-cost, Rowed};
+ghost use Rattle.sheet.specs.Between.Effects.{written_in};
+ghost use Rattle.sheet.specs.Between.Group.{facts_in};
+ghost use Rattle.packed_state.specs.Between.Packed.{most_rows};
+ghost use Rattle.choice_rows.specs.Between.Rows.{laid, stamped_row, noted, noted_cost, Rowed};
 
 use access::{flag, put, put8, word64};
 use packed_state::packed::{KINDS, MOST, ROW, STATE};
@@ -32,7 +32,7 @@ const ALL: u64 = 18446744073709551615;
 
 // Puts a fact into row r, where its bit, the lowest, is one.
 fn lay(rows: &mut [u8], r: usize, bits: u64, fact: u32)
-    requires { r < most-rows }
+    requires { r < most_rows }
     ensures { rows.new ≡ laid rows.old r bits (fact_of fact) }
 {
     let v = fact as usize / Sheet::VALUES;
@@ -50,9 +50,9 @@ fn lay(rows: &mut [u8], r: usize, bits: u64, fact: u32)
 
 // Puts the facts of a group whose bits are one into row r.
 fn stamp_row(words: &[u32], rows: &mut [u8], r: usize, group: Group, bits: u64)
-    requires { r < most-rows }
+    requires { r < most_rows }
     ensures { rows.new
-        ≡ stamped-row rows.old r bits (facts-in words.now group) }
+        ≡ stamped_row rows.old r bits (facts_in words.now group) }
 {
     let mut left = bits;
     let mut rest = group;
@@ -70,9 +70,9 @@ fn stamp_row(words: &[u32], rows: &mut [u8], r: usize, group: Group, bits: u64)
 
 // The same of the facts that effects may write.
 fn stamp_effects(words: &[u32], rows: &mut [u8], r: usize, effects: Effects, bits: u64)
-    requires { r < most-rows }
+    requires { r < most_rows }
     ensures { rows.new
-        ≡ stamped-row rows.old r bits (written_in words.now effects) }
+        ≡ stamped_row rows.old r bits (written_in words.now effects) }
 {
     let mut left = bits;
     let mut rest = effects;
@@ -116,7 +116,7 @@ fn note(words: &[u32], a: u32, flagged: bool, d: usize, wants: u64, uses: u64, r
 
 // Notes the cost of action a, if it is unflagged step d.
 fn note_cost(words: &[u32], a: u32, flagged: bool, d: usize, costs: &mut [u32])
-    ensures { costs.new ≡ noted-cost words.now a flagged d costs.old }
+    ensures { costs.new ≡ noted_cost words.now a flagged d costs.old }
 {
     if flagged {
         return;

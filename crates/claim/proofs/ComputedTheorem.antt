@@ -4,48 +4,48 @@ use mathlib.Core.Path.{◌≡◌, refl, sym, subst}
 use mathlib.Core.Option.{Option, none, some}
 use mathlib.Core.List.{List}
 use Rattle.refusal.specs.Refusal.{Told}
-use Rattle.refusal.specs.Check.{unless-refused}
+use Rattle.refusal.specs.Check.{unless_refused}
 use Rattle.reduction.specs.Reduction.{Reduction}
-use Rattle.plan.proofs.PlanLaws.{passed-readable}
-use Rattle.reduced.proofs.AnswerLaws.{answers-same}
-use Rattle.reduced.proofs.LodgedLaws.{lodged-plan}
+use Rattle.plan.proofs.PlanLaws.{passed_readable}
+use Rattle.reduced.proofs.AnswerLaws.{answers_same}
+use Rattle.reduced.proofs.LodgedLaws.{lodged_plan}
 use Rattle.claim.specs.declared.answer.Claim.TheVariants.{Open}
 use Rattle.claim.specs.declared.answer.Licensed.{Licensed}
 use Rattle.claim.specs.Statement.{Licence}
-use Rattle.claim.specs.Licensed.{licence-refusal, Licenses}
-use Rattle.claim.specs.between.Computed.{claim-of, licensed-of, Licenses-of}
-use Rattle.claim.proofs.LicenceTheorem.{licence-of, licence-once}
+use Rattle.claim.specs.Licensed.{licence_refusal, Licenses}
+use Rattle.claim.specs.Between.Computed.{claim_of, licensed_of, LicensesOf}
+use Rattle.claim.proofs.LicenceTheorem.{licence_of, licence_once}
 
 module _ (w l before : List ℕ) (r : Licensed) (after : List ℕ) where
-  pub licenses-so : Licenses-of w l before r after → Licenses w l before r after
-  licenses-so computed =
+  pub licenses_so : LicensesOf w l before r after → Licenses w l before r after
+  licenses_so computed =
       record {
         answers =
             record {
-              left = licensed-of w l;
-              is-left = λ passed. subst (λ c. Licence w l c (licensed-of w l)) (sym (rw passed at computed.claims))
-                  (licence-of w l (passed-readable _ _ w l passed) (lodged-plan _ w l passed));
+              left = licensed_of w l;
+              is_left = λ passed. subst (λ c. Licence w l c (licensed_of w l)) (sym (rw passed at computed.claims))
+                  (licence_of w l (passed_readable _ _ w l passed) (lodged_plan _ w l passed));
               told = computed.answers;
             };
-        no-claim = λ t refused. rw refused at computed.claims;
+        no_claim = λ t refused. rw refused at computed.claims;
         lodged = computed.lodged;
         marks = computed.marks;
       }
 
-  pub licenses-of : Licenses w l before r after → Licenses-of w l before r after
-  licenses-of licenses =
+  pub licenses_of : Licenses w l before r after → LicensesOf w l before r after
+  licenses_of licenses =
       record {
         answers =
-            answers-same _ w l licenses.answers.left (licensed-of w l) before r.told.answer r.told.mask.words after
+            answers_same _ w l licenses.answers.left (licensed_of w l) before r.told.answer r.told.mask.words after
             (λ passed. (once passed).1) licenses.answers.told;
-        claims = by-case (licence-refusal w l before) refl;
+        claims = by_case (licence_refusal w l before) refl;
         lodged = licenses.lodged;
         marks = licenses.marks;
       }
     where
-      once : licence-refusal w l before ≡ none → (r.claim ≡ claim-of w l) × (licenses.answers.left ≡ licensed-of w l)
-      once passed = licence-once w l (passed-readable _ _ w l passed) (lodged-plan _ w l passed) r.claim licenses.answers.left (licenses.answers.is-left passed)
+      once : licence_refusal w l before ≡ none → (r.claim ≡ claim_of w l) × (licenses.answers.left ≡ licensed_of w l)
+      once passed = licence_once w l (passed_readable _ _ w l passed) (lodged_plan _ w l passed) r.claim licenses.answers.left (licenses.answers.is_left passed)
 
-      by-case : (t : Option Told) → licence-refusal w l before ≡ t → r.claim ≡ unless-refused (licence-refusal w l before) (claim-of w l) (Open 0)
-      by-case none e = rw e (once e).0
-      by-case (some t) e = rw e (licenses.no-claim t e)
+      by_case : (t : Option Told) → licence_refusal w l before ≡ t → r.claim ≡ unless_refused (licence_refusal w l before) (claim_of w l) (Open 0)
+      by_case none e = rw e (once e).0
+      by_case (some t) e = rw e (licenses.no_claim t e)

@@ -8,78 +8,78 @@ use lib.ListN.{length, length-map}
 use borrow.Author.Tests.{le-leb}
 use Rattle.refusal.specs.declared.Refusal.{Refusal}
 use Rattle.refusal.specs.declared.Verdict.{Verdict}
-use Rattle.refusal.specs.Refusal.{told-refusal, told}
+use Rattle.refusal.specs.Refusal.{told_refusal, told}
 use Rattle.refusal.specs.Check.{answer}
-use Rattle.refusal.proofs.CheckLaws.{first-none}
+use Rattle.refusal.proofs.CheckLaws.{first_none}
 use Rattle.sas.specs.Plan.{Plan}
 use Rattle.tally.specs.declared.Tally.{Tally}
 use Rattle.reduction.specs.Reduction.{count}
-use Rattle.reduction.proofs.ReductionLaws.{kept-length, left-length}
-use Rattle.mask.specs.Mask.{mask-bits}
-use Rattle.mask.proofs.MaskTheorem.{front-and-rest}
+use Rattle.reduction.proofs.ReductionLaws.{kept_length, left_length}
+use Rattle.mask.specs.Mask.{mask_bits}
+use Rattle.mask.proofs.MaskTheorem.{front_and_rest}
 use Rattle.sheet.specs.Decode.{action, task}
-use Rattle.plan.specs.Limits.{most-steps}
+use Rattle.plan.specs.Limits.{most_steps}
 use Rattle.plan.specs.Valid.{steps}
 use Rattle.plan.specs.Readable.{Readable}
 use Rattle.plan.specs.declared.check.Answer.{Answer}
 use Rattle.plan.specs.declared.check.Answer.TheVariants.{Valid, Refused}
-use Rattle.plan.specs.Checked.{told-answer, lodged-tally}
-use Rattle.plan.specs.between.Lodged.{Checks-lodged}
-use Rattle.plan.proofs.PlanLaws.{passed-readable}
-use Rattle.reduced.specs.Reduced.{room-checks, reduction-checks, Answers}
-use Rattle.reduced.specs.between.Held.{mask}
-use Rattle.reduced.proofs.LodgedLaws.{lodged-plan, room-checked, nothing-refused, roomy}
-use Rattle.reduced.proofs.AnswerLaws.{answers-refused}
+use Rattle.plan.specs.Checked.{told_answer, lodged_tally}
+use Rattle.plan.specs.Between.Lodged.{ChecksLodged}
+use Rattle.plan.proofs.PlanLaws.{passed_readable}
+use Rattle.reduced.specs.Reduced.{room_checks, reduction_checks, Answers}
+use Rattle.reduced.specs.Between.Held.{mask}
+use Rattle.reduced.proofs.LodgedLaws.{lodged_plan, room_checked, nothing_refused, roomy}
+use Rattle.reduced.proofs.AnswerLaws.{answers_refused}
 use Rattle.landmark.specs.Marks.{marks, marked, unmarked}
 use Rattle.minimal.specs.declared.within.Shortened.{Shortened}
-use Rattle.minimal.specs.Minimised.{most-unmarked, unmarked-checks, minimal-checks, minimal-refusal, Minimises}
-use Rattle.minimal.specs.between.Computed.{Minimises-of}
-use Rattle.minimal.proofs.ComputedTheorem.{minimises-of}
-use Rattle.minimal.proofs.DemandThree.{checks-pass, many-refused, refused-many, passed-few}
+use Rattle.minimal.specs.Minimised.{most_unmarked, unmarked_checks, minimal_checks, minimal_refusal, Minimises}
+use Rattle.minimal.specs.Between.Computed.{MinimisesOf}
+use Rattle.minimal.proofs.ComputedTheorem.{minimises_of}
+use Rattle.minimal.proofs.DemandThree.{checks_pass, many_refused, refused_many, passed_few}
 use Rattle.claim.specs.declared.answer.Claim.TheVariants.{Least}
 use Rattle.claim.specs.declared.answer.Licensed.{Licensed}
-use Rattle.claim.specs.Licensed.{licence-refusal}
-use Rattle.claim.specs.between.Computed.{Licenses-of, claim-of, licensed-of}
-use Rattle.claim.specs.Statement.{May-be-lodged}
-use Rattle.claim.specs.between.Refused.{Refuses-licence}
-use Rattle.claim.specs.between.Further.{Goes-further}
-use Rattle.claim.proofs.LicenceTheorem.{licence-of, claims-least}
+use Rattle.claim.specs.Licensed.{licence_refusal}
+use Rattle.claim.specs.Between.Computed.{LicensesOf, claim_of, licensed_of}
+use Rattle.claim.specs.Statement.{MayBeLodged}
+use Rattle.claim.specs.Between.Refused.{RefusesLicence}
+use Rattle.claim.specs.Between.Further.{GoesFurther}
+use Rattle.claim.proofs.LicenceTheorem.{licence_of, claims_least}
 
 -- one of the checks 1 to 11 refuses
-pub refuses-all : (w l before : List ℕ) (refusal : Refusal) (r : Licensed) → licence-refusal w l before ≡ some (told-refusal refusal) → Refuses-licence refusal r
-    → Licenses-of w l before r before
-refuses-all w l before refusal r fires refuses =
+pub refuses_all : (w l before : List ℕ) (refusal : Refusal) (r : Licensed) → licence_refusal w l before ≡ some (told_refusal refusal) → RefusesLicence refusal r
+    → LicensesOf w l before r before
+refuses_all w l before refusal r fires refuses =
     record {
-      answers = rw (refuses.told.answer, refuses.told.mask) (answers-refused _ w l (licensed-of w l) before (Refused refusal) (sym fires) refusal refl);
+      answers = rw (refuses.told.answer, refuses.told.mask) (answers_refused _ w l (licensed_of w l) before (Refused refusal) (sym fires) refusal refl);
       claims = rw fires refuses.claim;
       lodged = rw fires refuses.told.lodged;
       marks = rw fires refuses.told.marked;
     }
 
 -- none does
-module _ (w l before : List ℕ) (passed : licence-refusal w l before ≡ none) where
+module _ (w l before : List ℕ) (passed : licence_refusal w l before ≡ none) where
   readable : Readable w l
-  readable = passed-readable _ _ w l passed
+  readable = passed_readable _ _ w l passed
 
   plan : Plan (task w) (steps w l)
-  plan = lodged-plan _ w l passed
+  plan = lodged_plan _ w l passed
 
   room : length l ≤ length before
   room = roomy w l (length before) passed
 
   -- the minimal reduction answers
-  pub licenses-least : (r : Shortened) (tally : Tally) (after : List ℕ) → Minimises-of most-unmarked w l before r after → r.answer ≡ Valid tally
-      → Licenses-of w l before (record { claim = Least; told = r }) after
-  licenses-least r tally after minimises valid =
-      let passes : answer (minimal-checks most-unmarked w l (length before)) ≡ none = sym minimises.answers.refusal ∙ ap told-answer valid in
-      let few : unmarked w l ≤ most-unmarked = passed-few w l readable plan most-unmarked (length before) room passes in
-      let claims : claim-of w l ≡ Least = claims-least w l readable plan (le-leb (unmarked w l) most-unmarked few) in
+  pub licenses_least : (r : Shortened) (tally : Tally) (after : List ℕ) → MinimisesOf most_unmarked w l before r after → r.answer ≡ Valid tally
+      → LicensesOf w l before (record { claim = Least; told = r }) after
+  licenses_least r tally after minimises valid =
+      let passes : answer (minimal_checks most_unmarked w l (length before)) ≡ none = sym minimises.answers.refusal ∙ ap told_answer valid in
+      let few : unmarked w l ≤ most_unmarked = passed_few w l readable plan most_unmarked (length before) room passes in
+      let claims : claim_of w l ≡ Least = claims_least w l readable plan (le-leb (unmarked w l) most_unmarked few) in
       record {
         answers =
             record {
               refusal = minimises.answers.refusal ∙ passes ∙ sym passed;
               tally = rw (passed, claims) (rw passes at minimises.answers.tally);
-              told-by = rw (passed, claims) (rw passes at minimises.answers.told-by);
+              told_by = rw (passed, claims) (rw passes at minimises.answers.told_by);
               output = rw (passed, claims) (rw passes at minimises.answers.output);
             };
         claims = rw (passed, claims);
@@ -88,59 +88,59 @@ module _ (w l before : List ℕ) (passed : licence-refusal w l before ≡ none) 
       }
 
   -- or it refuses, for the unmarked steps alone
-  pub goes_further : (refusal : Refusal) (lodged : Tally) (others : ℕ) → minimal-refusal most-unmarked w l before ≡ some (told-refusal refusal) → lodged ≡ lodged-tally w l
-      → others ≡ (told-refusal refusal).place → Goes-further w l before lodged others
+  pub goes_further : (refusal : Refusal) (lodged : Tally) (others : ℕ) → minimal_refusal most_unmarked w l before ≡ some (told_refusal refusal) → lodged ≡ lodged_tally w l
+      → others ≡ (told_refusal refusal).place → GoesFurther w l before lodged others
   goes_further refusal lodged others refuses is counted =
-      let many : most-unmarked < unmarked w l = refused-many w l readable plan most-unmarked (length before) room _ refuses in
-      let told : told-refusal refusal ≡ record { number = 12; place = unmarked w l } =
-      some-injective _ _ (sym refuses ∙ many-refused w l readable plan most-unmarked (length before) room many) in
+      let many : most_unmarked < unmarked w l = refused_many w l readable plan most_unmarked (length before) room _ refuses in
+      let told : told_refusal refusal ≡ record { number = 12; place = unmarked w l } =
+      some-injective _ _ (sym refuses ∙ many_refused w l readable plan most_unmarked (length before) room many) in
       record { passes = passed; tally = is; counted = counted ∙ ap (λ t. t.place) told; many = many }
 
 -- what is answered meets the one statement
-pub may-be-lodged : (w l before : List ℕ) (r : Licensed) (after : List ℕ) → Licenses-of w l before r after → May-be-lodged w l before r after
-may-be-lodged w l before r after licenses readable plan roomy =
-    let passed : licence-refusal w l before ≡ none = checks-pass w l readable plan (length before) roomy in
+pub may_be_lodged : (w l before : List ℕ) (r : Licensed) (after : List ℕ) → LicensesOf w l before r after → MayBeLodged w l before r after
+may_be_lodged w l before r after licenses readable plan roomy =
+    let passed : licence_refusal w l before ≡ none = checks_pass w l readable plan (length before) roomy in
     record {
-      claim = claim-of w l;
-      left = licensed-of w l;
-      licence = licence-of w l readable plan;
-      told = (rw passed at licenses.claims, subst (λ t. Answers t w l (licensed-of w l) before r.told.answer r.told.mask.words after) passed licenses.answers);
+      claim = claim_of w l;
+      left = licensed_of w l;
+      licence = licence_of w l readable plan;
+      told = (rw passed at licenses.claims, subst (λ t. Answers t w l (licensed_of w l) before r.told.answer r.told.mask.words after) passed licenses.answers);
     }
 
 -- what the check of a list answers where its room is asked besides
-module _ (w l before : List ℕ) (v : Verdict) (given : Answer) (state : List ℕ) (asked : told v ≡ answer (room-checks (length l) (length before)))
-    (checks : Checks-lodged most-steps w l v given state) where
-  pub lodged-refuses : (refusal : Refusal) (r : Licensed) → given ≡ Refused refusal → Refuses-licence refusal r → Licenses-of w l before r before
-  lodged-refuses refusal r is = refuses-all w l before refusal r (sym (room-checked w l (length before) v given state asked checks) ∙ ap told-answer is)
+module _ (w l before : List ℕ) (v : Verdict) (given : Answer) (state : List ℕ) (asked : told v ≡ answer (room_checks (length l) (length before)))
+    (checks : ChecksLodged most_steps w l v given state) where
+  pub lodged_refuses : (refusal : Refusal) (r : Licensed) → given ≡ Refused refusal → RefusesLicence refusal r → LicensesOf w l before r before
+  lodged_refuses refusal r is = refuses_all w l before refusal r (sym (room_checked w l (length before) v given state asked checks) ∙ ap told_answer is)
 
-  pub lodged-further : (lodged : Tally) (refusal : Refusal) (others : ℕ) → given ≡ Valid lodged → minimal-refusal most-unmarked w l before ≡ some (told-refusal refusal)
-      → others ≡ (told-refusal refusal).place → Goes-further w l before lodged others
-  lodged-further lodged refusal others is refuses counted =
-      let passed : licence-refusal w l before ≡ none = nothing-refused w l (length before) v given state asked checks lodged is in
-      goes_further w l before passed refusal lodged others refuses (rw (passed, is) at (checks.checked (room-checks (length l) (length before)) asked).tally) counted
+  pub lodged_further : (lodged : Tally) (refusal : Refusal) (others : ℕ) → given ≡ Valid lodged → minimal_refusal most_unmarked w l before ≡ some (told_refusal refusal)
+      → others ≡ (told_refusal refusal).place → GoesFurther w l before lodged others
+  lodged_further lodged refusal others is refuses counted =
+      let passed : licence_refusal w l before ≡ none = nothing_refused w l (length before) v given state asked checks lodged is in
+      goes_further w l before passed refusal lodged others refuses (rw (passed, is) at (checks.checked (room_checks (length l) (length before)) asked).tally) counted
 
 -- what the service answers, by what the minimal reduction does
-module _ (w l before : List ℕ) (r : Shortened) (after : List ℕ) (answered : Minimises most-unmarked w l before r after) where
-  minimises : Minimises-of most-unmarked w l before r after
-  minimises = minimises-of most-unmarked w l before r after answered
+module _ (w l before : List ℕ) (r : Shortened) (after : List ℕ) (answered : Minimises most_unmarked w l before r after) where
+  minimises : MinimisesOf most_unmarked w l before r after
+  minimises = minimises_of most_unmarked w l before r after answered
 
-  pub answers-least : (tally : Tally) → r.answer ≡ Valid tally → Licenses-of w l before (record { claim = Least; told = r }) after
-  unfolding minimal-checks
-  answers-least tally valid =
-      let passes : answer (minimal-checks most-unmarked w l (length before)) ≡ none = sym minimises.answers.refusal ∙ ap told-answer valid in
-      let passed : licence-refusal w l before ≡ none = first-none (reduction-checks w l (length before)) (unmarked-checks most-unmarked w l) _ passes refl in
-      licenses-least w l before passed r tally after minimises valid
+  pub answers_least : (tally : Tally) → r.answer ≡ Valid tally → LicensesOf w l before (record { claim = Least; told = r }) after
+  unfolding minimal_checks
+  answers_least tally valid =
+      let passes : answer (minimal_checks most_unmarked w l (length before)) ≡ none = sym minimises.answers.refusal ∙ ap told_answer valid in
+      let passed : licence_refusal w l before ≡ none = first_none (reduction_checks w l (length before)) (unmarked_checks most_unmarked w l) _ passes refl in
+      licenses_least w l before passed r tally after minimises valid
 
   module _ (refusal : Refusal) (is : r.answer ≡ Refused refusal) where
-    refuses : minimal-refusal most-unmarked w l before ≡ some (told-refusal refusal)
-    refuses = sym minimises.answers.refusal ∙ ap told-answer is
+    refuses : minimal_refusal most_unmarked w l before ≡ some (told_refusal refusal)
+    refuses = sym minimises.answers.refusal ∙ ap told_answer is
 
     -- which leaves the output
     stays : after ≡ before
     stays = rw refuses at minimises.answers.output
 
-    pub refuses-there : minimal-refusal most-unmarked w l after ≡ some (told-refusal refusal)
-    refuses-there = rw stays refuses
+    pub refuses_there : minimal_refusal most_unmarked w l after ≡ some (told_refusal refusal)
+    refuses_there = rw stays refuses
 
-    pub answers-there : (given : Licensed) (last : List ℕ) → Licenses-of w l after given last → Licenses-of w l before given last
-    answers-there given last licenses = subst (λ b. Licenses-of w l b given last) stays licenses
+    pub answers_there : (given : Licensed) (last : List ℕ) → LicensesOf w l after given last → LicensesOf w l before given last
+    answers_there given last licenses = subst (λ b. LicensesOf w l b given last) stays licenses

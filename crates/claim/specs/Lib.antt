@@ -2,4 +2,4 @@
 pub mod Licensed
 pub mod Statement
 -- between: what functions hand to each other, which need not be believed.
-pub mod between
+pub mod Between

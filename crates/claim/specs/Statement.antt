@@ -3,34 +3,34 @@ use Rattle.std.specs.Prelude.{ℕ, ◌≤◌, ◌<◌, ◌≡◌, ◌↔◌, Lis
 use Rattle.std.proofs.Math.Option.{none}
 use Rattle.sas.specs.Plan.{Plan, cost}
 use Rattle.reduction.specs.Reduction.{Reduction, kept, whole, compose}
-use Rattle.reduction.specs.Minimal.{Minimal-reduction}
+use Rattle.reduction.specs.Minimal.{MinimalReduction}
 use Rattle.sheet.specs.Decode.{goal, initial, task}
 use Rattle.plan.specs.Valid.{steps}
 use Rattle.plan.specs.Readable.{Readable}
 use Rattle.reduced.specs.Reduced.{Answers}
 use Rattle.landmark.specs.Marks.{marks, unmarked}
 use Rattle.elimination.specs.declared.single.Elimination.{Elimination}
-use Rattle.elimination.specs.Eliminations.{Left-by-rule}
-use Rattle.cheaper.specs.Cheaper.{Left-by-cheaper}
-use Rattle.minimal.specs.Minimised.{most-unmarked}
-use Rattle.minimal.specs.Statement.{Is-marked, Are-marks, Valid-striking}
+use Rattle.elimination.specs.Eliminations.{LeftByRule}
+use Rattle.cheaper.specs.Cheaper.{LeftByCheaper}
+use Rattle.minimal.specs.Minimised.{most_unmarked}
+use Rattle.minimal.specs.Statement.{IsMarked, AreMarks, ValidStriking}
 use Rattle.claim.specs.declared.answer.Claim.{Claim}
 use Rattle.claim.specs.declared.answer.Claim.TheVariants.{Least, Irreducible, Open}
 use Rattle.claim.specs.declared.answer.Licensed.{Licensed}
 
 module _ (w l : List ℕ) where
   -- what the licence asks of the list l of the sheet w: every valid striking of it strikes nothing
-  abbrev pub Nothing-to-strike : Type 0
-  Nothing-to-strike = (m : Reduction) → Valid-striking w l m → m ≡ whole l
+  abbrev pub NothingToStrike : Type 0
+  NothingToStrike = (m : Reduction) → ValidStriking w l m → m ≡ whole l
 
   -- every step of the list is marked
-  abbrev pub All-marked : Type 0
-  All-marked = (i : ℕ) → i < length l → Is-marked w l i
+  abbrev pub AllMarked : Type 0
+  AllMarked = (i : ℕ) → i < length l → IsMarked w l i
 
   -- a valid list whose moves are all marked has no valid striking but the whole
-  abbrev pub Marked-is-whole : Type 0
-  Marked-is-whole =
-      Readable w l → Plan (task w) (steps w l) → All-marked → (m : Reduction) → Valid-striking w l m ↔ (m ≡ whole l)
+  abbrev pub MarkedIsWhole : Type 0
+  MarkedIsWhole =
+      Readable w l → Plan (task w) (steps w l) → AllMarked → (m : Reduction) → ValidStriking w l m ↔ (m ≡ whole l)
 
 module _ (w l : List ℕ) where
   -- when a claim is made, and what it says of the reduction `left` of the lodged list l. Least: at most 20 moves are
@@ -39,30 +39,30 @@ module _ (w l : List ℕ) where
   -- left. Open: there too more are, so many, and `left` is what the cheaper elimination leaves
   abbrev pub Claimed : Claim → Reduction → Type 0
   Claimed Least left =
-      (unmarked w l ≤ most-unmarked) × Minimal-reduction (initial w) (goal w) (steps w l) left
-      × Nothing-to-strike w (kept left l)
+      (unmarked w l ≤ most_unmarked) × MinimalReduction (initial w) (goal w) (steps w l) left
+      × NothingToStrike w (kept left l)
   Claimed Irreducible left =
-      (most-unmarked < unmarked w l) × ((c : Reduction) × (m : Reduction) × Left-by-cheaper w l c
-      × (unmarked w (kept c l) ≤ most-unmarked) × Minimal-reduction (initial w) (goal w) (steps w (kept c l)) m
-      × (left ≡ compose c m)) × Nothing-to-strike w (kept left l)
+      (most_unmarked < unmarked w l) × ((c : Reduction) × (m : Reduction) × LeftByCheaper w l c
+      × (unmarked w (kept c l) ≤ most_unmarked) × MinimalReduction (initial w) (goal w) (steps w (kept c l)) m
+      × (left ≡ compose c m)) × NothingToStrike w (kept left l)
   Claimed (Open n) left =
-      (most-unmarked < unmarked w l) × (most-unmarked < n) × (n ≡ unmarked w (kept left l)) × Left-by-cheaper w l left
+      (most_unmarked < unmarked w l) × (most_unmarked < n) × (n ≡ unmarked w (kept left l)) × LeftByCheaper w l left
 
   -- a claim and the reduction that it is made of
   pub record Licence (claim : Claim) (left : Reduction) : Type 0 where
     -- of the three claims it is the strongest whose condition is met
     pub claimed : Claimed claim left
     -- `unmarked` is the number of all moves that are not marked, of any list of the sheet
-    pub flagged : (some : List ℕ) → Are-marks w some (marks w some)
+    pub flagged : (some : List ℕ) → AreMarks w some (marks w some)
     -- the list left is valid: a plan of the task, and the lodged list with steps struck
-    pub valid-left : Valid-striking w l left
-    pub plan-left : Plan (task w) (kept left (steps w l))
+    pub valid_left : ValidStriking w l left
+    pub plan_left : Plan (task w) (kept left (steps w l))
     -- it costs no more than what either elimination leaves by its rule
-    pub no-dearer : (by : Elimination) (m : Reduction) → Left-by-rule by w l m
+    pub no_dearer : (by : Elimination) (m : Reduction) → LeftByRule by w l m
         → cost (kept left (steps w l)) ≤ cost (kept m (steps w l))
 
   -- a licence, told by what `Tells` says of its claim and its reduction
-  pub record Licensed-with (Tells : Claim → Reduction → Type 0) : Type 0 where
+  pub record LicensedWith (Tells : Claim → Reduction → Type 0) : Type 0 where
     pub claim : Claim
     pub left : Reduction
     pub licence : Licence claim left
@@ -70,7 +70,7 @@ module _ (w l : List ℕ) where
 
 -- by the service: for every accepted sheet, every valid list of no more steps than a list may have, and every output
 -- that has as many words as the list has steps
-abbrev pub May-be-lodged : List ℕ → List ℕ → List ℕ → Licensed → List ℕ → Type 0
-May-be-lodged w l before r after =
-    Readable w l → Plan (task w) (steps w l) → length l ≤ length before → Licensed-with w l
+abbrev pub MayBeLodged : List ℕ → List ℕ → List ℕ → Licensed → List ℕ → Type 0
+MayBeLodged w l before r after =
+    Readable w l → Plan (task w) (steps w l) → length l ≤ length before → LicensedWith w l
     (λ c m. (r.claim ≡ c) × Answers none w l m before r.told.answer r.told.mask.words after)

@@ -1,7 +1,7 @@
 // What the licence of a list answers.
 ghost use Rattle.std.specs.Prelude.{◌≡◌};
 ghost use Rattle.plan.specs.declared.check.Answer.TheVariants.{Valid};
-ghost use Rattle.claim.specs.between.Refused.{Refuses-licence};
+ghost use Rattle.claim.specs.Between.Refused.{RefusesLicence};
 
 use mask::Mask;
 use minimal::within::Shortened;
@@ -28,7 +28,7 @@ pub struct Licensed {
 
 // A refusal, with its zeros.
 pub(crate) fn refuse(refusal: Refusal) -> Licensed
-    ensures { Refuses-licence refusal result }
+    ensures { RefusesLicence refusal result }
 {
     Licensed {
         claim: Claim::Open(0),

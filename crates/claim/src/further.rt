@@ -1,7 +1,7 @@
 // Plans with too many unmarked steps for the minimal reduction: what the cheaper elimination leaves of them, and of
 // that the minimal reduction where few enough steps are unmarked there.
-ghost use Rattle.claim.specs.between.Computed.{Licenses-of};
-ghost use Rattle.claim.specs.between.Further.{Goes-further};
+ghost use Rattle.claim.specs.Between.Computed.{LicensesOf};
+ghost use Rattle.claim.specs.Between.Further.{GoesFurther};
 
 use crate::answer::{Claim, Licensed, grant};
 use access::put_all;
@@ -21,8 +21,8 @@ pub(crate) fn license_further(
     lodged: Tally,
     unmarked: usize,
 ) -> Licensed
-    requires { Goes-further words.now plan.now out.old lodged unmarked }
-    ensures { Licenses-of words.now plan.now out.old result out.new }
+    requires { GoesFurther words.now plan.now out.old lodged unmarked }
+    ensures { LicensesOf words.now plan.now out.old result out.new }
 {
     let n = plan.len();
     let marked = (n - unmarked) as u32;

@@ -1,11 +1,11 @@
 // The licence of a plan: refusals 1 to 11, and the claim, the tally, the mask and the list left.
 ghost use Rattle.std.specs.Prelude.{◌≡◌};
 ghost use Rattle.std.proofs.Math.Option.{some};
-ghost use Rattle.refusal.specs.Refusal.{told-refusal};
-ghost use Rattle.minimal.specs.Minimised.{most-unmarked, minimal-refusal};
+ghost use Rattle.refusal.specs.Refusal.{told_refusal};
+ghost use Rattle.minimal.specs.Minimised.{most_unmarked, minimal_refusal};
 ghost use Rattle.claim.specs.Licensed.{Licenses};
-ghost use Rattle.claim.specs.between.Computed.{Licenses-of};
-ghost use Rattle.claim.specs.Statement.{May-be-lodged};
+ghost use Rattle.claim.specs.Between.Computed.{LicensesOf};
+ghost use Rattle.claim.specs.Statement.{MayBeLodged};
 
 use crate::answer::{Claim, Licensed, refuse};
 use crate::further::license_further;
@@ -17,8 +17,8 @@ use refusal::Refusal;
 
 // Licenses a plan that the minimal reduction refuses, unless one of the checks 1 to 11 refuses it.
 fn license_refused(words: &[u32], plan: &[u32], out: &mut [u32], refusal: Refusal) -> Licensed
-    requires { minimal-refusal most-unmarked words.now plan.now out.old ≡ some (told-refusal refusal) }
-    ensures { Licenses-of words.now plan.now out.old result out.new }
+    requires { minimal_refusal most_unmarked words.now plan.now out.old ≡ some (told_refusal refusal) }
+    ensures { LicensesOf words.now plan.now out.old result out.new }
 {
     let checked = check_lodged(words, plan, Plan::STEPS, check_room(plan.len(), out.len()));
     let answer = checked.answer;
@@ -31,7 +31,7 @@ fn license_refused(words: &[u32], plan: &[u32], out: &mut [u32], refusal: Refusa
 // Writes what is left of a plan to the front of `out`, with the strongest claim that is proved of it.
 pub fn license(words: &[u32], plan: &[u32], out: &mut [u32]) -> Licensed
     ensures answer { Licenses words.now plan.now out.old result out.new }
-    ensures may_be_lodged { May-be-lodged words.now plan.now out.old result
+    ensures may_be_lodged { MayBeLodged words.now plan.now out.old result
         out.new }
 {
     let exact = minimal_reduction(words, plan, out);

@@ -6,75 +6,75 @@ use mathlib.Core.Option.{none, some}
 use mathlib.Core.List.{List, ◌++◌}
 use lib.ListN.{length, length-map, length-append}
 use Rattle.lines.specs.Prints.{Prints}
-use Rattle.lines.proofs.PrintLaws.{prints-both}
+use Rattle.lines.proofs.PrintLaws.{prints_both}
 use Rattle.refusal.specs.declared.Refusal.{Refusal}
-use Rattle.refusal.specs.Refusal.{told-refusal}
+use Rattle.refusal.specs.Refusal.{told_refusal}
 use Rattle.refusal.specs.Check.{answer}
 use Rattle.tally.specs.declared.Tally.{Tally}
 use Rattle.sheet.specs.Decode.{action}
-use Rattle.plan.specs.Limits.{most-steps}
+use Rattle.plan.specs.Limits.{most_steps}
 use Rattle.plan.specs.Readable.{Readable}
 use Rattle.plan.specs.declared.check.Answer.TheVariants.{Valid, Refused}
-use Rattle.plan.specs.Checked.{told-answer}
-use Rattle.plan.proofs.PlanLaws.{passed-readable}
-use Rattle.reduced.specs.Reduced.{room-checks, reduction-checks}
-use Rattle.reduced.proofs.LodgedLaws.{lodged-plan}
+use Rattle.plan.specs.Checked.{told_answer}
+use Rattle.plan.proofs.PlanLaws.{passed_readable}
+use Rattle.reduced.specs.Reduced.{room_checks, reduction_checks}
+use Rattle.reduced.proofs.LodgedLaws.{lodged_plan}
 use Rattle.claim.specs.declared.answer.Claim.{Claim}
 use Rattle.claim.specs.declared.answer.Licensed.{Licensed}
 use Rattle.claim.specs.Licensed.{Licenses}
-use Rattle.claim.specs.between.Computed.{claim-of, licensed-of, Licenses-of}
-use Rattle.claim.proofs.ComputedTheorem.{licenses-of}
+use Rattle.claim.specs.Between.Computed.{claim_of, licensed_of, LicensesOf}
+use Rattle.claim.proofs.ComputedTheorem.{licenses_of}
 use Rattle.claim.specs.Statement.{Licence}
-use Rattle.claim.proofs.LicenceTheorem.{licence-of}
-use Rattle.program.specs.Printed.{refusal-line}
-use Rattle.program.specs.between.Room.{line-room, Text-put}
+use Rattle.claim.proofs.LicenceTheorem.{licence_of}
+use Rattle.program.specs.Printed.{refusal_line}
+use Rattle.program.specs.Between.Room.{line_room, TextPut}
 use Rattle.report.specs.Report.{report}
-use Rattle.report.specs.between.Reported.{Reports, Puts-lines}
-use Rattle.report.proofs.ToldLaws.{nothing-fires, told-reported}
-use Rattle.claim_report.specs.Licensed.{claim-line, licensed}
-use Rattle.claim_report.specs.between.LicenceRoom.{licence-room}
+use Rattle.report.specs.Between.Reported.{Reports, PutsLines}
+use Rattle.report.proofs.ToldLaws.{nothing_fires, told_reported}
+use Rattle.claim_report.specs.Licensed.{claim_line, licensed}
+use Rattle.claim_report.specs.Between.LicenceRoom.{licence_room}
 
 -- the line of a claim is that of its case
-pub claim-put : {claim case : Claim} {at : ℕ} {before after : List ℕ} {end : ℕ} → claim ≡ case → Prints (claim-line case) at before after end
-    → length (claim-line case) ≤ line-room → Puts-lines 1 (claim-line claim) at before after end
-claim-put is prints short = rw is (record { prints = prints; short = omega (arith, short) })
+pub claim_put : {claim case : Claim} {at : ℕ} {before after : List ℕ} {end : ℕ} → claim ≡ case → Prints (claim_line case) at before after end
+    → length (claim_line case) ≤ line_room → PutsLines 1 (claim_line claim) at before after end
+claim_put is prints short = rw is (record { prints = prints; short = omega (arith, short) })
 
-module _ (w l before : List ℕ) (r : Licensed) (after : List ℕ) (room : length before ≡ most-steps) (answered : Licenses w l before r after) where
-  licenses : Licenses-of w l before r after
-  licenses = licenses-of w l before r after answered
+module _ (w l before : List ℕ) (r : Licensed) (after : List ℕ) (room : length before ≡ most_steps) (answered : Licenses w l before r after) where
+  licenses : LicensesOf w l before r after
+  licenses = licenses_of w l before r after answered
 
   -- the list is licensed
   module _ (kept : Tally) (is : r.told.answer ≡ Valid kept) where
-    passes : answer (reduction-checks w l (length before)) ≡ none
-    passes = nothing-fires _ w l _ before r.told after licenses.answers kept is
+    passes : answer (reduction_checks w l (length before)) ≡ none
+    passes = nothing_fires _ w l _ before r.told after licenses.answers kept is
 
     readable : Readable w l
-    readable = passed-readable _ (room-checks (length l) (length before)) w l passes
+    readable = passed_readable _ (room_checks (length l) (length before)) w l passes
 
-    pub reports-licensed : Reports w l (licensed-of w l) r.told kept
-    reports-licensed =
-        let licence : Licence w l (claim-of w l) (licensed-of w l) = licence-of w l readable (lodged-plan (room-checks (length l) (length before)) w l passes) in
-        let fits : length (licensed-of w l) ≡ length l = licence.valid-left.fits ∙ length-map l (action w) in
-        told-reported _ w l _ before r.told after licenses.answers kept is licenses.lodged licenses.marks fits readable.few
+    pub reports_licensed : Reports w l (licensed_of w l) r.told kept
+    reports_licensed =
+        let licence : Licence w l (claim_of w l) (licensed_of w l) = licence_of w l readable (lodged_plan (room_checks (length l) (length before)) w l passes) in
+        let fits : length (licensed_of w l) ≡ length l = licence.valid_left.fits ∙ length-map l (action w) in
+        told_reported _ w l _ before r.told after licenses.answers kept is licenses.lodged licenses.marks fits readable.few
 
-    pub licensed-report : {out between out' : List ℕ} {middle end : ℕ} → Puts-lines 1 (claim-line r.claim) 0 out between middle
-        → Puts-lines (3 + length l) (report w l (licensed-of w l)) middle between out' end → Text-put licence-room out out' end (licensed w l)
+    pub licensed_report : {out between out' : List ℕ} {middle end : ℕ} → PutsLines 1 (claim_line r.claim) 0 out between middle
+        → PutsLines (3 + length l) (report w l (licensed_of w l)) middle between out' end → TextPut licence_room out out' end (licensed w l)
     unfolding licensed
-    licensed-report {out} {between} {out'} {middle} {end} first rest =
-        let claimed : r.claim ≡ claim-of w l = rw passes at licenses.claims in
-        let claims : Puts-lines 1 (claim-line (claim-of w l)) 0 out between middle = rw claimed at first in
-        let long = length-append (claim-line (claim-of w l)) (report w l (licensed-of w l)) in
-        let fits : length (claim-line (claim-of w l) ++ report w l (licensed-of w l)) ≤ licence-room = omega (arith, long, claims.short, rest.short, readable.few) in
-        let here : answer (reduction-checks w l most-steps) ≡ none = subst (λ n. answer (reduction-checks w l n) ≡ none) room passes in
-        rw (licensed, here) (prints-both claims.prints rest.prints, fits)
+    licensed_report {out} {between} {out'} {middle} {end} first rest =
+        let claimed : r.claim ≡ claim_of w l = rw passes at licenses.claims in
+        let claims : PutsLines 1 (claim_line (claim_of w l)) 0 out between middle = rw claimed at first in
+        let long = length-append (claim_line (claim_of w l)) (report w l (licensed_of w l)) in
+        let fits : length (claim_line (claim_of w l) ++ report w l (licensed_of w l)) ≤ licence_room = omega (arith, long, claims.short, rest.short, readable.few) in
+        let here : answer (reduction_checks w l most_steps) ≡ none = subst (λ n. answer (reduction_checks w l n) ≡ none) room passes in
+        rw (licensed, here) (prints_both claims.prints rest.prints, fits)
 
   -- or refused
-  pub licensed-refusal : (refusal : Refusal) → r.told.answer ≡ Refused refusal → {out out' : List ℕ} {end : ℕ}
-      → Prints (refusal-line (told-refusal refusal)) 0 out out' end → length (refusal-line (told-refusal refusal)) ≤ line-room
-      → Text-put licence-room out out' end (licensed w l)
+  pub licensed_refusal : (refusal : Refusal) → r.told.answer ≡ Refused refusal → {out out' : List ℕ} {end : ℕ}
+      → Prints (refusal_line (told_refusal refusal)) 0 out out' end → length (refusal_line (told_refusal refusal)) ≤ line_room
+      → TextPut licence_room out out' end (licensed w l)
   unfolding licensed
-  licensed-refusal refusal is prints short =
-      let fires : answer (reduction-checks w l (length before)) ≡ some (told-refusal refusal) = sym licenses.answers.refusal ∙ ap told-answer is in
-      let fits : length (refusal-line (told-refusal refusal)) ≤ licence-room = omega (arith, short) in
-      let here : answer (reduction-checks w l most-steps) ≡ some (told-refusal refusal) = subst (λ n. answer (reduction-checks w l n) ≡ some (told-refusal refusal)) room fires in
+  licensed_refusal refusal is prints short =
+      let fires : answer (reduction_checks w l (length before)) ≡ some (told_refusal refusal) = sym licenses.answers.refusal ∙ ap told_answer is in
+      let fits : length (refusal_line (told_refusal refusal)) ≤ licence_room = omega (arith, short) in
+      let here : answer (reduction_checks w l most_steps) ≡ some (told_refusal refusal) = subst (λ n. answer (reduction_checks w l n) ≡ some (told_refusal refusal)) room fires in
       rw (licensed, here) (prints, fits)

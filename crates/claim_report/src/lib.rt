@@ -1,9 +1,11 @@
 // What is printed for a plan that is licensed, put to the front of lent bytes: the line of its claim, and the report of
 // what is left.
-ghost use Rattle.program.specs.between.Room.{Text-put};
-ghost use Rattle.report.specs.between.Reported.{Puts-lines};
-ghost use Rattle.claim_report.specs.Licensed.{claim-line, licensed};
-ghost use Rattle.claim_report.specs.between.LicenceRoom.{licence-room};
+#![tactic(auto)]
+
+ghost use Rattle.program.specs.Between.Room.{TextPut};
+ghost use Rattle.report.specs.Between.Reported.{PutsLines};
+ghost use Rattle.claim_report.specs.Licensed.{claim_line, licensed};
+ghost use Rattle.claim_report.specs.Between.LicenceRoom.{licence_room};
 
 use claim::answer::Claim;
 use claim::license::license;
@@ -14,7 +16,7 @@ use report::reported::put_report;
 
 // Puts the line of a claim.
 fn put_claim(claim: Claim, out: &mut [u8]) -> usize
-    ensures { Puts-lines 1 (claim-line claim) 0 out.old out.new result }
+    ensures { PutsLines 1 (claim_line claim) 0 out.old out.new result }
 {
     match claim {
         Claim::Least => put_alone(out, 0, b"least"),
@@ -25,7 +27,7 @@ fn put_claim(claim: Claim, out: &mut [u8]) -> usize
 
 // Puts the claim and the report of a plan, or its refusal. The list left has room for the longest that is read.
 pub fn put_licensed(words: &[u32], plan: &[u32], out: &mut [u8]) -> usize
-    ensures { Text-put licence-room out.old out.new result
+    ensures { TextPut licence_room out.old out.new result
         (licensed words.now plan.now) }
 {
     let mut left = [0u32; Plan::STEPS];

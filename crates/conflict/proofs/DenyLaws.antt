@@ -11,41 +11,41 @@ use Rattle.sas.specs.Plan.{assign}
 use Rattle.sas.specs.Conflict.{some_of}
 use Rattle.sheet.specs.declared.group.Group.{Group}
 use Rattle.sheet.specs.Decode.{fact_of}
-use Rattle.sheet.specs.between.Group.{facts-in, first-fact, rest_of}
-use Rattle.sheet.proofs.GroupLaws.{group-over, group-next}
-use Rattle.conflict.specs.between.Table.{unsaid, denies}
+use Rattle.sheet.specs.Between.Group.{facts_in, first_fact, rest_of}
+use Rattle.sheet.proofs.GroupLaws.{group_over, group_next}
+use Rattle.conflict.specs.Between.Table.{unsaid, denies}
 
 module _ (t : State) (x said : ℕ) (read : said ≡ get_or t (fact_of x).variable 0) where
   pub nothing_said : said ≡ unsaid → false ≡ denies t (fact_of x)
   unfolding denies
   nothing_said same = rw (← read, eq-eqb said unsaid same)
 
-  pub same-said : (said ≡ unsaid → ⊥) → said ≡ (fact_of x).value → false ≡ denies t (fact_of x)
+  pub same_said : (said ≡ unsaid → ⊥) → said ≡ (fact_of x).value → false ≡ denies t (fact_of x)
   unfolding denies
-  same-said some same = rw (← read, ne_eqb said unsaid some, eq-eqb said (fact_of x).value same)
+  same_said some same = rw (← read, ne_eqb said unsaid some, eq-eqb said (fact_of x).value same)
 
-  pub other-said : (said ≡ unsaid → ⊥) → (said ≡ (fact_of x).value → ⊥) → true ≡ denies t (fact_of x)
+  pub other_said : (said ≡ unsaid → ⊥) → (said ≡ (fact_of x).value → ⊥) → true ≡ denies t (fact_of x)
   unfolding denies
-  other-said some other = rw (← read, ne_eqb said unsaid some, ne_eqb said (fact_of x).value other)
+  other_said some other = rw (← read, ne_eqb said unsaid some, ne_eqb said (fact_of x).value other)
 
 module _ (w : List ℕ) (t : State) (g : Group) where
-  pub denied-over : g.end ≤ g.at → some_of (denies t) (facts-in w g) ≡ false
+  pub denied_over : g.end ≤ g.at → some_of (denies t) (facts_in w g) ≡ false
   unfolding some_of
-  denied-over over = rw (group-over w g over)
+  denied_over over = rw (group_over w g over)
 
-  pub noting-over : g.end ≤ g.at → assign t (facts-in w g) ≡ t
+  pub noting_over : g.end ≤ g.at → assign t (facts_in w g) ≡ t
   unfolding assign
-  noting-over over = rw (group-over w g over)
+  noting_over over = rw (group_over w g over)
 
-  module _ (h : g.at < g.end) (x : ℕ) (read : x ≡ first-fact w g) where
-    pub denied-here : (b : Bool) → b ≡ denies t (fact_of x) → b ≡ true → some_of (denies t) (facts-in w g) ≡ true
+  module _ (h : g.at < g.end) (x : ℕ) (read : x ≡ first_fact w g) where
+    pub denied_here : (b : Bool) → b ≡ denies t (fact_of x) → b ≡ true → some_of (denies t) (facts_in w g) ≡ true
     unfolding some_of
-    denied-here b tested denied = rw (group-next w g h, ← read, ← tested, denied)
+    denied_here b tested denied = rw (group_next w g h, ← read, ← tested, denied)
 
-    pub denied-later : (b : Bool) → b ≡ denies t (fact_of x) → b ≡ false → some_of (denies t) (facts-in w g) ≡ some_of (denies t) (facts-in w (rest_of g))
+    pub denied_later : (b : Bool) → b ≡ denies t (fact_of x) → b ≡ false → some_of (denies t) (facts_in w g) ≡ some_of (denies t) (facts_in w (rest_of g))
     unfolding some_of
-    denied-later b tested passed = rw (group-next w g h, ← read, ← tested, passed)
+    denied_later b tested passed = rw (group_next w g h, ← read, ← tested, passed)
 
-    pub noting-next : assign t (facts-in w g) ≡ assign (set t (fact_of x).variable (fact_of x).value) (facts-in w (rest_of g))
+    pub noting_next : assign t (facts_in w g) ≡ assign (set t (fact_of x).variable (fact_of x).value) (facts_in w (rest_of g))
     unfolding assign
-    noting-next = rw (group-next w g h, ← read)
+    noting_next = rw (group_next w g h, ← read)

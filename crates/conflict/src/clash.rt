@@ -2,10 +2,10 @@
 // words, so these are neighbours, and those of its own fact come first.
 ghost use Rattle.std.specs.Prelude.{◌≡◌};
 ghost use Rattle.sheet.specs.Decode.{fact_of};
-ghost use Rattle.sheet.specs.between.Group.{facts-in};
-ghost use Rattle.sheet.specs.between.Effects.{effects-in, first-written};
-ghost use Rattle.conflict.specs.between.Clash.{beyond, first-writes as writes-first, some_fits, clashes as clashes-with};
-ghost use Rattle.conflict.specs.between.Clash.{some-clash, beside as is-beside, neighbours, clash-in, first-effect};
+ghost use Rattle.sheet.specs.Between.Group.{facts_in};
+ghost use Rattle.sheet.specs.Between.Effects.{effects_in, first_written};
+ghost use Rattle.conflict.specs.Between.Clash.{beyond, first_writes as writes-first, some_fits, clashes as clashes-with};
+ghost use Rattle.conflict.specs.Between.Clash.{some_clash, beside as is-beside, neighbours, clash_in, first_effect};
 
 use crate::table::{UNSAID, denies_some, note};
 use sheet::effects::Effects;
@@ -14,7 +14,7 @@ use sheet::limits::Sheet;
 
 // The effects that are left behind the first ones of a fact, given by its word.
 fn past(w: &[u32], effects: Effects, fact: u32) -> Effects
-    ensures { effects-in w.now result ≡ beyond fact (effects-in w.now effects) }
+    ensures { effects_in w.now result ≡ beyond fact (effects_in w.now effects) }
 {
     let mut rest = effects;
     while rest.at < rest.end {
@@ -28,7 +28,7 @@ fn past(w: &[u32], effects: Effects, fact: u32) -> Effects
 
 // Whether the first of some effects writes a variable.
 fn first_writes(w: &[u32], effects: Effects, variable: usize) -> bool
-    ensures { result ≡ writes-first variable (effects-in w.now effects) }
+    ensures { result ≡ writes-first variable (effects_in w.now effects) }
 {
     if effects.at < effects.end {
         return effects.first(w) as usize / Sheet::VALUES == variable;
@@ -38,7 +38,7 @@ fn first_writes(w: &[u32], effects: Effects, variable: usize) -> bool
 
 // Whether, among the first of some effects that write a variable, one has a condition that a table does not deny.
 fn find_fitting(w: &[u32], table: &[u32], effects: Effects, variable: usize) -> bool
-    ensures { result ≡ some_fits table.now variable (effects-in w.now effects) }
+    ensures { result ≡ some_fits table.now variable (effects_in w.now effects) }
 {
     let mut rest = effects;
     while first_writes(w, rest, variable) {
@@ -54,8 +54,8 @@ fn find_fitting(w: &[u32], table: &[u32], effects: Effects, variable: usize) -> 
 // Whether the first of some effects clashes with one of those behind it that write its variable at another value, under
 // a precondition. Where there is none, no table is made.
 fn clashes(w: &[u32], precondition: Group, effects: Effects, behind: Effects) -> bool
-    ensures { result ≡ clashes-with (facts-in w.now precondition) (first-effect w.now effects)
-        (effects-in w.now behind) }
+    ensures { result ≡ clashes-with (facts_in w.now precondition) (first_effect w.now effects)
+        (effects_in w.now behind) }
 {
     let variable = effects.first(w) as usize / Sheet::VALUES;
     if first_writes(w, behind, variable) {
@@ -73,7 +73,7 @@ fn clashes(w: &[u32], precondition: Group, effects: Effects, behind: Effects) ->
 
 // Whether some effect clashes with one behind it, under a precondition.
 fn find_clash(w: &[u32], precondition: Group, effects: Effects) -> bool
-    ensures { result ≡ some-clash (facts-in w.now precondition) (effects-in w.now effects) }
+    ensures { result ≡ some_clash (facts_in w.now precondition) (effects_in w.now effects) }
 {
     let mut rest = effects;
     let mut behind = effects;
@@ -99,7 +99,7 @@ fn beside(fact: u32, next: u32) -> bool
 
 // Whether some effect has the variable of the one before it at another value.
 fn have_neighbours(w: &[u32], effects: Effects) -> bool
-    ensures { result ≡ neighbours (first-written w.now effects) (effects-in w.now effects) }
+    ensures { result ≡ neighbours (first_written w.now effects) (effects_in w.now effects) }
 {
     let mut fact = effects.first(w);
     let mut rest = effects;
@@ -117,7 +117,7 @@ fn have_neighbours(w: &[u32], effects: Effects) -> bool
 // Whether some effect of action a clashes with one behind it. In most actions each variable is written at one value,
 // which one pass tells.
 pub(crate) fn some_clash(w: &[u32], a: u32) -> bool
-    ensures { result ≡ clash-in w.now a }
+    ensures { result ≡ clash_in w.now a }
 {
     let facts = facts_of(w, a);
     if have_neighbours(w, facts.effects) {

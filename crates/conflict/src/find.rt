@@ -1,7 +1,7 @@
 // The place of cause 16.
 ghost use Rattle.std.specs.Prelude.{◌≡◌};
-ghost use Rattle.conflict.specs.between.Clash.{clash-place};
-ghost use Rattle.conflict.specs.between.Found.{Finds};
+ghost use Rattle.conflict.specs.Between.Clash.{clash_place};
+ghost use Rattle.conflict.specs.Between.Found.{Finds};
 
 use crate::clash::some_clash;
 use refusal::place::Place;
@@ -9,7 +9,7 @@ use sheet::layout::{actions, has_conditions};
 
 // The first action in which effects clash.
 fn first_clash(w: &[u32]) -> Place
-    ensures { result ≡ clash-place w.now }
+    ensures { result ≡ clash_place w.now }
 {
     let n = actions(w);
     let mut a = 0;

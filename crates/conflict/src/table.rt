@@ -3,8 +3,8 @@ ghost use Rattle.std.specs.Prelude.{◌≡◌};
 ghost use Rattle.sas.specs.Plan.{assign};
 ghost use Rattle.sas.specs.Conflict.{some_of};
 ghost use Rattle.sheet.specs.Decode.{fact_of};
-ghost use Rattle.sheet.specs.between.Group.{facts-in};
-ghost use Rattle.conflict.specs.between.Table.{denies as denies-fact};
+ghost use Rattle.sheet.specs.Between.Group.{facts_in};
+ghost use Rattle.conflict.specs.Between.Table.{denies as denies-fact};
 
 use access::{put, word};
 use sheet::group::Group;
@@ -29,7 +29,7 @@ fn denies(table: &[u32], fact: u32) -> bool
 
 // Whether it does so for some fact of a group.
 pub(crate) fn denies_some(w: &[u32], table: &[u32], group: Group) -> bool
-    ensures { result ≡ some_of (denies-fact table.now) (facts-in w.now group) }
+    ensures { result ≡ some_of (denies-fact table.now) (facts_in w.now group) }
 {
     let mut rest = group;
     while rest.at < rest.end {
@@ -43,7 +43,7 @@ pub(crate) fn denies_some(w: &[u32], table: &[u32], group: Group) -> bool
 
 // Notes in a table what the facts of a group say.
 pub(crate) fn note(w: &[u32], table: &mut [u32], group: Group)
-    ensures { table.new ≡ assign table.old (facts-in w.now group) }
+    ensures { table.new ≡ assign table.old (facts_in w.now group) }
 {
     let mut rest = group;
     while rest.at < rest.end {

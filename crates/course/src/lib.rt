@@ -1,10 +1,12 @@
 // The states along a plan (document 01: list), as far as its steps can be done in turn.
+#![tactic(auto)]
+
 ghost use Rattle.std.specs.Prelude.{◌≡◌, ◌≤◌, ◌<◌, ◌^◌, length};
 ghost use Rattle.std.proofs.lemmas.List.Edits.{sets};
 ghost use Rattle.sheet.specs.Limits.{limits};
-ghost use Rattle.plan.specs.Limits.{most-steps};
+ghost use Rattle.plan.specs.Limits.{most_steps};
 ghost use Rattle.course.specs.Course.{Courses};
-ghost use Rattle.course.specs.between.Follows.{Follows};
+ghost use Rattle.course.specs.Between.Follows.{Follows};
 
 use access::{put, word};
 use plan::limits::Plan;
@@ -35,7 +37,7 @@ fn put_state(states: &mut [u32], at: usize, state: &[u32])
 // Does each step of a plan in turn in a lent state, and writes the state before each and the last one; says how many
 // these are.
 fn follow(words: &[u32], plan: &[u32], state: &mut [u32], states: &mut [u32]) -> usize
-    requires { (length plan.now ≤ most-steps) × (length state.old ≤ limits.variables) }
+    requires { (length plan.now ≤ most_steps) × (length state.old ≤ limits.variables) }
     ensures { Follows words.now plan.now state.old
         states.old result states.new }
 {

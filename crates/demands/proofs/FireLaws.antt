@@ -9,32 +9,32 @@ use Rattle.refusal.specs.declared.place.Place.{Place}
 use Rattle.refusal.specs.declared.place.Place.TheVariants.{Nowhere, At}
 use Rattle.refusal.specs.Refusal.{Told}
 use Rattle.refusal.specs.Check.{Check, answer}
-use Rattle.refusal.proofs.CheckLaws.{told-parts, answer-fires, answer-passes, answer-nothing, none-fires, answer-second}
-use Rattle.demands.specs.One.{None-fires, First-to-fire, Refuses-just}
+use Rattle.refusal.proofs.CheckLaws.{told_parts, answer_fires, answer_passes, answer_nothing, none_fires, answer_second}
+use Rattle.demands.specs.One.{NoneFires, FirstToFire, RefusesJust}
 
-silent-answers : (cs : List Check) → None-fires cs → answer cs ≡ none
-silent-answers [] h = answer-nothing
-silent-answers (c ∷ cs) h = answer-passes c cs (h c (Memᴰ.head refl)) ∙ silent-answers cs (λ d m. h d (Memᴰ.tail m))
+silent_answers : (cs : List Check) → NoneFires cs → answer cs ≡ none
+silent_answers [] h = answer_nothing
+silent_answers (c ∷ cs) h = answer_passes c cs (h c (Memᴰ.head refl)) ∙ silent_answers cs (λ d m. h d (Memᴰ.tail m))
 
-answers-silent : (cs : List Check) → answer cs ≡ none → None-fires cs
-answers-silent [] h c m = absurd (Memᴰ.not-nil m)
-answers-silent (d ∷ cs) h c (Memᴰ.head e) = rw e (none-fires d cs h).0
-answers-silent (d ∷ cs) h c (Memᴰ.tail m) = answers-silent cs (none-fires d cs h).1 c m
+answers_silent : (cs : List Check) → answer cs ≡ none → NoneFires cs
+answers_silent [] h c m = absurd (Memᴰ.not-nil m)
+answers_silent (d ∷ cs) h c (Memᴰ.head e) = rw e (none_fires d cs h).0
+answers_silent (d ∷ cs) h c (Memᴰ.tail m) = answers_silent cs (none_fires d cs h).1 c m
 
-first-answers : (cs : List Check) (t : Told) → First-to-fire cs t → answer cs ≡ some t
-first-answers cs t f =
+first_answers : (cs : List Check) (t : Told) → FirstToFire cs t → answer cs ≡ some t
+first_answers cs t f =
     ap answer f.parts
-    ∙ answer-second f.earlier (f.here ∷ f.later) (silent-answers f.earlier f.before-it)
-    ∙ answer-fires f.here f.later t.place f.fires
-    ∙ ap some (told-parts t f.here.number f.number)
+    ∙ answer_second f.earlier (f.here ∷ f.later) (silent_answers f.earlier f.before_it)
+    ∙ answer_fires f.here f.later t.place f.fires
+    ∙ ap some (told_parts t f.here.number f.number)
 
-answers-first : (cs : List Check) (t : Told) → answer cs ≡ some t → First-to-fire cs t
-answers-first [] t h = absurd (some-ne-none t (sym h ∙ answer-nothing))
-answers-first (c ∷ cs) t h = by-case (answers-first cs t) c.fires refl
+answers_first : (cs : List Check) (t : Told) → answer cs ≡ some t → FirstToFire cs t
+answers_first [] t h = absurd (some-ne-none t (sym h ∙ answer_nothing))
+answers_first (c ∷ cs) t h = by_case (answers_first cs t) c.fires refl
   where
-    by-case : (answer cs ≡ some t → First-to-fire cs t) → (p : Place) → c.fires ≡ p → First-to-fire (c ∷ cs) t
-    by-case rest Nowhere e =
-        let f : First-to-fire cs t = rest (sym (answer-passes c cs e) ∙ h) in
+    by_case : (answer cs ≡ some t → FirstToFire cs t) → (p : Place) → c.fires ≡ p → FirstToFire (c ∷ cs) t
+    by_case rest Nowhere e =
+        let f : FirstToFire cs t = rest (sym (answer_passes c cs e) ∙ h) in
         record {
           earlier = c ∷ f.earlier;
           here = f.here;
@@ -42,14 +42,14 @@ answers-first (c ∷ cs) t h = by-case (answers-first cs t) c.fires refl
           parts = ap (λ ds. c ∷ ds) f.parts;
           number = f.number;
           fires = f.fires;
-          before-it = passed-too f.earlier f.before-it;
+          before_it = passed_too f.earlier f.before_it;
         }
       where
-        passed-too : (ds : List Check) → None-fires ds → None-fires (c ∷ ds)
-        passed-too ds silent d (Memᴰ.head same) = rw same e
-        passed-too ds silent d (Memᴰ.tail m) = silent d m
-    by-case rest (At k) e =
-        let same : ◌≡◌ {A = Told} (record { number = c.number; place = k }) t = some-injective _ _ (sym (answer-fires c cs k e) ∙ h) in
+        passed_too : (ds : List Check) → NoneFires ds → NoneFires (c ∷ ds)
+        passed_too ds silent d (Memᴰ.head same) = rw same e
+        passed_too ds silent d (Memᴰ.tail m) = silent d m
+    by_case rest (At k) e =
+        let same : ◌≡◌ {A = Told} (record { number = c.number; place = k }) t = some-injective _ _ (sym (answer_fires c cs k e) ∙ h) in
         record {
           earlier = [];
           here = c;
@@ -57,14 +57,14 @@ answers-first (c ∷ cs) t h = by-case (answers-first cs t) c.fires refl
           parts = refl;
           number = ap (λ u. u.number) same;
           fires = e ∙ ap (λ u. At u.place) same;
-          before-it = λ d m. absurd (Memᴰ.not-nil m);
+          before_it = λ d m. absurd (Memᴰ.not-nil m);
         }
 
-pub refuses-just : (numbers : List ℕ) (checks : List Check) (refusal : Option Told) → map (λ c. c.number) checks ≡ numbers → refusal ≡ answer checks
-    → Refuses-just numbers checks refusal
-refuses-just numbers checks refusal numbered is =
+pub refuses_just : (numbers : List ℕ) (checks : List Check) (refusal : Option Told) → map (λ c. c.number) checks ≡ numbers → refusal ≡ answer checks
+    → RefusesJust numbers checks refusal
+refuses_just numbers checks refusal numbered is =
     record {
       numbered = numbered;
-      refuses = λ t. (λ h. answers-first checks t (sym is ∙ h), λ f. is ∙ first-answers checks t f);
-      answers = (λ h. answers-silent checks (sym is ∙ h), λ silent. is ∙ silent-answers checks silent);
+      refuses = λ t. (λ h. answers_first checks t (sym is ∙ h), λ f. is ∙ first_answers checks t f);
+      answers = (λ h. answers_silent checks (sym is ∙ h), λ silent. is ∙ silent_answers checks silent);
     }

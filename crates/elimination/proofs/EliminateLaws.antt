@@ -8,66 +8,66 @@ use mathlib.Core.List.{List}
 use lib.ListN.{length, get_or, replicate, length-map, length-append, length-replicate}
 use lib.Seq.{take_at}
 use Rattle.tally.specs.declared.Tally.{Tally}
-use Rattle.step.specs.between.Advance.{Advances}
+use Rattle.step.specs.Between.Advance.{Advances}
 use Rattle.sheet.specs.Decode.{initial, goal, action}
-use Rattle.plan.specs.Limits.{most-steps}
+use Rattle.plan.specs.Limits.{most_steps}
 use Rattle.plan.specs.Valid.{steps}
 use Rattle.reduction.specs.Reduction.{Reduction, whole, valid, Before}
-use Rattle.reduction.specs.between.Elimination.{eliminated, eliminate}
+use Rattle.reduction.specs.Between.Elimination.{eliminated, eliminate}
 use Rattle.reduction.proofs.ReductionLaws.{kept_whole}
-use Rattle.reduction.proofs.trials.TrialLaws.{unkept-fails}
-use Rattle.reduction.proofs.minimal.BeforeLaws.{before-first}
-use Rattle.reduced.specs.between.Held.{mask, flags_of, none-struck}
+use Rattle.reduction.proofs.trials.TrialLaws.{unkept_fails}
+use Rattle.reduction.proofs.minimal.BeforeLaws.{before_first}
+use Rattle.reduced.specs.Between.Held.{mask, flags_of, none_struck}
 use Rattle.reduced.proofs.HeldLaws.{all_held}
-use Rattle.trial.specs.between.Trial.{Makes-trial}
-use Rattle.trial.specs.between.Current.{Current}
-use Rattle.trial.proofs.CurrentLaws.{trial-met, trial-unmet, left-mask, left-current, left-next, unkept, passed_over, advanced}
-use Rattle.elimination.specs.between.Turn.{Eliminates}
+use Rattle.trial.specs.Between.Trial.{MakesTrial}
+use Rattle.trial.specs.Between.Current.{Current}
+use Rattle.trial.proofs.CurrentLaws.{trial_met, trial_unmet, left_mask, left_current, left_next, unkept, passed_over, advanced}
+use Rattle.elimination.specs.Between.Turn.{Eliminates}
 
 -- nothing struck: the flags of a plan that is valid
-module _ (w l : List ℕ) (flags : Reduction) (few : length l ≤ most-steps) (is : flags ≡ none-struck (length l)) where
-  whole-held : flags ≡ flags_of l (whole l)
-  whole-held = all_held l flags few is
+module _ (w l : List ℕ) (flags : Reduction) (few : length l ≤ most_steps) (is : flags ≡ none_struck (length l)) where
+  whole_held : flags ≡ flags_of l (whole l)
+  whole_held = all_held l flags few is
 
-  pub all-mask : mask l flags ≡ whole (steps w l)
-  all-mask = rw (whole-held, length-map l (action w)) (take_at (replicate (length l) true) _ (length l) (length-replicate (length l) true))
+  pub all_mask : mask l flags ≡ whole (steps w l)
+  all_mask = rw (whole_held, length-map l (action w)) (take_at (replicate (length l) true) _ (length l) (length-replicate (length l) true))
 
-  pub all-current : valid (initial w) (goal w) (steps w l) ≡ true → Current w l flags
-  all-current v =
+  pub all_current : valid (initial w) (goal w) (steps w l) ≡ true → Current w l flags
+  all_current v =
       record {
         few = few;
-        long = rw whole-held (simp (length-append, length-replicate) (omega arith));
-        none-past = whole-held ∙ rw (all-mask, length-map l (action w));
-        valid-left = rw (all-mask, kept_whole (steps w l)) v;
+        long = rw whole_held (simp (length-append, length-replicate) (omega arith));
+        none_past = whole_held ∙ rw (all_mask, length-map l (action w));
+        valid_left = rw (all_mask, kept_whole (steps w l)) v;
       }
 
 -- elimination's turn
 module _ (w l : List ℕ) (flags : Reduction) (current : Current w l flags) (i : ℕ) (values : List ℕ) (here : i < length l) (before : Before (initial w) (steps w l) (mask l flags) i values) where
   -- at a kept step whose trial succeeds
-  pub eliminates-struck : (met : Bool) (left : Reduction) (struck : Tally) → Makes-trial w l i flags values met left struck → get_or flags i false ≡ true → met ≡ true → Eliminates w l i flags left values
-  eliminates-struck met left struck tries up is =
+  pub eliminates_struck : (met : Bool) (left : Reduction) (struck : Tally) → MakesTrial w l i flags values met left struck → get_or flags i false ≡ true → met ≡ true → Eliminates w l i flags left values
+  eliminates_struck met left struck tries up is =
       record {
-        current = left-current w l flags current i values here before met left struck tries up is;
-        struck = left-mask w l flags current i values here before met left struck tries ∙ rw (trial-met w l flags current i values here before met left struck tries up is);
-        before = left-next w l flags current i values here before met left struck tries up is;
+        current = left_current w l flags current i values here before met left struck tries up is;
+        struck = left_mask w l flags current i values here before met left struck tries ∙ rw (trial_met w l flags current i values here before met left struck tries up is);
+        before = left_next w l flags current i values here before met left struck tries up is;
       }
 
   -- at one whose trial fails
-  pub eliminates-done : (met done : Bool) (left : Reduction) (struck : Tally) (values' : List ℕ) → get_or flags i false ≡ true → Makes-trial w l i flags values met left struck → met ≡ false
+  pub eliminates_done : (met done : Bool) (left : Reduction) (struck : Tally) (values' : List ℕ) → get_or flags i false ≡ true → MakesTrial w l i flags values met left struck → met ≡ false
       → Advances w values (get_or l i 0) done values' → Eliminates w l i flags flags values'
-  eliminates-done met done left struck values' up tries is advances =
+  eliminates_done met done left struck values' up tries is advances =
       record {
         current = current;
-        struck = rw (trial-unmet w l flags current i values here before met left struck tries is);
+        struck = rw (trial_unmet w l flags current i values here before met left struck tries is);
         before = advanced w l flags current i values here before done values' up advances;
       }
 
   -- at a step that was struck before
-  pub eliminates-nothing : get_or flags i false ≡ false → Eliminates w l i flags flags values
-  eliminates-nothing down =
+  pub eliminates_nothing : get_or flags i false ≡ false → Eliminates w l i flags flags values
+  eliminates_nothing down =
       record {
         current = current;
-        struck = rw (unkept-fails (initial w) (goal w) (steps w l) (mask l flags) i (unkept w l flags current i values here before down));
+        struck = rw (unkept_fails (initial w) (goal w) (steps w l) (mask l flags) i (unkept w l flags current i values here before down));
         before = passed_over w l flags current i values here before down;
       }
 
@@ -78,21 +78,21 @@ pub record Eliminating (w l : List ℕ) (i : ℕ) (flags : Reduction) (values : 
   pub so_far : mask l flags ≡ eliminated (initial w) (goal w) (steps w l) i
   pub before : Before (initial w) (steps w l) (mask l flags) i values
 
-pub eliminating-start : (w l : List ℕ) (flags : Reduction) (values : List ℕ) → length l ≤ most-steps → valid (initial w) (goal w) (steps w l) ≡ true
-    → flags ≡ none-struck (length l) → values ≡ initial w → Eliminating w l 0 flags values
+pub eliminating_start : (w l : List ℕ) (flags : Reduction) (values : List ℕ) → length l ≤ most_steps → valid (initial w) (goal w) (steps w l) ≡ true
+    → flags ≡ none_struck (length l) → values ≡ initial w → Eliminating w l 0 flags values
 unfolding eliminated
-eliminating-start w l flags values few v is starts =
-    record { within = omega arith; current = all-current w l flags few is v; so_far = all-mask w l flags few is; before = rw starts (before-first (initial w) (steps w l) (mask l flags)) }
+eliminating_start w l flags values few v is starts =
+    record { within = omega arith; current = all_current w l flags few is v; so_far = all_mask w l flags few is; before = rw starts (before_first (initial w) (steps w l) (mask l flags)) }
 
-pub eliminating-more : (w l : List ℕ) (i : ℕ) (flags after : Reduction) (values next : List ℕ) → Eliminating w l i flags values → i < length l → Eliminates w l i flags after next
+pub eliminating_more : (w l : List ℕ) (i : ℕ) (flags after : Reduction) (values next : List ℕ) → Eliminating w l i flags values → i < length l → Eliminates w l i flags after next
     → Eliminating w l (i + 1) after next
 unfolding eliminated
-eliminating-more w l i flags after values next so here turn =
+eliminating_more w l i flags after values next so here turn =
     record { within = omega arith; current = turn.current; so_far = turn.struck ∙ rw (so.so_far, add-one); before = turn.before }
 
-pub eliminating-end : (w l : List ℕ) (i : ℕ) (flags : Reduction) (values : List ℕ) → Eliminating w l i flags values → length l ≤ i
+pub eliminating_end : (w l : List ℕ) (i : ℕ) (flags : Reduction) (values : List ℕ) → Eliminating w l i flags values → length l ≤ i
     → flags ≡ flags_of l (eliminate (initial w) (goal w) (steps w l))
 unfolding eliminate
-eliminating-end w l i flags values so past =
+eliminating_end w l i flags values so past =
     let all : length (steps w l) ≡ i = length-map l (action w) ∙ omega (arith, so.within) in
-    so.current.none-past ∙ rw (so.so_far, ← all)
+    so.current.none_past ∙ rw (so.so_far, ← all)

@@ -5,22 +5,22 @@ use Rattle.sheet.specs.Decode.{goal, initial}
 use Rattle.plan.specs.declared.check.Answer.{Answer}
 use Rattle.plan.specs.Valid.{steps}
 use Rattle.reduction.specs.Reduction.{Reduction, whole}
-use Rattle.reduction.specs.Trials.{Elimination-leaves, Greedy-leaves}
-use Rattle.reduced.specs.Reduced.{reduction-checks, Tells-left, Reduces}
+use Rattle.reduction.specs.Trials.{EliminationLeaves, GreedyLeaves}
+use Rattle.reduced.specs.Reduced.{reduction_checks, TellsLeft, Reduces}
 use Rattle.elimination.specs.declared.single.Elimination.{Elimination}
 use Rattle.elimination.specs.declared.single.Elimination.TheVariants.{Plain, Greedy}
 
 -- one of the two leaves the reduction m of the list by its written rule, trial by trial or round by round
-abbrev pub Left-by-rule : Elimination → List ℕ → List ℕ → Reduction → Type 0
-Left-by-rule Plain w l m = Elimination-leaves (initial w) (goal w) (steps w l) 0 (whole (steps w l)) m
-Left-by-rule Greedy w l m = Greedy-leaves (initial w) (goal w) (steps w l) (whole (steps w l)) m
+abbrev pub LeftByRule : Elimination → List ℕ → List ℕ → Reduction → Type 0
+LeftByRule Plain w l m = EliminationLeaves (initial w) (goal w) (steps w l) 0 (whole (steps w l)) m
+LeftByRule Greedy w l m = GreedyLeaves (initial w) (goal w) (steps w l) (whole (steps w l)) m
 
 -- the written rule leaves m, and nothing else
-abbrev pub Rule-leaves : Elimination → List ℕ → List ℕ → Reduction → Type 0
-Rule-leaves by w l m = (n : Reduction) → n ≡ m ↔ Left-by-rule by w l n
+abbrev pub RuleLeaves : Elimination → List ℕ → List ℕ → Reduction → Type 0
+RuleLeaves by w l m = (n : Reduction) → n ≡ m ↔ LeftByRule by w l n
 
--- the service: it answers with what the rule leaves, which is one reduction (`rule-leaves`)
+-- the service: it answers with what the rule leaves, which is one reduction (`rule_leaves`)
 abbrev pub Eliminates : Elimination → List ℕ → List ℕ → List ℕ → Answer → List ℕ → List ℕ → Type 0
 Eliminates by w l before given mask after =
-    Tells-left (Left-by-rule by w l) (λ m. Reduces w l m before given mask after)
-    (answer (reduction-checks w l (length before)))
+    TellsLeft (LeftByRule by w l) (λ m. Reduces w l m before given mask after)
+    (answer (reduction_checks w l (length before)))

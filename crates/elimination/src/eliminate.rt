@@ -4,8 +4,8 @@ ghost use Rattle.reduction.specs.Reduction.{valid};
 ghost use Rattle.sheet.specs.Decode.{goal, initial as initial-of};
 ghost use Rattle.plan.specs.Valid.{steps};
 ghost use Rattle.plan.specs.Readable.{Readable};
-ghost use Rattle.reduced.specs.between.Held.{flags_of};
-ghost use Rattle.elimination.specs.between.Left.{elimination-of};
+ghost use Rattle.reduced.specs.Between.Held.{flags_of};
+ghost use Rattle.elimination.specs.Between.Left.{elimination_of};
 
 use plan::limits::Plan;
 use reduced::held::all_kept;
@@ -18,7 +18,7 @@ use trial::trial;
 pub(crate) fn eliminate(words: &[u32], plan: &[u32]) -> [bool; Plan::STEPS]
     requires readable { Readable words.now plan.now }
     requires plan_value { valid (initial-of words.now) (goal words.now) (steps words.now plan.now) ≡ true }
-    ensures { result ≡ flags_of plan.now (elimination-of words.now plan.now) }
+    ensures { result ≡ flags_of plan.now (elimination_of words.now plan.now) }
 {
     let mut flags = all_kept(plan.len());
     let mut values = initial(words);

@@ -3,10 +3,10 @@ ghost use Rattle.std.specs.Prelude.{◌≡◌, true, length};
 ghost use Rattle.reduction.specs.Reduction.{valid};
 ghost use Rattle.sheet.specs.Decode.{goal, initial as initial-of};
 ghost use Rattle.plan.specs.Valid.{steps};
-ghost use Rattle.reduced.specs.between.Held.{mask, flags_of};
-ghost use Rattle.elimination.specs.between.Left.{greedy-elimination-of};
-ghost use Rattle.trial.specs.between.Current.{Current};
-ghost use Rattle.elimination.specs.between.Round.{Picks, better-of};
+ghost use Rattle.reduced.specs.Between.Held.{mask, flags_of};
+ghost use Rattle.elimination.specs.Between.Left.{greedy_elimination_of};
+ghost use Rattle.trial.specs.Between.Current.{Current};
+ghost use Rattle.elimination.specs.Between.Round.{Picks, better_of};
 ghost use Rattle.plan.specs.Readable.{Readable};
 
 use plan::limits::Plan;
@@ -27,7 +27,7 @@ pub(crate) struct Best {
 // The better of the best so far and a trial: the larger cost struck, then the more steps, the earlier where they are
 // equal.
 fn better(best: Best, tried: Tried) -> Best
-    ensures { result ≡ better-of best tried }
+    ensures { result ≡ better_of best tried }
 {
     if tried.succeeds {
         let flags = tried.flags;
@@ -84,7 +84,7 @@ pub(crate) fn greedy(words: &[u32], plan: &[u32]) -> [bool; Plan::STEPS]
     requires readable { Readable words.now plan.now }
     requires plan_value { valid (initial-of words.now) (goal words.now) (steps words.now plan.now) ≡ true }
     ensures { result ≡ flags_of plan.now
-        (greedy-elimination-of words.now plan.now) }
+        (greedy_elimination_of words.now plan.now) }
 {
     let mut flags = all_kept(plan.len());
     let mut rounds = 0;

@@ -4,9 +4,9 @@ ghost use Rattle.reduction.specs.Reduction.{valid};
 ghost use Rattle.sheet.specs.Decode.{goal, initial};
 ghost use Rattle.plan.specs.Valid.{steps};
 ghost use Rattle.plan.specs.Readable.{Readable};
-ghost use Rattle.reduced.specs.between.Held.{flags_of};
+ghost use Rattle.reduced.specs.Between.Held.{flags_of};
 ghost use Rattle.elimination.specs.Eliminations.{Eliminates};
-ghost use Rattle.elimination.specs.between.Left.{left_by};
+ghost use Rattle.elimination.specs.Between.Left.{left_by};
 
 use crate::eliminate::eliminate;
 use crate::greedy::greedy;

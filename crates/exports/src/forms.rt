@@ -1,10 +1,10 @@
 // The forms that programs read and print, over lent words and bytes.
 ghost use Rattle.lines.specs.Prints.{Prints};
-ghost use Rattle.records.specs.Bytes.{all-bytes};
+ghost use Rattle.records.specs.Bytes.{all_bytes};
 ghost use Rattle.layout.specs.Shown.{shown};
 ghost use Rattle.claim_report.specs.Licensed.{licensed};
 ghost use Rattle.report.specs.Shortened.{shortened};
-ghost use Rattle.words.specs.Found.{Reads-lent, Opens-lent};
+ghost use Rattle.words.specs.Found.{ReadsLent, OpensLent};
 
 use claim_report::put_licensed;
 use layout::shown::show;
@@ -15,17 +15,17 @@ use words::{open_record, read_text};
 // Packs words: their bytes, the lowest of each first, go to the front of `bytes`; how many were written is returned.
 #[unsafe(no_mangle)]
 pub extern "C" fn hollchiku_pack(words: &[u32], bytes: &mut [u8]) -> u64
-    ensures { Prints (all-bytes words.now) 0 bytes.old bytes.new result }
+    ensures { Prints (all_bytes words.now) 0 bytes.old bytes.new result }
 {
     pack(words, bytes) as u64
 }
 
 // Reads a text of words: they go to the front of `words`; 0 and how many they are go to `out`, or what is wrong: 1 and
 // the line of a field that is no word, 2 and the line of a word for which no text has room, 3 and 0 where the text is
-// too long to be read. 8,449 words have room for those of any text (`few-found`).
+// too long to be read. 8,449 words have room for those of any text (`few_found`).
 #[unsafe(no_mangle)]
 pub extern "C" fn hollchiku_read_words(text: &[u8], words: &mut [u32], out: &mut [u64])
-    ensures { Reads-lent text.now words.old words.new
+    ensures { ReadsLent text.now words.old words.new
         out.old out.new }
 {
     read_text(text, words, out);
@@ -36,7 +36,7 @@ pub extern "C" fn hollchiku_read_words(text: &[u8], words: &mut [u32], out: &mut
 // has and how many the list, go to `out`.
 #[unsafe(no_mangle)]
 pub extern "C" fn hollchiku_open(bytes: &[u8], words: &mut [u32], out: &mut [u64])
-    ensures { Opens-lent bytes.now words.old words.new
+    ensures { OpensLent bytes.now words.old words.new
         out.old out.new }
 {
     open_record(bytes, words, out);
@@ -44,7 +44,7 @@ pub extern "C" fn hollchiku_open(bytes: &[u8], words: &mut [u32], out: &mut [u64
 
 // Shows bytes: the text of the words that they are, in sections where these are a sheet with its list, goes to the
 // front of `text`, and nothing where there are more words than a text has or the last breaks off; how many bytes were
-// written is returned. 131,072 bytes have room for any text (`text-fits`).
+// written is returned. 131,072 bytes have room for any text (`text_fits`).
 #[unsafe(no_mangle)]
 pub extern "C" fn hollchiku_text_of(bytes: &[u8], text: &mut [u8]) -> u64
     ensures { Prints (shown bytes.now) 0 text.old text.new result }

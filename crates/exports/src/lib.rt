@@ -6,21 +6,23 @@
 // writes, on a refusal with document 01's zeros: `out`, `mask`, `part`, and `state` of `hollchiku_check_plan`. So are
 // `bytes`, which no call refuses, and `text` of `hollchiku_license_lines` and `hollchiku_shorten_lines`, where a
 // refusal has its line. A slice that is lent to be read is only read. forms: the forms that programs read and print.
+#![tactic(auto)]
+
 mod forms;
 
 ghost use Rattle.std.specs.Prelude.{◌≡◌, min, length};
 ghost use Rattle.std.proofs.lemmas.List.Edits.{sets};
 ghost use Rattle.refusal.specs.Check.{answer};
 ghost use Rattle.tally.specs.Tally.{one_more, comparison};
-ghost use Rattle.sheet.specs.Causes.{sheet-checks};
+ghost use Rattle.sheet.specs.Causes.{sheet_checks};
 ghost use Rattle.elimination.specs.declared.single.Elimination.TheVariants.{Plain, Greedy};
-ghost use Rattle.cheaper.specs.Cheaper.{cheaper-part};
-ghost use Rattle.lent.specs.Words.{answer-words, lent-tally, tally-words, order-number};
-ghost use Rattle.exports.specs.Services.{Steps-lent, Checks-lent, Courses-lent, Moves-lent};
-ghost use Rattle.exports.specs.Services.{Marks-lent, Translates-lent};
-ghost use Rattle.striking.specs.Strikes.{Eliminates-lent, Minimises-lent, Licenses-lent, Reduces-both-lent};
-ghost use Rattle.striking.specs.Strikes.{Cheaper-lent};
-ghost use Rattle.striking.specs.Statement.{Demand-three-lent, May-be-lodged-lent};
+ghost use Rattle.cheaper.specs.Cheaper.{cheaper_part};
+ghost use Rattle.lent.specs.Words.{answer_words, lent_tally, tally_words, order_number};
+ghost use Rattle.exports.specs.Services.{StepsLent, ChecksLent, CoursesLent, MovesLent};
+ghost use Rattle.exports.specs.Services.{MarksLent, TranslatesLent};
+ghost use Rattle.striking.specs.Strikes.{EliminatesLent, MinimisesLent, LicensesLent, ReducesBothLent};
+ghost use Rattle.striking.specs.Strikes.{CheaperLent};
+ghost use Rattle.striking.specs.Statement.{DemandThreeLent, MayBeLodgedLent};
 
 use access::put_all;
 use cheaper::both::kept_part;
@@ -43,7 +45,7 @@ use translation::translate::{Translated, translate};
 #[unsafe(no_mangle)]
 pub extern "C" fn hollchiku_check_sheet(words: &[u32], out: &mut [u64])
     ensures { out.new
-        ≡ sets out.old 0 (answer-words (answer (sheet-checks words.now))) }
+        ≡ sets out.old 0 (answer_words (answer (sheet_checks words.now))) }
 {
     write_verdict(out, check_sheet(words));
 }
@@ -52,7 +54,7 @@ pub extern "C" fn hollchiku_check_sheet(words: &[u32], out: &mut [u64])
 #[unsafe(no_mangle)]
 pub extern "C" fn hollchiku_tally_add(cost: u32, steps: u32, price: u32, out: &mut [u64])
     ensures { out.new
-        ≡ sets out.old 0 (tally-words (one_more (lent-tally cost steps) price)) }
+        ≡ sets out.old 0 (tally_words (one_more (lent_tally cost steps) price)) }
 {
     let after = Tally { cost, steps }.add(price);
     write_pair(out, 0, after.cost as u64, after.steps as u64);
@@ -66,7 +68,7 @@ pub extern "C" fn hollchiku_tally_compare(
     cost_b: u32,
     steps_b: u32,
 ) -> u32
-    ensures { result ≡ order-number (comparison (lent-tally cost_a steps_a) (lent-tally cost_b steps_b)) }
+    ensures { result ≡ order_number (comparison (lent_tally cost_a steps_a) (lent_tally cost_b steps_b)) }
 {
     let first = Tally {
         cost: cost_a,
@@ -87,7 +89,7 @@ pub extern "C" fn hollchiku_tally_compare(
 // of fewer words has zeros past its end, and what a step would write there is dropped.
 #[unsafe(no_mangle)]
 pub extern "C" fn hollchiku_step(words: &[u32], state: &mut [u32], action: u32, out: &mut [u64])
-    ensures { Steps-lent words.now action
+    ensures { StepsLent words.now action
         state.old state.new out.old out.new }
 {
     let stepped = step(words, read_state(state), action);
@@ -107,7 +109,7 @@ pub extern "C" fn hollchiku_check_plan(
     state: &mut [u32],
     out: &mut [u64],
 )
-    ensures { Checks-lent words.now plan.now
+    ensures { ChecksLent words.now plan.now
         state.old state.new out.old out.new }
 {
     let checked = check_plan(words, plan);
@@ -123,7 +125,7 @@ pub extern "C" fn hollchiku_check_plan(
 // refusal of what is read, or 0 and 0, then how many states these are go to `out`.
 #[unsafe(no_mangle)]
 pub extern "C" fn hollchiku_course(words: &[u32], plan: &[u32], states: &mut [u32], out: &mut [u64])
-    ensures { Courses-lent words.now plan.now
+    ensures { CoursesLent words.now plan.now
         states.old states.new out.old out.new }
 {
     let reached = plan_course(words, plan, states);
@@ -145,7 +147,7 @@ pub extern "C" fn hollchiku_moves(
     rows: &mut [u32],
     out: &mut [u64],
 )
-    ensures { Moves-lent words.now plan.now kept.now marked.now
+    ensures { MovesLent words.now plan.now kept.now marked.now
         rows.old rows.new out.old out.new }
 {
     let given = plan_moves(words, plan, kept, marked, rows);
@@ -156,7 +158,7 @@ pub extern "C" fn hollchiku_moves(
 // refusal, or 0 and 0, to `out`.
 #[unsafe(no_mangle)]
 pub extern "C" fn hollchiku_marks(words: &[u32], plan: &[u32], mask: &mut [u64], out: &mut [u64])
-    ensures { Marks-lent words.now plan.now
+    ensures { MarksLent words.now plan.now
         mask.old mask.new out.old out.new }
 {
     let marked = marks_mask(words, plan);
@@ -177,7 +179,7 @@ pub extern "C" fn hollchiku_eliminate(
     mask: &mut [u64],
     out: &mut [u64],
 )
-    ensures { Eliminates-lent Plain words.now plan.now
+    ensures { EliminatesLent Plain words.now plan.now
         output.old output.new mask.old mask.new
         out.old out.new }
 {
@@ -193,7 +195,7 @@ pub extern "C" fn hollchiku_greedy(
     mask: &mut [u64],
     out: &mut [u64],
 )
-    ensures { Eliminates-lent Greedy words.now plan.now
+    ensures { EliminatesLent Greedy words.now plan.now
         output.old output.new mask.old mask.new
         out.old out.new }
 {
@@ -209,7 +211,7 @@ pub extern "C" fn hollchiku_cheaper_left(
     mask: &mut [u64],
     out: &mut [u64],
 )
-    ensures { Cheaper-lent words.now plan.now
+    ensures { CheaperLent words.now plan.now
         output.old output.new mask.old mask.new
         out.old out.new }
 {
@@ -225,10 +227,10 @@ pub extern "C" fn hollchiku_exact(
     mask: &mut [u64],
     out: &mut [u64],
 )
-    ensures words { Minimises-lent words.now plan.now
+    ensures words { MinimisesLent words.now plan.now
         output.old output.new mask.old mask.new
         out.old out.new }
-    ensures demand_three { Demand-three-lent words.now plan.now
+    ensures demand_three { DemandThreeLent words.now plan.now
         output.old output.new mask.old mask.new
         out.old out.new }
 {
@@ -245,10 +247,10 @@ pub extern "C" fn hollchiku_license(
     mask: &mut [u64],
     out: &mut [u64],
 )
-    ensures words { Licenses-lent words.now plan.now
+    ensures words { LicensesLent words.now plan.now
         output.old output.new mask.old mask.new
         out.old out.new }
-    ensures may_be_lodged { May-be-lodged-lent words.now plan.now
+    ensures may_be_lodged { MayBeLodgedLent words.now plan.now
         output.old output.new mask.old mask.new
         out.old out.new }
 {
@@ -265,7 +267,7 @@ pub extern "C" fn hollchiku_cheaper(
     second: &mut [u32],
     out: &mut [u64],
 )
-    ensures { Reduces-both-lent words.now plan.now first.old first.new
+    ensures { ReducesBothLent words.now plan.now first.old first.new
         second.old second.new out.old out.new }
 {
     eliminate_both(words, plan, first, second, out);
@@ -283,9 +285,9 @@ pub extern "C" fn hollchiku_kept_part<'a>(
     part: &mut [u32],
 ) -> u64
     ensures part { part.new ≡ sets part.old 0
-        (cheaper-part first.now second.now (lent-tally cost steps) (lent-tally other others)) }
+        (cheaper_part first.now second.now (lent_tally cost steps) (lent_tally other others)) }
     ensures written { result ≡ min (length part.old) (length
-        (cheaper-part first.now second.now (lent-tally cost steps) (lent-tally other others))) }
+        (cheaper_part first.now second.now (lent_tally cost steps) (lent_tally other others))) }
 {
     let kept = kept_part(
         first,
@@ -303,7 +305,7 @@ pub extern "C" fn hollchiku_kept_part<'a>(
 // and how many words it has go to `out`.
 #[unsafe(no_mangle)]
 pub extern "C" fn hollchiku_translate(text: &[u8], output: &mut [u32], out: &mut [u64])
-    ensures { Translates-lent text.now output.old output.new
+    ensures { TranslatesLent text.now output.old output.new
         out.old out.new }
 {
     let given = translate(text, output);

@@ -3,9 +3,9 @@
 // none, and is taken as not wanted, which bars less, and as needed, so that its step counts as of use.
 ghost use Rattle.std.specs.Prelude.{◌≡◌, cond};
 ghost use Rattle.mask.specs.Mask.{digit as digit-of};
-ghost use Rattle.sheet.specs.between.Effects.{written_in};
-ghost use Rattle.fact_table.specs.between.Tables.{has-fact};
-ghost use Rattle.fact_bits.specs.between.Bits.{packed, Told-behind};
+ghost use Rattle.sheet.specs.Between.Effects.{written_in};
+ghost use Rattle.fact_table.specs.Between.Tables.{has_fact};
+ghost use Rattle.fact_bits.specs.Between.Bits.{packed, ToldBehind};
 
 use access::{flag, put64};
 use fact_table::{FACTS, IN, OUT, has, pass_back, stamp};
@@ -16,7 +16,7 @@ use sheet::group::{facts_of, goal};
 
 // One for a fact that the table has.
 fn digit(table: &[u8], fact: u32) -> u64
-    ensures { result ≡ digit-of (has-fact table.now fact) }
+    ensures { result ≡ digit-of (has_fact table.now fact) }
 {
     if has(table, fact) { 1 } else { 0 }
 }
@@ -59,7 +59,7 @@ pub struct Behind {
 
 // The bits of a plan's steps, of which `flags` has those that are kept in any case, by one walk from the last step.
 pub fn bits_behind(words: &[u32], plan: &[u32], flags: &[bool]) -> Behind
-    ensures { Told-behind words.now plan.now flags.now
+    ensures { ToldBehind words.now plan.now flags.now
         result.wanted result.useless }
 {
     let mut wanting = [OUT; FACTS];

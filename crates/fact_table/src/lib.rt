@@ -1,9 +1,11 @@
 // Tables with a byte for each fact, at the index that is the fact's word: the search's cuts are told by them. An entry
 // is a byte, since to fill tables of words costs more than the walks along a plan of small actions.
+#![tactic(auto)]
+
 ghost use Rattle.std.specs.Prelude.{◌≡◌};
-ghost use Rattle.sheet.specs.between.Effects.{written_in};
-ghost use Rattle.sheet.specs.between.Group.{facts-in};
-ghost use Rattle.fact_table.specs.between.Tables.{stamped, has-fact, passed-back};
+ghost use Rattle.sheet.specs.Between.Effects.{written_in};
+ghost use Rattle.sheet.specs.Between.Group.{facts_in};
+ghost use Rattle.fact_table.specs.Between.Tables.{stamped, has_fact, passed_back};
 
 use access::{byte, put8};
 use sheet::effects::Effects;
@@ -19,7 +21,7 @@ pub const OUT: u8 = 0;
 
 // Writes x at each fact of a group.
 pub fn stamp(words: &[u32], table: &mut [u8], group: Group, x: u8)
-    ensures { table.new ≡ stamped table.old (facts-in words.now group) x }
+    ensures { table.new ≡ stamped table.old (facts_in words.now group) x }
 {
     let mut rest = group;
     while rest.at < rest.end {
@@ -41,7 +43,7 @@ pub fn stamp_effects(words: &[u32], table: &mut [u8], effects: Effects, x: u8)
 
 // Whether the table has a fact.
 pub fn has(table: &[u8], fact: u32) -> bool
-    ensures { result ≡ has-fact table.now fact }
+    ensures { result ≡ has_fact table.now fact }
 {
     byte(table, fact as usize) == IN
 }
@@ -49,8 +51,8 @@ pub fn has(table: &[u8], fact: u32) -> bool
 // Makes a table of the facts that are wanted behind a step one of those that are wanted before it: what the step may
 // write is wanted no more, and what it needs is wanted, where it is flagged.
 pub fn pass_back(words: &[u32], table: &mut [u8], facts: ActionFacts, flagged: bool)
-    ensures { table.new ≡ passed-back table.old
-        (facts-in words.now facts.precondition)
+    ensures { table.new ≡ passed_back table.old
+        (facts_in words.now facts.precondition)
         (written_in words.now facts.effects) flagged }
 {
     stamp_effects(words, table, facts.effects, OUT);

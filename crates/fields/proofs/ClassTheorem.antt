@@ -7,110 +7,110 @@ use mathlib.Core.List.Memᴰ
 use mathlib.Core.List.{List, [], ◌∷◌, Memᴰ}
 use lib.Dec.{eqb}
 use borrow.Author.Tests.{eqb-true}
-use Rattle.ascii.specs.Bytes.{space, ascii-digit, split, all_digits}
-use Rattle.ascii.proofs.SplitLaws.{split_at, split-in}
+use Rattle.ascii.specs.Bytes.{space, ascii_digit, split, all_digits}
+use Rattle.ascii.proofs.SplitLaws.{split_at, split_in}
 use Rattle.fields.specs.declared.class.Class.TheVariants.{Digit, Minus, Space}
-use Rattle.fields.specs.between.Fields.{minus-sign, ends-word, class_of, words_of, same, minus_one, word-reads, all_read, line_reads}
-use Rattle.fields.proofs.ClassLaws.{class-minus, class-space}
+use Rattle.fields.specs.Between.Fields.{minus_sign, ends_word, class_of, words_of, same, minus_one, word_reads, all_read, line_reads}
+use Rattle.fields.proofs.ClassLaws.{class_minus, class_space}
 use Rattle.fields.proofs.WordLaws.{number_digits}
 
 -- a byte of a word
-abbrev In-word : ℕ → Type 0
-In-word b = (class_of b ≡ Digit) ⊎ (class_of b ≡ Minus)
+abbrev InWord : ℕ → Type 0
+InWord b = (class_of b ≡ Digit) ⊎ (class_of b ≡ Minus)
 
-digit-class : (b : ℕ) → ascii-digit b ≡ true → class_of b ≡ Digit
+digit_class : (b : ℕ) → ascii_digit b ≡ true → class_of b ≡ Digit
 unfolding class_of
-digit-class b e = rw (class_of, e)
+digit_class b e = rw (class_of, e)
 
-digits-in-word : (w : List ℕ) → all_digits w ≡ true → (b : ℕ) → Memᴰ b w → In-word b
+digits_in_word : (w : List ℕ) → all_digits w ≡ true → (b : ℕ) → Memᴰ b w → InWord b
 unfolding all_digits
-digits-in-word [] e b m = absurd (Memᴰ.not-nil m)
-digits-in-word (d ∷ ds) e b m = by-case (ascii-digit d) refl (digits-in-word ds) (Memᴰ.cases_cons m)
+digits_in_word [] e b m = absurd (Memᴰ.not-nil m)
+digits_in_word (d ∷ ds) e b m = by_case (ascii_digit d) refl (digits_in_word ds) (Memᴰ.cases_cons m)
   where
-    by-case : (t : Bool) → ascii-digit d ≡ t → (all_digits ds ≡ true → (b : ℕ) → Memᴰ b ds → In-word b) → (b ≡ d) ⊎ Memᴰ b ds → In-word b
-    by-case true is rest (inl here) = inl (ap class_of here ∙ digit-class d is)
-    by-case true is rest (inr later) = rest (rw is at e) b later
-    by-case false is rest n = absurd (false≢true (rw is at e))
+    by_case : (t : Bool) → ascii_digit d ≡ t → (all_digits ds ≡ true → (b : ℕ) → Memᴰ b ds → InWord b) → (b ≡ d) ⊎ Memᴰ b ds → InWord b
+    by_case true is rest (inl here) = inl (ap class_of here ∙ digit_class d is)
+    by_case true is rest (inr later) = rest (rw is at e) b later
+    by_case false is rest n = absurd (false≢true (rw is at e))
 
-minus-one-in-word : (b : ℕ) → Memᴰ b minus_one → In-word b
+minus_one_in_word : (b : ℕ) → Memᴰ b minus_one → InWord b
 unfolding class_of
-minus-one-in-word b m = first (Memᴰ.cases_cons m)
+minus_one_in_word b m = first (Memᴰ.cases_cons m)
   where
-    second : (b ≡ 49) ⊎ Memᴰ b [] → In-word b
+    second : (b ≡ 49) ⊎ Memᴰ b [] → InWord b
     second (inl e) = inl (ap class_of e)
     second (inr n) = absurd (Memᴰ.not-nil n)
 
-    first : (b ≡ minus-sign) ⊎ Memᴰ b (49 ∷ []) → In-word b
-    first (inl e) = inr (class-minus b e)
+    first : (b ≡ minus_sign) ⊎ Memᴰ b (49 ∷ []) → InWord b
+    first (inl e) = inr (class_minus b e)
     first (inr n) = second (Memᴰ.cases_cons n)
 
 -- two runs that are the same are equal
-pub same-equal : (xs ys : List ℕ) → same xs ys ≡ true → xs ≡ ys
+pub same_equal : (xs ys : List ℕ) → same xs ys ≡ true → xs ≡ ys
 unfolding same
-same-equal [] [] e = refl
-same-equal [] (y ∷ ys) e = absurd (false≢true e)
-same-equal (x ∷ xs) [] e = absurd (false≢true e)
-same-equal (x ∷ xs) (y ∷ ys) e = by-case (eqb x y) refl (same-equal xs ys)
+same_equal [] [] e = refl
+same_equal [] (y ∷ ys) e = absurd (false≢true e)
+same_equal (x ∷ xs) [] e = absurd (false≢true e)
+same_equal (x ∷ xs) (y ∷ ys) e = by_case (eqb x y) refl (same_equal xs ys)
   where
-    by-case : (t : Bool) → eqb x y ≡ t → (same xs ys ≡ true → xs ≡ ys) → x ∷ xs ≡ y ∷ ys
-    by-case true is rest = let here : x ≡ y = eqb-true x y is in let later : xs ≡ ys = rest (rw is at e) in cc
-    by-case false is rest = absurd (false≢true (rw is at e))
+    by_case : (t : Bool) → eqb x y ≡ t → (same xs ys ≡ true → xs ≡ ys) → x ∷ xs ≡ y ∷ ys
+    by_case true is rest = let here : x ≡ y = eqb-true x y is in let later : xs ≡ ys = rest (rw is at e) in cc
+    by_case false is rest = absurd (false≢true (rw is at e))
 
-word-classes : (w : List ℕ) → word-reads w ≡ true → (b : ℕ) → Memᴰ b w → In-word b
-unfolding word-reads
-word-classes w e b m = by-case (same w minus_one) refl
+word_classes : (w : List ℕ) → word_reads w ≡ true → (b : ℕ) → Memᴰ b w → InWord b
+unfolding word_reads
+word_classes w e b m = by_case (same w minus_one) refl
   where
-    by-case : (t : Bool) → same w minus_one ≡ t → In-word b
-    by-case true is = minus-one-in-word b (rw (same-equal w minus_one is) at m)
-    by-case false is = digits-in-word w (number_digits w (rw is at e)) b m
+    by_case : (t : Bool) → same w minus_one ≡ t → InWord b
+    by_case true is = minus_one_in_word b (rw (same_equal w minus_one is) at m)
+    by_case false is = digits_in_word w (number_digits w (rw is at e)) b m
 
-all-words-read : (ws : List (List ℕ)) → all_read ws ≡ true → (w : List ℕ) → Memᴰ w ws → word-reads w ≡ true
+all_words_read : (ws : List (List ℕ)) → all_read ws ≡ true → (w : List ℕ) → Memᴰ w ws → word_reads w ≡ true
 unfolding all_read
-all-words-read [] e w m = absurd (Memᴰ.not-nil m)
-all-words-read (v ∷ vs) e w m = by-case (word-reads v) refl (all-words-read vs) (Memᴰ.cases_cons m)
+all_words_read [] e w m = absurd (Memᴰ.not-nil m)
+all_words_read (v ∷ vs) e w m = by_case (word_reads v) refl (all_words_read vs) (Memᴰ.cases_cons m)
   where
-    by-case : (t : Bool) → word-reads v ≡ t → (all_read vs ≡ true → (w : List ℕ) → Memᴰ w vs → word-reads w ≡ true) → (w ≡ v) ⊎ Memᴰ w vs
-        → word-reads w ≡ true
-    by-case true is rest (inl here) = ap word-reads here ∙ is
-    by-case true is rest (inr later) = rest (rw is at e) w later
-    by-case false is rest n = absurd (false≢true (rw is at e))
+    by_case : (t : Bool) → word_reads v ≡ t → (all_read vs ≡ true → (w : List ℕ) → Memᴰ w vs → word_reads w ≡ true) → (w ≡ v) ⊎ Memᴰ w vs
+        → word_reads w ≡ true
+    by_case true is rest (inl here) = ap word_reads here ∙ is
+    by_case true is rest (inr later) = rest (rw is at e) w later
+    by_case false is rest n = absurd (false≢true (rw is at e))
 
 -- words all of whose bytes are bytes of words
-abbrev All-in-word : List (List ℕ) → Type 0
-All-in-word ws = (w : List ℕ) → Memᴰ w ws → (b : ℕ) → Memᴰ b w → In-word b
+abbrev AllInWord : List (List ℕ) → Type 0
+AllInWord ws = (w : List ℕ) → Memᴰ w ws → (b : ℕ) → Memᴰ b w → InWord b
 
 -- as are those without the first byte
-shorter : (d : ℕ) (w : List ℕ) (ws : List (List ℕ)) → All-in-word ((d ∷ w) ∷ ws) → All-in-word (w ∷ ws)
-shorter d w ws all v m b n = by-case (Memᴰ.cases_cons m)
+shorter : (d : ℕ) (w : List ℕ) (ws : List (List ℕ)) → AllInWord ((d ∷ w) ∷ ws) → AllInWord (w ∷ ws)
+shorter d w ws all v m b n = by_case (Memᴰ.cases_cons m)
   where
-    by-case : (v ≡ w) ⊎ Memᴰ v ws → In-word b
-    by-case (inl here) = all (d ∷ w) (Memᴰ.head refl) b (Memᴰ.tail (rw here at n))
-    by-case (inr later) = all v (Memᴰ.tail later) b n
+    by_case : (v ≡ w) ⊎ Memᴰ v ws → InWord b
+    by_case (inl here) = all (d ∷ w) (Memᴰ.head refl) b (Memᴰ.tail (rw here at n))
+    by_case (inr later) = all v (Memᴰ.tail later) b n
 
 -- a byte of a line is one of a word, or a space
-line-bytes : (line : List ℕ) → All-in-word (words_of line) → (b : ℕ) → Memᴰ b line → In-word b ⊎ (ends-word b ≡ true)
-line-bytes [] all b m = absurd (Memᴰ.not-nil m)
-line-bytes (d ∷ ds) all b m = by-case (ends-word d) refl (line-bytes ds) (Memᴰ.cases_cons m)
+line_bytes : (line : List ℕ) → AllInWord (words_of line) → (b : ℕ) → Memᴰ b line → InWord b ⊎ (ends_word b ≡ true)
+line_bytes [] all b m = absurd (Memᴰ.not-nil m)
+line_bytes (d ∷ ds) all b m = by_case (ends_word d) refl (line_bytes ds) (Memᴰ.cases_cons m)
   where
-    by-case : (t : Bool) → ends-word d ≡ t → (All-in-word (words_of ds) → (b : ℕ) → Memᴰ b ds → In-word b ⊎ (ends-word b ≡ true))
-        → (b ≡ d) ⊎ Memᴰ b ds → In-word b ⊎ (ends-word b ≡ true)
-    by-case true is rest (inl here) = inr (ap ends-word here ∙ is)
-    by-case true is rest (inr later) =
-        let all_words : All-in-word ([] ∷ words_of ds) = rw (split_at ends-word d ds is) at all in
+    by_case : (t : Bool) → ends_word d ≡ t → (AllInWord (words_of ds) → (b : ℕ) → Memᴰ b ds → InWord b ⊎ (ends_word b ≡ true))
+        → (b ≡ d) ⊎ Memᴰ b ds → InWord b ⊎ (ends_word b ≡ true)
+    by_case true is rest (inl here) = inr (ap ends_word here ∙ is)
+    by_case true is rest (inr later) =
+        let all_words : AllInWord ([] ∷ words_of ds) = rw (split_at ends_word d ds is) at all in
         rest (λ w n. all_words w (Memᴰ.tail n)) b later
-    by-case false is rest (inl here) =
-        let all_words : All-in-word ((d ∷ (split ends-word ds).first) ∷ (split ends-word ds).others) = rw (split-in ends-word d ds is) at all in
-        inl (all_words (d ∷ (split ends-word ds).first) (Memᴰ.head refl) b (Memᴰ.head here))
-    by-case false is rest (inr later) =
-        let all_words : All-in-word ((d ∷ (split ends-word ds).first) ∷ (split ends-word ds).others) = rw (split-in ends-word d ds is) at all in
-        rest (shorter d (split ends-word ds).first (split ends-word ds).others all_words) b later
+    by_case false is rest (inl here) =
+        let all_words : AllInWord ((d ∷ (split ends_word ds).first) ∷ (split ends_word ds).others) = rw (split_in ends_word d ds is) at all in
+        inl (all_words (d ∷ (split ends_word ds).first) (Memᴰ.head refl) b (Memᴰ.head here))
+    by_case false is rest (inr later) =
+        let all_words : AllInWord ((d ∷ (split ends_word ds).first) ∷ (split ends_word ds).others) = rw (split_in ends_word d ds is) at all in
+        rest (shorter d (split ends_word ds).first (split ends_word ds).others all_words) b later
 
 -- "only names and keyword lines may hold something else": a line of numbers does not
-pub classes-of-numbers : (line : List ℕ) → line_reads line ≡ true → (b : ℕ) → Memᴰ b line
+pub classes_of_numbers : (line : List ℕ) → line_reads line ≡ true → (b : ℕ) → Memᴰ b line
     → (class_of b ≡ Digit) ⊎ (class_of b ≡ Minus) ⊎ (class_of b ≡ Space)
-classes-of-numbers line e b m = by-case (line-bytes line (λ w n. word-classes w (all-words-read (words_of line) e w n)) b m)
+classes_of_numbers line e b m = by_case (line_bytes line (λ w n. word_classes w (all_words_read (words_of line) e w n)) b m)
   where
-    by-case : In-word b ⊎ (ends-word b ≡ true) → (class_of b ≡ Digit) ⊎ (class_of b ≡ Minus) ⊎ (class_of b ≡ Space)
-    by-case (inl (inl digit)) = inl digit
-    by-case (inl (inr minus)) = inr (inl minus)
-    by-case (inr is-space) = inr (inr (class-space b (eqb-true b space is-space)))
+    by_case : InWord b ⊎ (ends_word b ≡ true) → (class_of b ≡ Digit) ⊎ (class_of b ≡ Minus) ⊎ (class_of b ≡ Space)
+    by_case (inl (inl digit)) = inl digit
+    by_case (inl (inr minus)) = inr (inl minus)
+    by_case (inr is_space) = inr (inr (class_space b (eqb-true b space is_space)))

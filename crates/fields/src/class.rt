@@ -1,7 +1,7 @@
 // The five classes of bytes.
 ghost use Rattle.std.specs.Prelude.{◌≡◌};
-ghost use Rattle.ascii.specs.Bytes.{ascii-digit};
-ghost use Rattle.fields.specs.between.Fields.{class_of};
+ghost use Rattle.ascii.specs.Bytes.{ascii_digit};
+ghost use Rattle.fields.specs.Between.Fields.{class_of};
 
 #[derive(Drop)]
 pub(crate) enum Class {
@@ -27,7 +27,7 @@ pub(crate) fn classify(byte: u8) -> Class
 
 // Whether a byte is of the first class. Most bytes of a line of numbers are, and they are tested for no other.
 pub(crate) fn is_digit(byte: u8) -> bool
-    ensures { result ≡ ascii-digit byte }
+    ensures { result ≡ ascii_digit byte }
 {
     match byte {
         b'0'..=b'9' => true,

@@ -1,7 +1,7 @@
 // Lines of a text.
 ghost use Rattle.std.specs.Prelude.{◌≡◌, ◌+◌, ◌≤◌, length, drop};
-ghost use Rattle.ascii.specs.Bytes.{ends-line, split};
-ghost use Rattle.fields.specs.between.Reading.{has-line-end, begins-line};
+ghost use Rattle.ascii.specs.Bytes.{ends_line, split};
+ghost use Rattle.fields.specs.Between.Reading.{has_line_end, begins_line};
 
 use crate::class::{Class, classify};
 
@@ -12,7 +12,7 @@ const BLOCK: usize = 16;
 // can be tested at once.
 fn ends_within(block: &[u8]) -> bool
     requires { length block.now ≡ 16 }
-    ensures { result ≡ has-line-end block.now }
+    ensures { result ≡ has_line_end block.now }
 {
     let mut found = false;
     let mut k = 0;
@@ -28,8 +28,8 @@ fn ends_within(block: &[u8]) -> bool
 
 // Passes over blocks in which no line ends, from index `at` on: the line ends where it did.
 fn skip_blocks(text: &[u8], at: usize) -> usize
-    ensures { (at ≤ result) × (result + length (split ends-line (drop result text.now)).first
-        ≡ at + length (split ends-line (drop at text.now)).first) }
+    ensures { (at ≤ result) × (result + length (split ends_line (drop result text.now)).first
+        ≡ at + length (split ends_line (drop at text.now)).first) }
 {
     if text.len() < BLOCK {
         return at;
@@ -47,7 +47,7 @@ fn skip_blocks(text: &[u8], at: usize) -> usize
 
 // Where the line that begins at index `at` ends: the index of its line end, or of the text's end where it has none.
 pub fn line_end(text: &[u8], at: usize) -> usize
-    ensures { result ≡ at + length (split ends-line (drop at text.now)).first }
+    ensures { result ≡ at + length (split ends_line (drop at text.now)).first }
 {
     let mut i = skip_blocks(text, at);
     while i < text.len() {
@@ -62,7 +62,7 @@ pub fn line_end(text: &[u8], at: usize) -> usize
 
 // Whether the bytes from index `at` on begin with this line and its line end.
 pub fn begins_with(text: &[u8], at: usize, line: &[u8]) -> bool
-    ensures { result ≡ begins-line (drop at text.now) line.now }
+    ensures { result ≡ begins_line (drop at text.now) line.now }
 {
     if text.len() <= at {
         return false;

@@ -1,10 +1,10 @@
 // One word of a line of numbers.
 ghost use Rattle.std.specs.Prelude.{◌≡◌, true, ◌≤◌};
-ghost use Rattle.ascii.specs.Bytes.{ascii-digit};
-ghost use Rattle.fields.specs.between.Numbers.{most-number};
-ghost use Rattle.fields.specs.between.Fields.{is_number, word-reads};
+ghost use Rattle.ascii.specs.Bytes.{ascii_digit};
+ghost use Rattle.fields.specs.Between.Numbers.{most_number};
+ghost use Rattle.fields.specs.Between.Fields.{is_number, word_reads};
 ghost use Rattle.fields.specs.declared.word.Behind.TheVariants.{Neither};
-ghost use Rattle.fields.specs.between.Reading.{grown, behind-byte, Reads-digits, Reads-word};
+ghost use Rattle.fields.specs.Between.Reading.{grown, behind_byte, ReadsDigits, ReadsWord};
 
 use crate::class::{Class, classify, is_digit};
 use crate::limits::{ANY, MOST};
@@ -40,7 +40,7 @@ fn no_word(at: usize) -> Word
 
 // What stands behind a word whose next byte this is.
 fn behind_word(byte: u8) -> Behind
-    ensures { result ≡ behind-byte byte }
+    ensures { result ≡ behind_byte byte }
 {
     let read = classify(byte);
     match read {
@@ -52,8 +52,8 @@ fn behind_word(byte: u8) -> Behind
 
 // The number that one more digit makes.
 fn grow(value: u32, digit: u8) -> u32
-    requires { (value ≤ most-number) × (ascii-digit digit ≡ true) }
-    ensures { (result ≡ grown value digit) × (result ≤ most-number) }
+    requires { (value ≤ most_number) × (ascii_digit digit ≡ true) }
+    ensures { (result ≡ grown value digit) × (result ≤ most_number) }
 {
     let more = 10 * value + (digit - b'0') as u32;
     if MOST < more { MOST } else { more }
@@ -61,7 +61,7 @@ fn grow(value: u32, digit: u8) -> u32
 
 // The digits from index `at` on.
 fn read_digits(text: &[u8], at: usize) -> Word
-    ensures { Reads-digits text.now at result }
+    ensures { ReadsDigits text.now at result }
 {
     let mut value = 0;
     let mut i = at;
@@ -87,7 +87,7 @@ fn read_digits(text: &[u8], at: usize) -> Word
 
 // The word from index `at` on, if it is a number. Behind a zero in front a digit is neither a space nor a line end.
 pub fn read_number(text: &[u8], at: usize) -> Word
-    ensures { Reads-word is_number text.now at result }
+    ensures { ReadsWord is_number text.now at result }
 {
     let first = byte(text, at);
     if first == b'0' {
@@ -106,7 +106,7 @@ pub fn read_number(text: &[u8], at: usize) -> Word
 
 // The word from index `at` on, if it is a number or −1.
 pub fn read_word(text: &[u8], at: usize) -> Word
-    ensures { Reads-word word-reads text.now at result }
+    ensures { ReadsWord word_reads text.now at result }
 {
     if byte(text, at) == b'-' {
         if byte(text, at + 1) == b'1' {

@@ -1,2 +1,2 @@
 -- between: what functions hand to each other, which need not be believed.
-pub mod between
+pub mod Between

@@ -1,15 +1,15 @@
 // Keywords and names. A reader that has stopped stays where it is.
 ghost use Rattle.std.specs.Prelude.{◌≡◌, false, List, [], ◌∷◌, ℕ};
-ghost use Rattle.fields.specs.between.Reading.{has-line-end};
-ghost use Rattle.form.specs.between.Form.{keyword as due-keyword, name as due-name, times};
-ghost use Rattle.form.specs.between.Reading.{Within, Reads};
+ghost use Rattle.fields.specs.Between.Reading.{has_line_end};
+ghost use Rattle.form.specs.Between.Form.{keyword as due-keyword, name as due-name, times};
+ghost use Rattle.form.specs.Between.Reading.{Within, Reads};
 
 use crate::reader::Reader;
 use fields::lines::{begins_with, line_end};
 
 // Reads a keyword.
 pub fn keyword(text: &[u8], r: Reader, word: &[u8]) -> Reader
-    requires { Within text.now r × (has-line-end word.now ≡ false) }
+    requires { Within text.now r × (has_line_end word.now ≡ false) }
     ensures { (tape : List ℕ)
         → Reads (due-keyword word.now ∷ []) text.now r tape result tape }
 {

@@ -1,7 +1,7 @@
 // How far a text is read.
 ghost use Rattle.std.specs.Prelude.{◌≡◌, cond, ◌+◌, ◌≤◌, ◌<◌, ◌^◌};
 ghost use Rattle.refusal.specs.Place.{when, or_else};
-ghost use Rattle.form.specs.between.Reading.{barred-at};
+ghost use Rattle.form.specs.Between.Reading.{barred_at};
 
 // The index of the next line; how many lines and numbers were read; the first line that no sheet can say, or 0; and the
 // line that is not what it must be, or 0: behind that one no line is read.
@@ -52,7 +52,7 @@ impl Reader {
     pub fn past_barred(self, at: usize, count: usize, bars: bool) -> Reader
         requires { self.line < at }
         ensures { (result ≡ record { at = at; line = self.line + 1; count = count; barred = result.barred; broken = 0 })
-            × (barred-at result.barred ≡ or_else (barred-at self.barred) (when bars (self.line + 1))) }
+            × (barred_at result.barred ≡ or_else (barred_at self.barred) (when bars (self.line + 1))) }
     {
         Reader {
             at,
@@ -87,7 +87,7 @@ impl Reader {
 // The first line that no sheet can say, or 0, after a line like that or any other.
 fn first_barred(before: usize, is: bool, line: usize) -> usize
     requires { 1 ≤ line }
-    ensures { barred-at result ≡ or_else (barred-at before) (when is line) }
+    ensures { barred_at result ≡ or_else (barred_at before) (when is line) }
 {
     if before != 0 {
         return before;

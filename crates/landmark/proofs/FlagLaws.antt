@@ -8,47 +8,47 @@ use mathlib.Core.Bool.{Bool, true}
 use mathlib.Core.List.{List}
 use lib.ListN.{length}
 use Rattle.reduction.specs.Reduction.{Reduction, keeps}
-use Rattle.plan.specs.Limits.{most-steps}
+use Rattle.plan.specs.Limits.{most_steps}
 use Rattle.plan.specs.Readable.{Readable}
-use Rattle.reduced.specs.between.Held.{flags_of}
+use Rattle.reduced.specs.Between.Held.{flags_of}
 use Rattle.landmark.specs.Marks.{marks}
-use Rattle.landmark.specs.between.Passes.{framed-list, pass, ends-up, steps-held}
-use Rattle.landmark.proofs.PassTheorem.{Passing, start-flagged, passing-start, passing-more, passed-all, passed-settled}
+use Rattle.landmark.specs.Between.Passes.{framed_list, pass, ends_up, steps_held}
+use Rattle.landmark.proofs.PassTheorem.{Passing, start_flagged, passing_start, passing_more, passed_all, passed_settled}
 
 -- where the loop stands after r passes along the n steps of the list l
 pub record Searching (w l : List ℕ) (n r : ℕ) (flags : Reduction) : Type 0 where
   pub counted : n ≡ length l
-  pub few : n ≤ most-steps
+  pub few : n ≤ most_steps
   pub reached : r ≤ n
   pub passing : (readable : Readable w l) → Passing w l readable r flags
 
 module _ (w l : List ℕ) (n : ℕ) where
-  pub searching-start : (flags : Reduction) → n ≡ length l → n ≤ most-steps → flags ≡ ends-up n → Searching w l n 0 flags
-  searching-start flags counted few is =
-      record { counted = counted; few = few; reached = omega arith; passing = λ readable. rw (is, counted) (passing-start w l readable) }
+  pub searching_start : (flags : Reduction) → n ≡ length l → n ≤ most_steps → flags ≡ ends_up n → Searching w l n 0 flags
+  searching_start flags counted few is =
+      record { counted = counted; few = few; reached = omega arith; passing = λ readable. rw (is, counted) (passing_start w l readable) }
 
   module _ (r : ℕ) (flags next : Reduction) (along : Searching w l n r flags)
-      (passes : Readable w l → keeps flags 0 → next ≡ pass (framed-list w l) flags) where
-    next-is : (readable : Readable w l) → next ≡ pass (framed-list w l) flags
-    next-is readable = passes readable (start-flagged w l readable r flags (along.passing readable))
+      (passes : Readable w l → keeps flags 0 → next ≡ pass (framed_list w l) flags) where
+    next_is : (readable : Readable w l) → next ≡ pass (framed_list w l) flags
+    next_is readable = passes readable (start_flagged w l readable r flags (along.passing readable))
 
     -- one pass more
-    pub searching-more : r < n → Searching w l n (r + 1) next
-    searching-more some =
+    pub searching_more : r < n → Searching w l n (r + 1) next
+    searching_more some =
         record {
           counted = along.counted;
           few = along.few;
           reached = omega arith;
-          passing = λ readable. rw (add-one r) (passing-more w l readable r flags next (along.passing readable) (next-is readable));
+          passing = λ readable. rw (add-one r) (passing_more w l readable r flags next (along.passing readable) (next_is readable));
         }
 
     -- it changed nothing
-    pub searching-settled : (steps : Reduction) (b : Bool) → (b ≡ true → next ≡ flags) → b ≡ true → steps ≡ steps-held n flags → Readable w l
+    pub searching_settled : (steps : Reduction) (b : Bool) → (b ≡ true → next ≡ flags) → b ≡ true → steps ≡ steps_held n flags → Readable w l
         → steps ≡ flags_of l (marks w l)
-    searching-settled steps b same up is readable =
-        is ∙ rw along.counted (passed-settled w l readable r flags (along.passing readable) (sym (next-is readable) ∙ same up))
+    searching_settled steps b same up is readable =
+        is ∙ rw along.counted (passed_settled w l readable r flags (along.passing readable) (sym (next_is readable) ∙ same up))
 
   -- there were as many passes as steps
-  pub searching-done : (r : ℕ) (flags steps : Reduction) → Searching w l n r flags → n ≤ r → steps ≡ steps-held n flags → Readable w l → steps ≡ flags_of l (marks w l)
-  searching-done r flags steps along done is readable =
-      is ∙ rw along.counted (passed-all w l readable r flags (along.passing readable) (omega (arith, along.counted, along.reached)))
+  pub searching_done : (r : ℕ) (flags steps : Reduction) → Searching w l n r flags → n ≤ r → steps ≡ steps_held n flags → Readable w l → steps ≡ flags_of l (marks w l)
+  searching_done r flags steps along done is readable =
+      is ∙ rw along.counted (passed_all w l readable r flags (along.passing readable) (omega (arith, along.counted, along.reached)))

@@ -10,73 +10,73 @@ use lib.ListN.{length, replicate}
 use Rattle.refusal.specs.declared.Refusal.{Refusal}
 use Rattle.refusal.specs.declared.Verdict.{Verdict}
 use Rattle.refusal.specs.declared.Verdict.TheVariants.{Passed, Refused as Refused-verdict}
-use Rattle.refusal.specs.Refusal.{told-refusal}
+use Rattle.refusal.specs.Refusal.{told_refusal}
 use Rattle.refusal.specs.Check.{answer}
-use Rattle.refusal.proofs.CheckLaws.{answer-nothing}
+use Rattle.refusal.proofs.CheckLaws.{answer_nothing}
 use Rattle.reduction.specs.Reduction.{Reduction}
-use Rattle.reduction.proofs.marks.LandmarkTheorem.{landmarks-length}
+use Rattle.reduction.proofs.marks.LandmarkTheorem.{landmarks_length}
 use Rattle.tally.specs.declared.Tally.{Tally}
-use Rattle.mask.specs.Mask.{mask-length, mask-words}
+use Rattle.mask.specs.Mask.{mask_length, mask_words}
 use Rattle.sheet.specs.Decode.{initial, goal}
 use Rattle.plan.specs.declared.check.Answer.{Answer}
 use Rattle.plan.specs.declared.check.Answer.TheVariants.{Valid, Refused}
-use Rattle.plan.specs.Limits.{most-steps}
+use Rattle.plan.specs.Limits.{most_steps}
 use Rattle.plan.specs.Valid.{steps}
 use Rattle.plan.specs.Readable.{Readable}
-use Rattle.plan.specs.Checked.{lodged-checks, plan-checks, told-answer, Checks}
-use Rattle.plan.specs.between.Lodged.{Checks-lodged}
-use Rattle.plan.proofs.PlanLaws.{passed-readable}
-use Rattle.reduced.specs.between.Held.{mask, flags_of, Leaves}
+use Rattle.plan.specs.Checked.{lodged_checks, plan_checks, told_answer, Checks}
+use Rattle.plan.specs.Between.Lodged.{ChecksLodged}
+use Rattle.plan.proofs.PlanLaws.{passed_readable}
+use Rattle.reduced.specs.Between.Held.{mask, flags_of, Leaves}
 use Rattle.reduced.proofs.HeldLaws.{leaves}
 use Rattle.landmark.specs.Marks.{marks, Masks}
-use Rattle.landmark.specs.between.Flagged.{Marks, Marks-lodged}
+use Rattle.landmark.specs.Between.Flagged.{Marks, MarksLodged}
 
 -- a list over the limit can't be read
-pub too_long : (w l : List ℕ) (flags : Reduction) → most-steps < length l → Readable w l → flags ≡ flags_of l (marks w l)
+pub too_long : (w l : List ℕ) (flags : Reduction) → most_steps < length l → Readable w l → flags ≡ flags_of l (marks w l)
 too_long w l flags long readable = absurd (omega (arith, readable.few))
 
 -- the flags of a list that can be read hold its marks
-pub marks-leave : (w l : List ℕ) (flags : Reduction) → flags ≡ flags_of l (marks w l) → Leaves l (marks w l) flags
+pub marks_leave : (w l : List ℕ) (flags : Reduction) → flags ≡ flags_of l (marks w l) → Leaves l (marks w l) flags
 unfolding marks
-marks-leave w l flags is = leaves w l (marks w l) (marks w l) flags (landmarks-length (initial w) (goal w) (steps w l)) refl is
+marks_leave w l flags is = leaves w l (marks w l) (marks w l) flags (landmarks_length (initial w) (goal w) (steps w l)) refl is
 
-module _ (w l : List ℕ) (v : Verdict) (given : Answer) (state : List ℕ) (checks : Checks-lodged most-steps w l v given state) where
+module _ (w l : List ℕ) (v : Verdict) (given : Answer) (state : List ℕ) (checks : ChecksLodged most_steps w l v given state) where
   -- a list is refused, with no flag
-  pub lodged-refused : (r : Refusal) → given ≡ Refused r → Marks-lodged w l v (Refused r) (replicate most-steps false)
-  lodged-refused r is =
+  pub lodged_refused : (r : Refusal) → given ≡ Refused r → MarksLodged w l v (Refused r) (replicate most_steps false)
+  lodged_refused r is =
       record {
         checked = λ besides asked.
-            let all : Checks (lodged-checks most-steps besides w l) w l given state = checks.checked besides asked in
-            let refuses : answer (lodged-checks most-steps besides w l) ≡ some (told-refusal r) = sym all.refusal ∙ ap told-answer is in
+            let all : Checks (lodged_checks most_steps besides w l) w l given state = checks.checked besides asked in
+            let refuses : answer (lodged_checks most_steps besides w l) ≡ some (told_refusal r) = sym all.refusal ∙ ap told_answer is in
             record { refusal = sym refuses; tally = rw is at all.tally; flagged = rw refuses };
       }
 
   -- and one that passes is marked
-  pub lodged-marked : (t : Tally) (flags : Reduction) → given ≡ Valid t → (Readable w l → flags ≡ flags_of l (marks w l)) → Marks-lodged w l v (Valid t) flags
-  lodged-marked t flags is flagged =
+  pub lodged_marked : (t : Tally) (flags : Reduction) → given ≡ Valid t → (Readable w l → flags ≡ flags_of l (marks w l)) → MarksLodged w l v (Valid t) flags
+  lodged_marked t flags is flagged =
       record {
         checked = λ besides asked.
-            let all : Checks (lodged-checks most-steps besides w l) w l given state = checks.checked besides asked in
-            let passes : answer (lodged-checks most-steps besides w l) ≡ none = sym all.refusal ∙ ap told-answer is in
-            record { refusal = sym passes; tally = rw is at all.tally; flagged = rw passes (flagged (passed-readable _ besides w l passes)) };
+            let all : Checks (lodged_checks most_steps besides w l) w l given state = checks.checked besides asked in
+            let passes : answer (lodged_checks most_steps besides w l) ≡ none = sym all.refusal ∙ ap told_answer is in
+            record { refusal = sym passes; tally = rw is at all.tally; flagged = rw passes (flagged (passed_readable _ besides w l passes)) };
       }
 
 -- the service, where nothing is asked besides
-module _ (w l : List ℕ) (given : Answer) (flags : Reduction) (lodged : Marks-lodged w l Passed given flags) where
-  all : Marks (plan-checks w l) w l given flags
-  all = lodged.checked _ (sym answer-nothing)
+module _ (w l : List ℕ) (given : Answer) (flags : Reduction) (lodged : MarksLodged w l Passed given flags) where
+  all : Marks (plan_checks w l) w l given flags
+  all = lodged.checked _ (sym answer_nothing)
 
-  pub masks-refused : (r : Refusal) → given ≡ Refused r → Masks w l (Refused-verdict r) (replicate mask-length 0)
-  masks-refused r is =
-      let refuses : answer (plan-checks w l) ≡ some (told-refusal r) = sym all.refusal ∙ ap told-answer is in
-      record { refusal = sym refuses; told-by = rw refuses }
+  pub masks_refused : (r : Refusal) → given ≡ Refused r → Masks w l (Refused-verdict r) (replicate mask_length 0)
+  masks_refused r is =
+      let refuses : answer (plan_checks w l) ≡ some (told_refusal r) = sym all.refusal ∙ ap told_answer is in
+      record { refusal = sym refuses; told_by = rw refuses }
 
   module _ (t : Tally) (is : given ≡ Valid t) where
-    passes : answer (plan-checks w l) ≡ none
-    passes = sym all.refusal ∙ ap told-answer is
+    passes : answer (plan_checks w l) ≡ none
+    passes = sym all.refusal ∙ ap told_answer is
 
-    pub flags-leave : Leaves l (marks w l) flags
-    flags-leave = marks-leave w l flags (rw passes at all.flagged)
+    pub flags_leave : Leaves l (marks w l) flags
+    flags_leave = marks_leave w l flags (rw passes at all.flagged)
 
-    pub masks-passed : (words : List ℕ) → words ≡ mask-words (mask l flags) → Masks w l Passed words
-    masks-passed words told-by = record { refusal = sym passes; told-by = rw passes (told-by ∙ ap mask-words flags-leave.same) }
+    pub masks_passed : (words : List ℕ) → words ≡ mask_words (mask l flags) → Masks w l Passed words
+    masks_passed words told_by = record { refusal = sym passes; told_by = rw passes (told_by ∙ ap mask_words flags_leave.same) }

@@ -9,8 +9,8 @@ use mathlib.Core.Bool.{Bool, true, false, not, beq}
 use lib.ListN.{length, get_or, take, drop, set, replicate, length-drop}
 use lib.Seq.{take-suc, take_all, length-take-le, set_at, append_snoc, get_or-drop}
 use Rattle.reduction.specs.Reduction.{Reduction}
-use Rattle.plan.specs.Limits.{most-steps}
-use Rattle.landmark.specs.between.Passes.{steps-held}
+use Rattle.plan.specs.Limits.{most_steps}
+use Rattle.landmark.specs.Between.Passes.{steps_held}
 
 -- two flags that do not differ are the same
 undiffering : (x y : Bool) → not (beq x y) ≡ false → x ≡ y
@@ -29,12 +29,12 @@ module _ (a b : Reduction) (i : ℕ) (so_far : take i a ≡ take i b) where
   same_end h h' = sym (take_all i a h) ∙ so_far ∙ take_all i b h'
 
 -- the flag of one step more
-pub steps-held-more : (flags : Reduction) (i : ℕ) → i < most-steps → i + 1 < length flags
-    → set (steps-held i flags) i (get_or flags (i + 1) false) ≡ steps-held (i + 1) flags
-steps-held-more flags i low h =
+pub steps_held_more : (flags : Reduction) (i : ℕ) → i < most_steps → i + 1 < length flags
+    → set (steps_held i flags) i (get_or flags (i + 1) false) ≡ steps_held (i + 1) flags
+steps_held_more flags i low h =
     let behind : Reduction = drop 1 flags in
-    let none : Reduction = replicate (most-steps - (i + 1)) false in
-    let left : most-steps - i ≡ suc (most-steps - (i + 1)) = omega arith in
+    let none : Reduction = replicate (most_steps - (i + 1)) false in
+    let left : most_steps - i ≡ suc (most_steps - (i + 1)) = omega arith in
     let long : i < length (drop 1 flags) = rw length-drop (omega arith) in
     let read : get_or flags (i + 1) false ≡ get_or behind i false = rw (add_comm i 1) (sym (get_or-drop 1 flags i false)) in
     rw (left, read)

@@ -10,57 +10,57 @@ use lib.Seq.{set_out}
 use Rattle.sas.specs.Task.{Assignment}
 use Rattle.reduction.specs.Reduction.{Reduction}
 use Rattle.sheet.specs.declared.group.Group.{Group}
-use Rattle.sheet.specs.between.Group.{facts-in, first-fact, rest_of}
-use Rattle.sheet.proofs.FactWords.{word-of-fact}
-use Rattle.sheet.proofs.GroupLaws.{group-over, group-next}
-use Rattle.trace.specs.between.Traces.{trace-start}
-use Rattle.landmark.specs.between.Rows.{supports-noted, row-raised}
+use Rattle.sheet.specs.Between.Group.{facts_in, first_fact, rest_of}
+use Rattle.sheet.proofs.FactWords.{word_of_fact}
+use Rattle.sheet.proofs.GroupLaws.{group_over, group_next}
+use Rattle.trace.specs.Between.Traces.{trace_start}
+use Rattle.landmark.specs.Between.Rows.{supports_noted, row_raised}
 
 -- past the last place nothing is noted
-noted-none : (t : List ℕ) (i : ℕ) (e : Assignment) (rows : List ℕ) → length rows ≤ i → supports-noted t i e rows ≡ rows
-unfolding supports-noted
-noted-none t i [] rows past = refl
-noted-none t i (f ∷ e) rows past = rw (set_out rows i _ past) (noted-none t (i + 1) e rows (omega arith))
+noted_none : (t : List ℕ) (i : ℕ) (e : Assignment) (rows : List ℕ) → length rows ≤ i → supports_noted t i e rows ≡ rows
+unfolding supports_noted
+noted_none t i [] rows past = refl
+noted_none t i (f ∷ e) rows past = rw (set_out rows i _ past) (noted_none t (i + 1) e rows (omega arith))
 
 module _ (t w rows : List ℕ) (i : ℕ) (g : Group) where
   -- from the group's end on nothing is noted
-  pub noted-over : g.end ≤ g.at → supports-noted t i (facts-in w g) rows ≡ rows
-  unfolding supports-noted
-  noted-over h = rw (group-over w g h)
+  pub noted_over : g.end ≤ g.at → supports_noted t i (facts_in w g) rows ≡ rows
+  unfolding supports_noted
+  noted_over h = rw (group_over w g h)
 
   -- before it, the support y of the fact x here is noted first
-  module _ (h : g.at < g.end) (x y : ℕ) (read : x ≡ first-fact w g) (support : y ≡ get_or t (trace-start x + 1) 0) where
-    pub noted-next : supports-noted t i (facts-in w g) rows ≡ supports-noted t (i + 1) (facts-in w (rest_of g)) (set rows i y)
-    unfolding supports-noted
-    noted-next =
-        rw (support, group-next w g h, ← read)
-        (ap (λ j. supports-noted t (i + 1) (facts-in w (rest_of g)) (set rows i (get_or t (trace-start j + 1) 0))) (word-of-fact x))
+  module _ (h : g.at < g.end) (x y : ℕ) (read : x ≡ first_fact w g) (support : y ≡ get_or t (trace_start x + 1) 0) where
+    pub noted_next : supports_noted t i (facts_in w g) rows ≡ supports_noted t (i + 1) (facts_in w (rest_of g)) (set rows i y)
+    unfolding supports_noted
+    noted_next =
+        rw (support, group_next w g h, ← read)
+        (ap (λ j. supports_noted t (i + 1) (facts_in w (rest_of g)) (set rows i (get_or t (trace_start j + 1) 0))) (word_of_fact x))
 
-    pub noted-past : length (set rows i y) ≤ i → supports-noted t i (facts-in w g) rows ≡ supports-noted t i (facts-in w (rest_of g)) (set rows i y)
-    noted-past past =
-        noted-next
-        ∙ noted-none t (i + 1) (facts-in w (rest_of g)) (set rows i y) (omega arith)
-        ∙ sym (noted-none t i (facts-in w (rest_of g)) (set rows i y) past)
+    pub noted_past : length (set rows i y) ≤ i → supports_noted t i (facts_in w g) rows ≡ supports_noted t i (facts_in w (rest_of g)) (set rows i y)
+    noted_past past =
+        noted_next
+        ∙ noted_none t (i + 1) (facts_in w (rest_of g)) (set rows i y) (omega arith)
+        ∙ sym (noted_none t i (facts_in w (rest_of g)) (set rows i y) past)
 
 -- past the last place the same flag is raised at each
-raised-alike : (rows : List ℕ) (i : ℕ) (e : Assignment) (m : Reduction) → length rows ≤ i → row-raised rows (i + 1) e m ≡ row-raised rows i e m
-unfolding row-raised
-raised-alike rows i [] m past = refl
-raised-alike rows i (f ∷ e) m past =
+raised_alike : (rows : List ℕ) (i : ℕ) (e : Assignment) (m : Reduction) → length rows ≤ i → row_raised rows (i + 1) e m ≡ row_raised rows i e m
+unfolding row_raised
+raised_alike rows i [] m past = refl
+raised_alike rows i (f ∷ e) m past =
     let behind : length rows ≤ i + 1 = omega arith in
-    rw (get_or-eq_default rows 0 past, get_or-eq_default rows 0 behind) (raised-alike rows (i + 1) e (set m 0 true) behind)
+    rw (get_or-eq_default rows 0 past, get_or-eq_default rows 0 behind) (raised_alike rows (i + 1) e (set m 0 true) behind)
 
 module _ (rows w : List ℕ) (i : ℕ) (g : Group) (m : Reduction) where
   -- from the group's end on nothing is raised
-  pub raised-over : g.end ≤ g.at → row-raised rows i (facts-in w g) m ≡ m
-  unfolding row-raised
-  raised-over h = rw (group-over w g h)
+  pub raised_over : g.end ≤ g.at → row_raised rows i (facts_in w g) m ≡ m
+  unfolding row_raised
+  raised_over h = rw (group_over w g h)
 
   -- before it, the flag of the support y that stands here is raised first
   module _ (h : g.at < g.end) (y : ℕ) (support : y ≡ get_or rows i 0) where
-    pub raised-next : row-raised rows i (facts-in w g) m ≡ row-raised rows (i + 1) (facts-in w (rest_of g)) (set m y true)
-    unfolding row-raised
-    raised-next = rw (support, group-next w g h)
+    pub raised_next : row_raised rows i (facts_in w g) m ≡ row_raised rows (i + 1) (facts_in w (rest_of g)) (set m y true)
+    unfolding row_raised
+    raised_next = rw (support, group_next w g h)
 
-    pub raised-past : length rows ≤ i → row-raised rows i (facts-in w g) m ≡ row-raised rows i (facts-in w (rest_of g)) (set m y true)
-    raised-past past = raised-next ∙ raised-alike rows i (facts-in w (rest_of g)) (set m y true) past
+    pub raised_past : length rows ≤ i → row_raised rows i (facts_in w g) m ≡ row_raised rows i (facts_in w (rest_of g)) (set m y true)
+    raised_past past = raised_next ∙ raised_alike rows i (facts_in w (rest_of g)) (set m y true) past

@@ -1,15 +1,15 @@
 -- The marks of a list (document 02, C-12), and what the service answers (document 01, "Marks"). That they are those of
--- the rule is `marks-theorem` of proofs/MarkTheorem. Assumes nothing.
+-- the rule is `marks_theorem` of proofs/MarkTheorem. Assumes nothing.
 use Rattle.std.specs.Prelude.{ℕ, ◌-◌, ◌≡◌, List, length, replicate}
 use Rattle.refusal.specs.declared.Verdict.{Verdict}
 use Rattle.refusal.specs.Refusal.{told}
-use Rattle.refusal.specs.Check.{answer, unless-refused}
+use Rattle.refusal.specs.Check.{answer, unless_refused}
 use Rattle.reduction.specs.Reduction.{Reduction, count}
-use Rattle.reduction.specs.between.Landmarks.{landmarks}
-use Rattle.mask.specs.Mask.{mask-length, mask-words}
+use Rattle.reduction.specs.Between.Landmarks.{landmarks}
+use Rattle.mask.specs.Mask.{mask_length, mask_words}
 use Rattle.sheet.specs.Decode.{initial, goal}
 use Rattle.plan.specs.Valid.{steps}
-use Rattle.plan.specs.Checked.{plan-checks}
+use Rattle.plan.specs.Checked.{plan_checks}
 
 -- the marks of the list l of the sheet w, a flag for each step
 unfoldable pub marks : List ℕ → List ℕ → Reduction
@@ -25,5 +25,5 @@ unmarked w l = length l - marked w l
 -- the service: bit i of the mask's words is the mark of step i + 1, and all other bits are zero; the mask of a refusal
 -- is zero
 pub record Masks (w l : List ℕ) (verdict : Verdict) (mask : List ℕ) : Type 0 where
-  pub refusal : told verdict ≡ answer (plan-checks w l)
-  pub told-by : mask ≡ unless-refused (answer (plan-checks w l)) (mask-words (marks w l)) (replicate mask-length 0)
+  pub refusal : told verdict ≡ answer (plan_checks w l)
+  pub told_by : mask ≡ unless_refused (answer (plan_checks w l)) (mask_words (marks w l)) (replicate mask_length 0)

@@ -1,11 +1,11 @@
 // The landmarks of a plan, one flag to a step, found in passes along its positions until one changes nothing.
 ghost use Rattle.std.specs.Prelude.{◌≡◌, true, ◌≤◌, length};
 ghost use Rattle.reduction.specs.Reduction.{keeps};
-ghost use Rattle.plan.specs.Limits.{most-steps};
+ghost use Rattle.plan.specs.Limits.{most_steps};
 ghost use Rattle.plan.specs.Readable.{Readable};
-ghost use Rattle.reduced.specs.between.Held.{flags_of};
+ghost use Rattle.reduced.specs.Between.Held.{flags_of};
 ghost use Rattle.landmark.specs.Marks.{marks};
-ghost use Rattle.landmark.specs.between.Passes.{framed-list, pass, ends-up, steps-held};
+ghost use Rattle.landmark.specs.Between.Passes.{framed_list, pass, ends_up, steps_held};
 
 use crate::rows::{POSITIONS, ROWS, note};
 use crate::walks::{close, walk};
@@ -21,9 +21,9 @@ fn pass_along(
     flags: &[bool; POSITIONS],
     rows: &mut [u8; ROWS],
 ) -> [bool; POSITIONS]
-    requires { length plan.now ≤ most-steps }
+    requires { length plan.now ≤ most_steps }
     ensures { Readable words.now plan.now → keeps flags.now 0
-        → result ≡ pass (framed-list words.now plan.now) flags.now }
+        → result ≡ pass (framed_list words.now plan.now) flags.now }
 {
     let mut traces = [0u8; TRACES];
     let mut latest = start(words);
@@ -52,8 +52,8 @@ fn same(a: &[bool; POSITIONS], b: &[bool; POSITIONS]) -> bool
 
 // The flags of the positions of a plan of n steps with start and end alone marked.
 fn ends(n: usize) -> [bool; POSITIONS]
-    requires { n ≤ most-steps }
-    ensures { result ≡ ends-up n }
+    requires { n ≤ most_steps }
+    ensures { result ≡ ends_up n }
 {
     let mut flags = [false; POSITIONS];
     flags[0] = true;
@@ -63,8 +63,8 @@ fn ends(n: usize) -> [bool; POSITIONS]
 
 // The flags of the n steps of a plan among those of its positions, which are read as a slice likewise.
 fn of_steps(flags: &[bool; POSITIONS], n: usize) -> [bool; Plan::STEPS]
-    requires { n ≤ most-steps }
-    ensures { result ≡ steps-held n flags.now }
+    requires { n ≤ most_steps }
+    ensures { result ≡ steps_held n flags.now }
 {
     let positions: &[bool] = flags;
     let mut steps = [false; Plan::STEPS];

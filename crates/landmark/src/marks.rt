@@ -1,7 +1,7 @@
 // The check of a plan with its marks, as what every service that needs them begins with, and the marks as a service:
 // refusals 1 to 9 and 11.
 ghost use Rattle.landmark.specs.Marks.{Masks};
-ghost use Rattle.landmark.specs.between.Flagged.{Marks-lodged};
+ghost use Rattle.landmark.specs.Between.Flagged.{MarksLodged};
 
 use crate::flags::landmarks;
 use mask::{Mask, mask_of};
@@ -19,7 +19,7 @@ pub struct Marked {
 
 // Checks a plan of a task and marks its landmarks. `besides` is the verdict on what a service asks besides.
 pub fn mark_lodged(words: &[u32], plan: &[u32], besides: Verdict) -> Marked
-    ensures { Marks-lodged words.now plan.now besides result.answer result.flags }
+    ensures { MarksLodged words.now plan.now besides result.answer result.flags }
 {
     let checked = check_lodged(words, plan, Plan::STEPS, besides);
     let answer = checked.answer;

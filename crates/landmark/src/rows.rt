@@ -1,7 +1,7 @@
 // The supports of what a position needs, in a row of bytes for each position, a byte for each fact.
 ghost use Rattle.std.specs.Prelude.{◌≡◌, cond, false, get_or, ◌≤◌};
-ghost use Rattle.sheet.specs.between.Group.{facts-in};
-ghost use Rattle.landmark.specs.between.Rows.{most-positions, row-start, supports-noted, row-raised};
+ghost use Rattle.sheet.specs.Between.Group.{facts_in};
+ghost use Rattle.landmark.specs.Between.Rows.{most_positions, row_start, supports_noted, row_raised};
 
 use access::{byte, flag, put8, raise};
 use plan::limits::Plan;
@@ -19,9 +19,9 @@ pub(crate) const ROWS: usize = POSITIONS * ROW;
 // Notes the supports of a group's facts in the row of a position that needs them. Past the last byte of the rows all
 // places are alike, so that the place counts no further there, and fits whatever the group.
 pub(crate) fn note(words: &[u32], traces: &[u8], rows: &mut [u8], at: usize, group: Group)
-    requires { at ≤ most-positions }
-    ensures { rows.new ≡ supports-noted traces.now (row-start at)
-        (facts-in words.now group) rows.old }
+    requires { at ≤ most_positions }
+    ensures { rows.new ≡ supports_noted traces.now (row_start at)
+        (facts_in words.now group) rows.old }
 {
     let mut to = at * ROW;
     let mut rest = group;
@@ -41,9 +41,9 @@ pub(crate) fn note(words: &[u32], traces: &[u8], rows: &mut [u8], at: usize, gro
 // Raises the flags of the supports of a group's facts, which stand in the row of a position that needs them. The place
 // counts as in `note`.
 fn raise_row(words: &[u32], rows: &[u8], flags: &mut [bool], at: usize, group: Group)
-    requires { at ≤ most-positions }
-    ensures { flags.new ≡ row-raised rows.now (row-start at)
-        (facts-in words.now group) flags.old }
+    requires { at ≤ most_positions }
+    ensures { flags.new ≡ row_raised rows.now (row_start at)
+        (facts_in words.now group) flags.old }
 {
     let mut from = at * ROW;
     let mut rest = group;
@@ -58,9 +58,9 @@ fn raise_row(words: &[u32], rows: &[u8], flags: &mut [bool], at: usize, group: G
 
 // The same, where the position is marked.
 pub(crate) fn raise_marked(words: &[u32], rows: &[u8], flags: &mut [bool], at: usize, group: Group)
-    requires { at ≤ most-positions }
+    requires { at ≤ most_positions }
     ensures { flags.new ≡ cond (get_or flags.old at false)
-        (row-raised rows.now (row-start at) (facts-in words.now group) flags.old)
+        (row_raised rows.now (row_start at) (facts_in words.now group) flags.old)
         flags.old }
 {
     if flag(flags, at) {

@@ -1,12 +1,12 @@
 // The two walks of a pass along the positions of a plan: from the first to the last for the supports of what each
 // needs, and back to raise the supports of each marked one.
 ghost use Rattle.std.specs.Prelude.{◌≡◌, suc, ◌≤◌, length};
-ghost use Rattle.sheet.specs.between.Group.{facts-in};
+ghost use Rattle.sheet.specs.Between.Group.{facts_in};
 ghost use Rattle.sas.specs.Plan.{needed};
 ghost use Rattle.reduction.specs.Landmark.{step};
-ghost use Rattle.plan.specs.Limits.{most-steps};
+ghost use Rattle.plan.specs.Limits.{most_steps};
 ghost use Rattle.plan.specs.Valid.{steps};
-ghost use Rattle.landmark.specs.between.Passes.{framed-list, walk-tables, walked, closed};
+ghost use Rattle.landmark.specs.Between.Passes.{framed_list, walk_tables, walked, closed};
 
 use crate::rows::{note, raise_marked};
 use access::flag;
@@ -16,8 +16,8 @@ use trace::traces::write_effects;
 // What the position behind index i of a plan needs: a step's facts, or the goal's behind the last step.
 fn needs_at(words: &[u32], plan: &[u32], i: usize) -> Group
     requires { i ≤ length plan.now }
-    ensures { facts-in words.now result
-        ≡ needed (step (framed-list words.now plan.now) (suc i)) }
+    ensures { facts_in words.now result
+        ≡ needed (step (framed_list words.now plan.now) (suc i)) }
 {
     if i < plan.len() {
         return facts_of(words, plan[i]).precondition;
@@ -34,10 +34,10 @@ pub(crate) fn walk(
     latest: &mut [u32],
     rows: &mut [u8],
 )
-    requires { length plan.now ≤ most-steps }
-    ensures { walk-tables traces.new latest.new rows.new
+    requires { length plan.now ≤ most_steps }
+    ensures { walk_tables traces.new latest.new rows.new
         ≡ walked flags.now 1 (steps words.now plan.now)
-        (walk-tables traces.old latest.old rows.old) }
+        (walk_tables traces.old latest.old rows.old) }
 {
     let mut i = 0;
     while i < plan.len() {
@@ -51,9 +51,9 @@ pub(crate) fn walk(
 
 // Walks back from the end step of a plan, and raises the supports of what each marked position needs.
 pub(crate) fn close(words: &[u32], plan: &[u32], rows: &[u8], flags: &mut [bool])
-    requires { length plan.now ≤ most-steps }
+    requires { length plan.now ≤ most_steps }
     ensures { flags.new
-        ≡ closed rows.now (framed-list words.now plan.now)
+        ≡ closed rows.now (framed_list words.now plan.now)
         (suc (suc (length plan.now))) flags.old }
 {
     let mut i = plan.len() + 1;

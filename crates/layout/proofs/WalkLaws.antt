@@ -9,27 +9,27 @@ use lib.Seq.{drop-drop, take_all}
 use Rattle.refusal.proofs.PlaceLaws.{one_fewer, none_left}
 use Rattle.ascii.specs.Bytes.{ascii}
 use Rattle.lines.specs.Prints.{Prints}
-use Rattle.lines.proofs.PrintLaws.{prints-nothing, prints-both, prints-length, prints-within}
-use Rattle.sheet.specs.Layout.{variables, offset, goal-start, goal-end}
+use Rattle.lines.proofs.PrintLaws.{prints_nothing, prints_both, prints_length, prints_within}
+use Rattle.sheet.specs.Layout.{variables, offset, goal_start, goal_end}
 use Rattle.sheet.specs.Decode.{table}
-use Rattle.sheet.proofs.TableLaws.{table-nothing, table_more}
+use Rattle.sheet.proofs.TableLaws.{table_nothing, table_more}
 use Rattle.layout.specs.declared.sections.Spot.{Spot}
 use Rattle.word_rows.specs.Rows.{rows}
-use Rattle.layout.specs.Layout.{comment, Section, laid_out, titled, action-section, sections, list-sections, record-text}
-use Rattle.layout.specs.between.Walk.{Goes, action-sections}
+use Rattle.layout.specs.Layout.{comment, Section, laid_out, titled, action_section, sections, list_sections, record_text}
+use Rattle.layout.specs.Between.Walk.{Goes, action_sections}
 
 module _ (w : List ℕ) where
   -- a section's comment and its words are put
-  pub goes-section : (p : Spot) (s : Section) (part : List ℕ) (at' : ℕ) {out middle out' : List ℕ} {m e : ℕ} → part ≡ take (s.end - p.at) (drop p.at w) → at' ≡ max p.at s.end
+  pub goes_section : (p : Spot) (s : Section) (part : List ℕ) (at' : ℕ) {out middle out' : List ℕ} {m e : ℕ} → part ≡ take (s.end - p.at) (drop p.at w) → at' ≡ max p.at s.end
       → Prints (comment s.title) p.end out middle m → Prints (rows part) m middle out' e → (ss : List Section) → Goes w (s ∷ ss) p out ss (record { at = at'; end = e }) out'
   unfolding laid_out
-  goes-section p s part at' is moves first second ss =
+  goes_section p s part at' is moves first second ss =
       let there : drop at' w ≡ drop (s.end - p.at) (drop p.at w) =
       let same : at' ≡ p.at + (s.end - p.at) = omega arith in
       ap (λ n. drop n w) same ∙ sym (drop-drop (s.end - p.at) p.at w) in
       record {
         text = comment s.title ++ rows part;
-        prints = prints-both first second;
+        prints = prints_both first second;
         rest = ap (λ l. (comment s.title ++ rows part) ++ laid_out at' ss l) there
             ∙ ap (λ n. (comment s.title ++ rows part) ++ laid_out n ss (drop (s.end - p.at) (drop p.at w))) moves
             ∙ ap (λ l. (comment s.title ++ rows l) ++ laid_out (max p.at s.end) ss (drop (s.end - p.at) (drop p.at w))) is
@@ -37,75 +37,75 @@ module _ (w : List ℕ) where
       }
 
   -- a section that ends where another does
-  pub goes-ending : {e : ℕ} (e' : ℕ) (title : List ℕ) {p p' : Spot} {out out' : List ℕ} → e ≡ e' → ((ss : List Section) → Goes w (record { title = title; end = e } ∷ ss) p out ss p' out')
+  pub goes_ending : {e : ℕ} (e' : ℕ) (title : List ℕ) {p p' : Spot} {out out' : List ℕ} → e ≡ e' → ((ss : List Section) → Goes w (record { title = title; end = e } ∷ ss) p out ss p' out')
       → (ss : List Section) → Goes w (record { title = title; end = e' } ∷ ss) p out ss p' out'
-  goes-ending e' title {p} {p'} {out} {out'} is goes ss = subst (λ n. Goes w (record { title = title; end = n } ∷ ss) p out ss p' out') is (goes ss)
+  goes_ending e' title {p} {p'} {out} {out'} is goes ss = subst (λ n. Goes w (record { title = title; end = n } ∷ ss) p out ss p' out') is (goes ss)
 
   -- no section, and two walks
-  goes-nothing : (ss : List Section) (p : Spot) {out : List ℕ} → p.end ≤ length out → Goes w ss p out ss p out
-  goes-nothing ss p {out} low = record { text = []; prints = prints-nothing p.end out p.end (omega arith); rest = refl }
+  goes_nothing : (ss : List Section) (p : Spot) {out : List ℕ} → p.end ≤ length out → Goes w ss p out ss p out
+  goes_nothing ss p {out} low = record { text = []; prints = prints_nothing p.end out p.end (omega arith); rest = refl }
 
-  pub goes-length : {ss left : List Section} {p p' : Spot} {out out' : List ℕ} → Goes w ss p out left p' out' → length out' ≡ length out
-  goes-length goes = prints-length goes.prints
+  pub goes_length : {ss left : List Section} {p p' : Spot} {out out' : List ℕ} → Goes w ss p out left p' out' → length out' ≡ length out
+  goes_length goes = prints_length goes.prints
 
-  pub goes-within : {ss left : List Section} {p p' : Spot} {out out' : List ℕ} → Goes w ss p out left p' out' → p'.end ≤ length out'
-  goes-within goes = prints-within goes.prints
+  pub goes_within : {ss left : List Section} {p p' : Spot} {out out' : List ℕ} → Goes w ss p out left p' out' → p'.end ≤ length out'
+  goes_within goes = prints_within goes.prints
 
-  pub goes-both : {ss left last : List Section} {p p' p'' : Spot} {out out' out'' : List ℕ} → Goes w ss p out left p' out' → Goes w left p' out' last p'' out'' → Goes w ss p out last p'' out''
-  goes-both {last = last} {p'' = p''} first second =
+  pub goes_both : {ss left last : List Section} {p p' p'' : Spot} {out out' out'' : List ℕ} → Goes w ss p out left p' out' → Goes w left p' out' last p'' out'' → Goes w ss p out last p'' out''
+  goes_both {last = last} {p'' = p''} first second =
       record {
         text = first.text ++ second.text;
-        prints = prints-both first.prints second.prints;
+        prints = prints_both first.prints second.prints;
         rest = append_assoc first.text second.text (laid_out p''.at last (drop p''.at w)) ∙ ap (λ t. first.text ++ t) second.rest ∙ first.rest;
       }
 
   -- the actions, from the first on and from action a on
-  pub goes_first : (n : ℕ) (p : Spot) {out : List ℕ} → p.end ≤ length out → Goes w (table (action-section w) 0 n) p out (table (action-section w) 0 (n - 0)) p out
-  goes_first n p low = rw sub-zero (goes-nothing (table (action-section w) 0 n) p low)
+  pub goes_first : (n : ℕ) (p : Spot) {out : List ℕ} → p.end ≤ length out → Goes w (table (action_section w) 0 n) p out (table (action_section w) 0 (n - 0)) p out
+  goes_first n p low = rw sub-zero (goes_nothing (table (action_section w) 0 n) p low)
 
-  pub goes-action : (a n : ℕ) {ss : List Section} {p p' p'' : Spot} {out out' out'' : List ℕ} → a < n → Goes w ss p out (table (action-section w) a (n - a)) p' out'
-      → ((left : List Section) → Goes w (action-section w a ∷ left) p' out' left p'' out'') → Goes w ss p out (table (action-section w) (a + 1) (n - (a + 1))) p'' out''
-  goes-action a n {ss} {p} {p'} {out = out} {out' = out'} low first second =
-      let next : table (action-section w) a (n - a) ≡ action-section w a ∷ table (action-section w) (a + 1) (n - (a + 1)) =
-      ap (table (action-section w) a) (one_fewer a n low) ∙ table_more (action-section w) a (n - (a + 1)) in
-      goes-both (subst (λ l. Goes w ss p out l p' out') next first) (second (table (action-section w) (a + 1) (n - (a + 1))))
+  pub goes_action : (a n : ℕ) {ss : List Section} {p p' p'' : Spot} {out out' out'' : List ℕ} → a < n → Goes w ss p out (table (action_section w) a (n - a)) p' out'
+      → ((left : List Section) → Goes w (action_section w a ∷ left) p' out' left p'' out'') → Goes w ss p out (table (action_section w) (a + 1) (n - (a + 1))) p'' out''
+  goes_action a n {ss} {p} {p'} {out = out} {out' = out'} low first second =
+      let next : table (action_section w) a (n - a) ≡ action_section w a ∷ table (action_section w) (a + 1) (n - (a + 1)) =
+      ap (table (action_section w) a) (one_fewer a n low) ∙ table_more (action_section w) a (n - (a + 1)) in
+      goes_both (subst (λ l. Goes w ss p out l p' out') next first) (second (table (action_section w) (a + 1) (n - (a + 1))))
 
-  pub goes-to-last : (a n : ℕ) {ss : List Section} {p p' : Spot} {out out' : List ℕ} → n ≤ a → Goes w ss p out (table (action-section w) a (n - a)) p' out' → Goes w ss p out [] p' out'
-  goes-to-last a n {ss} {p} {p'} {out} {out'} past goes =
-      subst (λ l. Goes w ss p out l p' out') (ap (table (action-section w) a) (none_left a n past) ∙ table-nothing (action-section w) a) goes
+  pub goes_to_last : (a n : ℕ) {ss : List Section} {p p' : Spot} {out out' : List ℕ} → n ≤ a → Goes w ss p out (table (action_section w) a (n - a)) p' out' → Goes w ss p out [] p' out'
+  goes_to_last a n {ss} {p} {p'} {out} {out'} past goes =
+      subst (λ l. Goes w ss p out l p' out') (ap (table (action_section w) a) (none_left a n past) ∙ table_nothing (action_section w) a) goes
 
   -- and all that is left
-  pub laid-all : {ss : List Section} {p : Spot} {text e : ℕ} {out out' out'' : List ℕ} (part : List ℕ) → Goes w ss (record { at = 0; end = text }) out [] p out'
+  pub laid_all : {ss : List Section} {p : Spot} {text e : ℕ} {out out' out'' : List ℕ} (part : List ℕ) → Goes w ss (record { at = 0; end = text }) out [] p out'
       → part ≡ take (length w - p.at) (drop p.at w) → Prints (rows part) p.end out' out'' e → Prints (laid_out 0 ss w) text out out'' e
   unfolding laid_out
-  laid-all {ss} {p} {text} {e} {out} {out'' = out''} part goes is second =
+  laid_all {ss} {p} {text} {e} {out} {out'' = out''} part goes is second =
       let whole : part ≡ drop p.at w = is ∙ take_all (length w - p.at) (drop p.at w) (omega (arith, length-drop p.at w)) in
-      subst (λ t. Prints t text out out'' e) (ap (λ l. goes.text ++ rows l) whole ∙ goes.rest) (prints-both goes.prints second)
+      subst (λ t. Prints t text out out'' e) (ap (λ l. goes.text ++ rows l) whole ∙ goes.rest) (prints_both goes.prints second)
 
   -- a task: its sections in turn, each with the end that the code finds, the actions, and what is left
-  pub task-put : {p₁ p₂ p₃ p₄ p₅ p₆ : Spot} {o₀ o₁ o₂ o₃ o₄ o₅ o₆ o₇ : List ℕ} {e₂ e₃ e₄ e₅ e : ℕ} (part : List ℕ)
-      → e₂ ≡ offset w 1 - variables w → e₃ ≡ offset w 1 → e₄ ≡ goal-start w → e₅ ≡ goal-end w
+  pub task_put : {p₁ p₂ p₃ p₄ p₅ p₆ : Spot} {o₀ o₁ o₂ o₃ o₄ o₅ o₆ o₇ : List ℕ} {e₂ e₃ e₄ e₅ e : ℕ} (part : List ℕ)
+      → e₂ ≡ offset w 1 - variables w → e₃ ≡ offset w 1 → e₄ ≡ goal_start w → e₅ ≡ goal_end w
       → ((ss : List Section) → Goes w (titled "edition, variables, actions, words of the sheet" 4 ∷ ss) (record { at = 0; end = 0 }) o₀ ss p₁ o₁)
       → ((ss : List Section) → Goes w (titled "where each part begins, and its length" e₂ ∷ ss) p₁ o₁ ss p₂ o₂)
       → ((ss : List Section) → Goes w (titled "domain sizes" e₃ ∷ ss) p₂ o₂ ss p₃ o₃)
       → ((ss : List Section) → Goes w (titled "starting values" e₄ ∷ ss) p₃ o₃ ss p₄ o₄)
       → ((ss : List Section) → Goes w (titled "goal facts, each variable * 256 + value" e₅ ∷ ss) p₄ o₄ ss p₅ o₅)
-      → Goes w (action-sections w) p₅ o₅ [] p₆ o₆ → part ≡ take (length w - p₆.at) (drop p₆.at w) → Prints (rows part) p₆.end o₆ o₇ e
+      → Goes w (action_sections w) p₅ o₅ [] p₆ o₆ → part ≡ take (length w - p₆.at) (drop p₆.at w) → Prints (rows part) p₆.end o₆ o₇ e
       → Prints (laid_out 0 (sections w) w) 0 o₀ o₇ e
   unfolding sections
-  task-put part is₂ is₃ is₄ is₅ first second third fourth fifth last is rest =
-      let goal = goes-both (goes-ending (goal-end w) (ascii "goal facts, each variable * 256 + value") is₅ fifth (action-sections w)) last in
-      let start = goes-both (goes-ending (goal-start w) (ascii "starting values") is₄ fourth _) goal in
-      let domains = goes-both (goes-ending (offset w 1) (ascii "domain sizes") is₃ third _) start in
-      let pairs = goes-both (goes-ending (offset w 1 - variables w) (ascii "where each part begins, and its length") is₂ second _) domains in
-      laid-all part (goes-both (first _) pairs) is rest
+  task_put part is₂ is₃ is₄ is₅ first second third fourth fifth last is rest =
+      let goal = goes_both (goes_ending (goal_end w) (ascii "goal facts, each variable * 256 + value") is₅ fifth (action_sections w)) last in
+      let start = goes_both (goes_ending (goal_start w) (ascii "starting values") is₄ fourth _) goal in
+      let domains = goes_both (goes_ending (offset w 1) (ascii "domain sizes") is₃ third _) start in
+      let pairs = goes_both (goes_ending (offset w 1 - variables w) (ascii "where each part begins, and its length") is₂ second _) domains in
+      laid_all part (goes_both (first _) pairs) is rest
 
 -- a task and its plan
-pub record-put : {out middle out' : List ℕ} {m e : ℕ} (ws task list : List ℕ) (n : ℕ) → task ≡ take n ws → list ≡ take (length ws - n) (drop n ws)
-    → Prints (laid_out 0 (sections task) task) 0 out middle m → Prints (laid_out 0 (list-sections list) list) m middle out' e → Prints (record-text n ws) 0 out out' e
-unfolding record-text
-record-put {out} {middle} {out'} {m} {e} ws task list n these those first second =
+pub record_put : {out middle out' : List ℕ} {m e : ℕ} (ws task list : List ℕ) (n : ℕ) → task ≡ take n ws → list ≡ take (length ws - n) (drop n ws)
+    → Prints (laid_out 0 (sections task) task) 0 out middle m → Prints (laid_out 0 (list_sections list) list) m middle out' e → Prints (record_text n ws) 0 out out' e
+unfolding record_text
+record_put {out} {middle} {out'} {m} {e} ws task list n these those first second =
     let behind : list ≡ drop n ws = those ∙ take_all (length ws - n) (drop n ws) (omega (arith, length-drop n ws)) in
-    prints-both
+    prints_both
     (subst (λ l. Prints (laid_out 0 (sections l) l) 0 out middle m) these first)
-    (subst (λ l. Prints (laid_out 0 (list-sections l) l) m middle out' e) behind second)
+    (subst (λ l. Prints (laid_out 0 (list_sections l) l) m middle out' e) behind second)

@@ -2,4 +2,4 @@
 pub mod Layout
 pub mod Shown
 -- between: what functions hand to each other, which need not be believed.
-pub mod between
+pub mod Between

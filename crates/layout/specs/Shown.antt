@@ -4,27 +4,27 @@ use Rattle.sheet.specs.Limits.{limits}
 use Rattle.sheet.specs.Layout.{actions}
 use Rattle.records.specs.declared.frame.Frame.{Frame}
 use Rattle.records.specs.declared.frame.Frame.TheVariants.{Broken, Long, Whole}
-use Rattle.records.specs.RecordForm.{word_bytes, unpacked, input-form}
+use Rattle.records.specs.RecordForm.{word_bytes, unpacked, input_form}
 use Rattle.text.specs.Limits.{most}
 use Rattle.word_rows.specs.Rows.{rows}
-use Rattle.layout.specs.Layout.{record-text}
+use Rattle.layout.specs.Layout.{record_text}
 
 -- the words of bytes
-abbrev pub words-in : List ℕ → List ℕ
-words-in bytes = unpacked bytes (length bytes / word_bytes)
+abbrev pub words_in : List ℕ → List ℕ
+words_in bytes = unpacked bytes (length bytes / word_bytes)
 
 -- words of which the first n are a task, with its plan behind it: in sections, unless it has more actions than any
-unfoldable pub text-whole : ℕ → List ℕ → List ℕ
-text-whole n ws = cond (ltb limits.actions (actions (take n ws))) (rows ws) (record-text n ws)
+unfoldable pub text_whole : ℕ → List ℕ → List ℕ
+text_whole n ws = cond (ltb limits.actions (actions (take n ws))) (rows ws) (record_text n ws)
 
 -- words by the form of their bytes: plain where they are no task with its plan
-abbrev pub text-framed : Frame → List ℕ → List ℕ
-text-framed Broken ws = rows ws
-text-framed (Long n) ws = rows ws
-text-framed (Whole n m end) ws = text-whole n ws
+abbrev pub text_framed : Frame → List ℕ → List ℕ
+text_framed Broken ws = rows ws
+text_framed (Long n) ws = rows ws
+text_framed (Whole n m end) ws = text_whole n ws
 
 unfoldable pub text_of : List ℕ → List ℕ
-text_of bytes = text-framed (input-form 0 bytes) (words-in bytes)
+text_of bytes = text_framed (input_form 0 bytes) (words_in bytes)
 
 -- what is shown of bytes: the text of their words; nothing where they have more words than a text, or where the last
 -- word breaks off

@@ -2,10 +2,10 @@
 // its end, so that every word is put once and in order, even where the task is wrong about its parts.
 ghost use Rattle.std.specs.Prelude.{◌≡◌, List, [], ◌∷◌, ◌-◌, max};
 ghost use Rattle.lines.specs.Prints.{Prints};
-ghost use Rattle.sheet.specs.Layout.{variables as variables-of, offset, effect-end};
-ghost use Rattle.layout.specs.Layout.{comment, Section, laid_out, action-title, action-section};
-ghost use Rattle.layout.specs.Layout.{sections, list-sections, record-text};
-ghost use Rattle.layout.specs.between.Walk.{Goes, action-sections};
+ghost use Rattle.sheet.specs.Layout.{variables as variables_of, offset, effect_end};
+ghost use Rattle.layout.specs.Layout.{comment, Section, laid_out, action_title, action_section};
+ghost use Rattle.layout.specs.Layout.{sections, list_sections, record_text};
+ghost use Rattle.layout.specs.Between.Walk.{Goes, action_sections};
 
 use access::front;
 use lines::{put_number, put_text};
@@ -38,7 +38,7 @@ fn put_comment(out: &mut [u8], at: usize, title: &[u8]) -> usize
 
 // Puts the comment over an action.
 fn put_action_comment(out: &mut [u8], at: usize, a: u32) -> usize
-    ensures { Prints (comment (action-title a)) at out.old out.new result }
+    ensures { Prints (comment (action_title a)) at out.old out.new result }
 {
     let number = put_text(out, at, b"# action ");
     let end = put_number(out, number, a as u64);
@@ -62,7 +62,7 @@ fn put_section(out: &mut [u8], from: Spot, title: &[u8], words: &[u32], end: usi
 
 // Where the part of an action ends, which its effect does too.
 fn action_end(sheet: &[u32], a: u32) -> usize
-    ensures { result ≡ effect-end sheet.now a }
+    ensures { result ≡ effect_end sheet.now a }
 {
     let facts = facts_of(sheet, a);
     let effects = facts.effects;
@@ -72,7 +72,7 @@ fn action_end(sheet: &[u32], a: u32) -> usize
 // Puts the part of an action.
 fn put_action(out: &mut [u8], from: Spot, sheet: &[u32], a: u32) -> Spot
     ensures { (ss : List Section) → Goes sheet.now
-        (action-section sheet.now a ∷ ss) from out.old ss result out.new }
+        (action_section sheet.now a ∷ ss) from out.old ss result out.new }
 {
     let at = from.at;
     let text = from.end;
@@ -87,7 +87,7 @@ fn put_action(out: &mut [u8], from: Spot, sheet: &[u32], a: u32) -> Spot
 
 // Puts the actions.
 fn put_actions(out: &mut [u8], from: Spot, sheet: &[u32]) -> Spot
-    ensures { Goes sheet.now (action-sections sheet.now) from
+    ensures { Goes sheet.now (action_sections sheet.now) from
         out.old [] result out.new }
 {
     let title = b"actions: price, number of precondition facts, precondition facts, effect facts";
@@ -103,7 +103,7 @@ fn put_actions(out: &mut [u8], from: Spot, sheet: &[u32]) -> Spot
 
 // Where the domain sizes begin, which end before the starting values and are as many as the variables.
 fn domains_at(sheet: &[u32]) -> usize
-    ensures { result ≡ offset sheet.now 1 - variables-of sheet.now }
+    ensures { result ≡ offset sheet.now 1 - variables_of sheet.now }
 {
     let end = start_at(sheet);
     let count = variables(sheet);
@@ -150,7 +150,7 @@ fn put_task(out: &mut [u8], sheet: &[u32]) -> usize
 
 // Puts a plan behind its length.
 fn put_list(out: &mut [u8], text: usize, list: &[u32]) -> usize
-    ensures { Prints (laid_out 0 (list-sections list.now) list.now) text
+    ensures { Prints (laid_out 0 (list_sections list.now) list.now) text
         out.old out.new result }
 {
     let start = Spot { at: 0, end: text };
@@ -163,7 +163,7 @@ fn put_list(out: &mut [u8], text: usize, list: &[u32]) -> usize
 
 // Puts a task of so many words, and the plan behind it.
 pub(crate) fn put_record(out: &mut [u8], words: &[u32], task: usize) -> usize
-    ensures { Prints (record-text task words.now) 0 out.old out.new result }
+    ensures { Prints (record_text task words.now) 0 out.old out.new result }
 {
     let text = put_task(out, front(words, task));
     put_list(out, text, part(words, task, words.len()))

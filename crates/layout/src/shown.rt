@@ -3,7 +3,7 @@ ghost use Rattle.std.specs.Prelude.{◌*◌, ◌≤◌, length};
 ghost use Rattle.lines.specs.Prints.{Prints};
 ghost use Rattle.records.specs.RecordForm.{word_bytes};
 ghost use Rattle.text.specs.Limits.{most};
-ghost use Rattle.layout.specs.Shown.{text-whole, text-framed, text_of, shown};
+ghost use Rattle.layout.specs.Shown.{text_whole, text_framed, text_of, shown};
 
 use crate::sections::put_record;
 use access::front;
@@ -18,7 +18,7 @@ use word_rows::put_rows;
 
 // Puts words of which the first `task` may be a task, with its plan behind it.
 fn put_whole(out: &mut [u8], words: &[u32], task: usize) -> usize
-    ensures { Prints (text-whole task words.now) 0 out.old out.new result }
+    ensures { Prints (text_whole task words.now) 0 out.old out.new result }
 {
     if Sheet::ACTIONS < actions(front(words, task)) {
         return put_rows(out, 0, words);
@@ -28,7 +28,7 @@ fn put_whole(out: &mut [u8], words: &[u32], task: usize) -> usize
 
 // Puts words by the form of their bytes.
 fn put_framed(out: &mut [u8], framed: Frame, words: &[u32]) -> usize
-    ensures { Prints (text-framed framed words.now) 0 out.old out.new result }
+    ensures { Prints (text_framed framed words.now) 0 out.old out.new result }
 {
     match framed {
         Frame::Broken => put_rows(out, 0, words),

@@ -10,23 +10,23 @@ use Rattle.refusal.specs.Refusal.{Told}
 use Rattle.tally.specs.declared.Tally.{Tally}
 use Rattle.sheet.specs.Layout.{word}
 use Rattle.sheet.specs.Decode.{table}
-use Rattle.lent.specs.Words.{answer-words, tally-words}
+use Rattle.lent.specs.Words.{answer_words, tally_words}
 
 -- storing what stands there changes nothing
-pub same-stored : (l : List ℕ) (i n : ℕ) → sets l i (table (word l) i n) ≡ l
+pub same_stored : (l : List ℕ) (i n : ℕ) → sets l i (table (word l) i n) ≡ l
 unfolding table
-same-stored l i zero = refl
-same-stored l i (suc n) =
+same_stored l i zero = refl
+same_stored l i (suc n) =
     ap (λ stored. sets stored (suc i) (table (word l) (i + 1) n)) (set-get_or l i 0)
     ∙ ap (λ k. sets l (suc i) (table (word l) k n)) (add-one i)
-    ∙ same-stored l (suc i) n
+    ∙ same_stored l (suc i) n
 
 -- an answer and two tallies, one behind the other
-pub both-written : (l : List ℕ) (t : Option Told) (a b : Tally) → sets (sets (sets l 0 (answer-words t)) 2 (tally-words a)) 4 (tally-words b) ≡ sets l 0 (answer-words t ++ (tally-words a ++ tally-words b))
-both-written l none a b = refl
-both-written l (some t) a b = refl
+pub both_written : (l : List ℕ) (t : Option Told) (a b : Tally) → sets (sets (sets l 0 (answer_words t)) 2 (tally_words a)) 4 (tally_words b) ≡ sets l 0 (answer_words t ++ (tally_words a ++ tally_words b))
+both_written l none a b = refl
+both_written l (some t) a b = refl
 
 -- an answer and a number behind it
-pub counted-written : (l : List ℕ) (t : Option Told) (n : ℕ) → set (sets l 0 (answer-words t)) 2 n ≡ sets l 0 (answer-words t ++ (n ∷ []))
-counted-written l none n = refl
-counted-written l (some t) n = refl
+pub counted_written : (l : List ℕ) (t : Option Told) (n : ℕ) → set (sets l 0 (answer_words t)) 2 n ≡ sets l 0 (answer_words t ++ (n ∷ []))
+counted_written l none n = refl
+counted_written l (some t) n = refl

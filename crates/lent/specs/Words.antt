@@ -7,34 +7,34 @@ use Rattle.tally.specs.declared.Tally.{Tally}
 use Rattle.tally.specs.declared.Order.{Order}
 use Rattle.tally.specs.declared.Order.TheVariants.{Less, Equal, Greater}
 use Rattle.plan.specs.declared.check.Answer.{Answer}
-use Rattle.plan.specs.Checked.{told-answer, told-tally}
+use Rattle.plan.specs.Checked.{told_answer, told_tally}
 use Rattle.sheet.specs.Limits.{limits}
 use Rattle.sheet.specs.Layout.{word}
 use Rattle.sheet.specs.Decode.{table}
 
 -- an answer: the number and the place of a refusal, or 0 and 0
-abbrev pub answer-words : Option Told → List ℕ
-answer-words none = 0 ∷ 0 ∷ []
-answer-words (some t) = t.number ∷ t.place ∷ []
+abbrev pub answer_words : Option Told → List ℕ
+answer_words none = 0 ∷ 0 ∷ []
+answer_words (some t) = t.number ∷ t.place ∷ []
 
 -- a tally of two numbers, and its words: the cost, then the steps
-abbrev pub lent-tally : ℕ → ℕ → Tally
-lent-tally cost steps = record { cost = cost; steps = steps }
+abbrev pub lent_tally : ℕ → ℕ → Tally
+lent_tally cost steps = record { cost = cost; steps = steps }
 
-abbrev pub tally-words : Tally → List ℕ
-tally-words t = t.cost ∷ t.steps ∷ []
+abbrev pub tally_words : Tally → List ℕ
+tally_words t = t.cost ∷ t.steps ∷ []
 
 -- which of two tallies is the lower, as a number
-abbrev pub order-number : Order → ℕ
-order-number Less = 0
-order-number Equal = 1
-order-number Greater = 2
+abbrev pub order_number : Order → ℕ
+order_number Less = 0
+order_number Equal = 1
+order_number Greater = 2
 
 -- the state that lent words are: the first 64 of them, 0 past their end
-unfoldable pub lent-state : List ℕ → List ℕ
-lent-state words = table (word words) 0 limits.variables
+unfoldable pub lent_state : List ℕ → List ℕ
+lent_state words = table (word words) 0 limits.variables
 
 -- a mask's words and an answer over lent words
-pub record Writes-reduced (words : List ℕ) (given : Answer) (mask mask' out out' : List ℕ) : Type 0 where
-  pub told-by : mask' ≡ sets mask 0 words
-  pub answered : out' ≡ sets out 0 (answer-words (told-answer given) ++ tally-words (told-tally given))
+pub record WritesReduced (words : List ℕ) (given : Answer) (mask mask' out out' : List ℕ) : Type 0 where
+  pub told_by : mask' ≡ sets mask 0 words
+  pub answered : out' ≡ sets out 0 (answer_words (told_answer given) ++ tally_words (told_tally given))

@@ -1,9 +1,11 @@
 // Answers and states in lent words. What does not fit is dropped, and words past what is written stay.
+#![tactic(auto)]
+
 ghost use Rattle.std.specs.Prelude.{◌≡◌, min, ◌<◌, ◌^◌, [], ◌∷◌, ◌++◌, length};
 ghost use Rattle.std.proofs.lemmas.List.Edits.{sets};
 ghost use Rattle.refusal.specs.Refusal.{told};
-ghost use Rattle.plan.specs.Checked.{told-answer, told-tally};
-ghost use Rattle.lent.specs.Words.{answer-words, tally-words, lent-state, Writes-reduced};
+ghost use Rattle.plan.specs.Checked.{told_answer, told_tally};
+ghost use Rattle.lent.specs.Words.{answer_words, tally_words, lent_state, WritesReduced};
 
 use access::{put_all, put64, word};
 use mask::Mask;
@@ -33,7 +35,7 @@ pub fn write_pair(out: &mut [u64], at: usize, first: u64, second: u64)
 
 // Writes the number and the place of a refusal, or 0 and 0.
 pub fn write_verdict(out: &mut [u64], verdict: Verdict)
-    ensures { out.new ≡ sets out.old 0 (answer-words (told verdict)) }
+    ensures { out.new ≡ sets out.old 0 (answer_words (told verdict)) }
 {
     match verdict {
         Verdict::Passed => write_pair(out, 0, 0, 0),
@@ -49,7 +51,7 @@ pub fn write_verdict(out: &mut [u64], verdict: Verdict)
 // Writes the answer to a plan: the number and the place of a refusal, or 0 and 0, then the cost and the steps.
 pub fn write_answer(out: &mut [u64], given: Answer)
     ensures { out.new
-        ≡ sets out.old 0 (answer-words (told-answer given) ++ tally-words (told-tally given)) }
+        ≡ sets out.old 0 (answer_words (told_answer given) ++ tally_words (told_tally given)) }
 {
     match given {
         Answer::Valid(tally) => {
@@ -65,7 +67,7 @@ pub fn write_answer(out: &mut [u64], given: Answer)
 
 // Writes an answer that counts something: the number and the place of a refusal, or 0 and 0, then how many.
 pub fn write_counted(out: &mut [u64], verdict: Verdict, count: usize)
-    ensures { out.new ≡ sets out.old 0 (answer-words (told verdict) ++ (count ∷ [])) }
+    ensures { out.new ≡ sets out.old 0 (answer_words (told verdict) ++ (count ∷ [])) }
 {
     write_verdict(out, verdict);
     put64(out, COUNT_AT, count as u64);
@@ -73,7 +75,7 @@ pub fn write_counted(out: &mut [u64], verdict: Verdict, count: usize)
 
 // Writes what a service that strikes answers: the four words of its mask, and its answer.
 pub fn write_reduced(mask: &mut [u64], out: &mut [u64], kept: Mask, given: Answer)
-    ensures { Writes-reduced kept.words given
+    ensures { WritesReduced kept.words given
         mask.old mask.new out.old out.new }
 {
     let bits = kept.words;
@@ -84,7 +86,7 @@ pub fn write_reduced(mask: &mut [u64], out: &mut [u64], kept: Mask, given: Answe
 // Writes the answer of both eliminations: the number and the place of a refusal, or 0 and 0, then the two tallies.
 pub fn write_both(out: &mut [u64], verdict: Verdict, first: Tally, second: Tally)
     ensures { out.new
-        ≡ sets out.old 0 (answer-words (told verdict) ++ (tally-words first ++ tally-words second)) }
+        ≡ sets out.old 0 (answer_words (told verdict) ++ (tally_words first ++ tally_words second)) }
 {
     write_verdict(out, verdict);
     write_pair(out, TALLY_AT, first.cost as u64, first.steps as u64);
@@ -116,7 +118,7 @@ pub fn write_front(out: &mut [u32], values: &[u32]) -> usize
 
 // The state that the first words are.
 pub fn read_state(words: &[u32]) -> State
-    ensures { result.values ≡ lent-state words.now }
+    ensures { result.values ≡ lent_state words.now }
 {
     let mut values = [0u32; Sheet::VARIABLES];
     let mut v = 0;

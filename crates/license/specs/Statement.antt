@@ -5,14 +5,14 @@ use Rattle.sas.specs.Plan.{Plan}
 use Rattle.sheet.specs.Decode.{task}
 use Rattle.plan.specs.Valid.{steps}
 use Rattle.plan.specs.Readable.{Readable}
-use Rattle.claim.specs.Statement.{Licensed-with}
+use Rattle.claim.specs.Statement.{LicensedWith}
 use Rattle.records.specs.Bytes.{input_of}
 use Rattle.report.specs.Report.{report}
-use Rattle.claim_report.specs.Licensed.{claim-line}
+use Rattle.claim_report.specs.Licensed.{claim_line}
 use Rattle.license.specs.License.{printed}
 
 -- for every accepted sheet and every valid list: the line of its claim, and the report of its reduction
-abbrev pub May-be-lodged-printed : List ℕ → List ℕ → Type 0
-May-be-lodged-printed w l =
+abbrev pub MayBeLodgedPrinted : List ℕ → List ℕ → Type 0
+MayBeLodgedPrinted w l =
     Readable w l → Plan (task w) (steps w l)
-    → Licensed-with w l (λ c m. printed (input_of w l) ≡ claim-line c ++ report w l m)
+    → LicensedWith w l (λ c m. printed (input_of w l) ≡ claim_line c ++ report w l m)

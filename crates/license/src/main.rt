@@ -2,6 +2,8 @@
 // of document 01's program ("Worked lists"), and prints the strongest claim that is proved of what is left of the plan,
 // and then what is kept, or the refusal.
 // licensed: what is printed for the bytes of the input.
+#![tactic(auto)]
+
 mod licensed;
 
 use crate::licensed::answer_input;

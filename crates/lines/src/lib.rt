@@ -1,5 +1,7 @@
 // Lines of text in a lent slice of bytes. Each function puts its text behind the first `at` bytes and answers where it
 // ends; what does not fit is dropped, so that none asks for room.
+#![tactic(auto)]
+
 ghost use Rattle.lines.specs.Lines.{numeral, spaced, line, row};
 ghost use Rattle.lines.specs.Prints.{Prints};
 ghost use Rattle.std.specs.Prelude.{◌≡◌, [], ◌∷◌, min};

@@ -7,13 +7,13 @@ use mathlib.Core.Bool.{false}
 use mathlib.Core.List.{List}
 use lib.ListN.{length, get_or, get_or-eq_default}
 use lib.Dec.{eqb}
-use Rattle.mask.specs.Mask.{mask-length, word-bits, bit_up}
+use Rattle.mask.specs.Mask.{mask_length, word_bits, bit_up}
 
 module _ (ws : List ℕ) (i : ℕ) where
-  pub bit-read : eqb (get_or ws (i / word-bits) 0 / 2 ^ (i % word-bits) % 2) 1 ≡ bit_up ws i
+  pub bit_read : eqb (get_or ws (i / word_bits) 0 / 2 ^ (i % word_bits) % 2) 1 ≡ bit_up ws i
   unfolding bit_up
-  bit-read = refl
+  bit_read = refl
 
-  pub none-up : length ws ≡ mask-length → mask-length ≤ i / word-bits → false ≡ bit_up ws i
+  pub none_up : length ws ≡ mask_length → mask_length ≤ i / word_bits → false ≡ bit_up ws i
   unfolding bit_up
-  none-up four past = rw (get_or-eq_default ws 0 {n = i / word-bits} (omega arith), zero-div)
+  none_up four past = rw (get_or-eq_default ws 0 {n = i / word_bits} (omega arith), zero-div)

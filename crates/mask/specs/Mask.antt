@@ -4,15 +4,15 @@ use Rattle.std.specs.Prelude.{ℕ, zero, suc, ◌+◌, ◌*◌, ◌/◌, ◌%◌
 use Rattle.std.specs.Int.Count.{ones}
 use Rattle.reduction.specs.Reduction.{Reduction}
 -- the bits of a word
-pub use Rattle.access.specs.Bits.{word-bits}
+pub use Rattle.access.specs.Bits.{word_bits}
 
 -- the words of a mask, stated here and nowhere else in the definitions
-abbrev pub mask-length : ℕ
-mask-length = 4
+abbrev pub mask_length : ℕ
+mask_length = 4
 
 -- the most steps that a mask can tell
-abbrev pub mask-bits : ℕ
-mask-bits = word-bits * mask-length
+abbrev pub mask_bits : ℕ
+mask_bits = word_bits * mask_length
 
 -- one for a kept step, zero for a struck one
 abbrev pub digit : Bool → ℕ
@@ -27,18 +27,18 @@ binary (b ∷ m) = 2 * binary m + digit b
 -- n words, each of the next 64 flags; where a flag is missing its bit is zero
 unfoldable pub words_of : ℕ → Reduction → List ℕ
 words_of zero m = []
-words_of (suc n) m = binary (take word-bits m) ∷ words_of n (drop word-bits m)
+words_of (suc n) m = binary (take word_bits m) ∷ words_of n (drop word_bits m)
 
 -- "bit (i − 1) mod 64 of word (i − 1) div 64 is one when step i is kept; all other bits are zero"; flags that no word
 -- has a bit for are dropped
-unfoldable pub mask-words : Reduction → List ℕ
-mask-words m = words_of mask-length m
+unfoldable pub mask_words : Reduction → List ℕ
+mask_words m = words_of mask_length m
 
 -- "the number of ones in the mask"
-unfoldable pub ones-of : List ℕ → ℕ
-ones-of [] = 0
-ones-of (w ∷ ws) = ones w + ones-of ws
+unfoldable pub ones_of : List ℕ → ℕ
+ones_of [] = 0
+ones_of (w ∷ ws) = ones w + ones_of ws
 
 -- bit i of the words is one
 unfoldable pub bit_up : List ℕ → ℕ → Bool
-bit_up ws i = eqb (get_or ws (i / word-bits) 0 / 2 ^ (i % word-bits) % 2) 1
+bit_up ws i = eqb (get_or ws (i / word_bits) 0 / 2 ^ (i % word_bits) % 2) 1

@@ -1,9 +1,11 @@
 // A reduction of a plan as a mask of four words: made from flags, counted, read bit by bit, and written out.
+#![tactic(auto)]
+
 ghost use Rattle.std.specs.Prelude.{◌≡◌, ◌≤◌, false, length, get_or, take, drop};
 ghost use Rattle.std.proofs.lemmas.List.Edits.{sets};
 ghost use Rattle.std.specs.Int.Count.{ones as ones_in_lem};
-ghost use Rattle.mask.specs.Mask.{word-bits, mask-bits, digit as digit-of, binary, mask-words, ones-of, bit_up};
-ghost use Rattle.mask.specs.between.Places.{kept-by-words};
+ghost use Rattle.mask.specs.Mask.{word_bits, mask_bits, digit as digit-of, binary, mask_words, ones_of, bit_up};
+ghost use Rattle.mask.specs.Between.Places.{kept_by_words};
 
 use access::{flag, write_word};
 
@@ -21,7 +23,7 @@ impl Mask {
 
     // The number of ones.
     pub fn count(self) -> u32
-        ensures { result ≡ ones-of self.words }
+        ensures { result ≡ ones_of self.words }
     {
         let words = self.words;
         ones(words[0]) + ones(words[1]) + ones(words[2]) + ones(words[3])
@@ -43,7 +45,7 @@ impl Mask {
 
 // The number of ones in a word.
 fn ones(word: u64) -> u32
-    ensures { (result ≡ ones_in_lem word) × (result ≤ word-bits) }
+    ensures { (result ≡ ones_in_lem word) × (result ≤ word_bits) }
 {
     u64::count_ones(word)
 }
@@ -57,8 +59,8 @@ fn digit(flags: &[bool], i: usize) -> u64
 
 // The word of the flags from index `from` on.
 fn word_of(flags: &[bool], from: usize) -> u64
-    requires { from ≤ mask-bits }
-    ensures { result ≡ binary (take word-bits (drop from flags.now)) }
+    requires { from ≤ mask_bits }
+    ensures { result ≡ binary (take word_bits (drop from flags.now)) }
 {
     let mut word = 0;
     let mut i = Mask::BITS;
@@ -71,7 +73,7 @@ fn word_of(flags: &[bool], from: usize) -> u64
 
 // The mask of these flags; those that it has no bit for are dropped.
 pub fn mask_of(flags: &[bool]) -> Mask
-    ensures { result.words ≡ mask-words flags.now }
+    ensures { result.words ≡ mask_words flags.now }
 {
     Mask {
         words: [
@@ -86,8 +88,8 @@ pub fn mask_of(flags: &[bool]) -> Mask
 // Writes the plan's words at the ones of a mask to the front of `out`, in order; all other words stay. Returns how many
 // there are.
 pub fn write_kept(mask: Mask, plan: &[u32], out: &mut [u32]) -> usize
-    ensures { (out.new ≡ sets out.old 0 (kept-by-words mask.words plan.now))
-        × (result ≡ length (kept-by-words mask.words plan.now)) }
+    ensures { (out.new ≡ sets out.old 0 (kept_by_words mask.words plan.now))
+        × (result ≡ length (kept_by_words mask.words plan.now)) }
 {
     let words = mask.words;
     let mut to = 0;

@@ -6,12 +6,12 @@ use mathlib.Core.List.{List, [], ◌∷◌, flatten}
 use Rattle.sas.specs.Task.{Fact, always, Task}
 use Rattle.sas.specs.Plan.{written as written-facts}
 use Rattle.sheet.specs.Decode.{table}
-use Rattle.sheet.specs.Layout.{first-edition}
-use Rattle.sheet.specs.between.Encode.{encode, sheet-of, parts, effects-part, action-part, body, pairs_of}
-use Rattle.fields.specs.between.Numbers.{any_value}
-use Rattle.meaning.specs.between.Sections.{meaning, ranges, state, goal, actions-from, action-at, facts_at, fact-at}
-use Rattle.meaning.specs.between.Order.{ordered, ordered-action, put_in, insert}
-use Rattle.meaning.specs.between.Writable.{writable, variables-fit, no-condition, actions-fit, action-fits, fit-in, known, has}
+use Rattle.sheet.specs.Layout.{first_edition}
+use Rattle.sheet.specs.Between.Encode.{encode, sheet_of, parts, effects_part, action_part, body, pairs_of}
+use Rattle.fields.specs.Between.Numbers.{any_value}
+use Rattle.meaning.specs.Between.Sections.{meaning, ranges, state, goal, actions_from, action_at, facts_at, fact_at}
+use Rattle.meaning.specs.Between.Order.{ordered, ordered_action, put_in, insert}
+use Rattle.meaning.specs.Between.Writable.{writable, variables_fit, no_condition, actions_fit, action_fits, fit_in, known, has}
 
 -- Two variables, of 2 and 3 values, both 0 at the start; the goal `wanted` at 1 and variable 0 at `value`; and two operators. The first has the prevail
 -- condition `held` at 0, takes variable 0 from 0 to 1, and costs `cost`; the second takes variable 1 from any value to 2, and costs 5.
@@ -37,15 +37,15 @@ task first second =
 
 -- with metric 1 the costs count, with metric 0 each is 1; an old value of −1 is no precondition
 pub meanings : (meaning (tiny 1 1 1 1 3) ≡ task 3 5) × (meaning (tiny 0 1 1 1 3) ≡ task 1 1)
-unfolding meaning ranges state goal actions-from action-at facts_at fact-at table
+unfolding meaning ranges state goal actions_from action_at facts_at fact_at table
 meanings = (refl, refl)
 
 -- the first four words; the pairs; the ranges, the starting values, the goal and the operators, each group of facts in rising order
-pub sheet : encode first-edition (ordered (meaning (tiny 1 1 1 1 3)))
+pub sheet : encode first_edition (ordered (meaning (tiny 1 1 1 1 3)))
     ≡ 1 ∷ 2 ∷ 2 ∷ 28 ∷ 14 ∷ 2 ∷ 16 ∷ 2 ∷ 18 ∷ 2 ∷ 20 ∷ 5 ∷ 25 ∷ 3
     ∷ 2 ∷ 3 ∷ 0 ∷ 0 ∷ 1 ∷ 257 ∷ 3 ∷ 2 ∷ 0 ∷ 256 ∷ 1 ∷ 5 ∷ 0 ∷ 258 ∷ []
-unfolding meaning ranges state goal actions-from action-at facts_at fact-at table encode sheet-of parts effects-part action-part body pairs_of flatten
-    ordered ordered-action written-facts put_in insert
+unfolding meaning ranges state goal actions_from action_at facts_at fact_at table encode sheet_of parts effects_part action_part body pairs_of flatten
+    ordered ordered_action written-facts put_in insert
 sheet = refl
 
 -- in turn: the text above; variable 0 at 256 in the goal, which has the word of variable 1 at 0; variable 0 twice in the goal; a prevail condition and an old
@@ -56,6 +56,6 @@ pub written : (writable (meaning (tiny 1 1 1 1 3)) ≡ true)
     × (writable (meaning (tiny 1 1 1 0 3)) ≡ false)
     × (writable (meaning (tiny 1 1 1 1 1000001)) ≡ false)
     × (writable (meaning (tiny 0 1 1 1 1000001)) ≡ true)
-unfolding meaning ranges state goal actions-from action-at facts_at fact-at table writable written-facts variables-fit no-condition actions-fit action-fits fit-in known has insert
-    encode sheet-of parts effects-part action-part body pairs_of flatten ordered ordered-action put_in
+unfolding meaning ranges state goal actions_from action_at facts_at fact_at table writable written-facts variables_fit no_condition actions_fit action_fits fit_in known has insert
+    encode sheet_of parts effects_part action_part body pairs_of flatten ordered ordered_action put_in
 written = (refl, refl, refl, refl, refl, refl)

@@ -1,4 +1,6 @@
 // What the numbers of a planner's text mean (document 02, C-11).
 // numbers: where they stand. group: a group of facts, put in order.
+#![tactic(auto)]
+
 pub mod group;
 pub mod numbers;

@@ -1,9 +1,9 @@
 // Where the numbers of a text stand. Each function is safe for any numbers: one past the last reads as 0. How far an
 // index lies is bounded, since a text may state any counts.
 ghost use Rattle.std.specs.Prelude.{◌≡◌, ◌+◌, ◌<◌, ◌≤◌, ◌^◌};
-ghost use Rattle.meaning.specs.between.Sections.{number_at, variables as variables-of, goal-at, operators-at};
-ghost use Rattle.meaning.specs.between.Sections.{effects-at, cost-at, action-at};
-ghost use Rattle.meaning.specs.between.Gathered.{far, fact-lines, effect-lines, Near};
+ghost use Rattle.meaning.specs.Between.Sections.{number_at, variables as variables_of, goal_at, operators_at};
+ghost use Rattle.meaning.specs.Between.Sections.{effects_at, cost_at, action_at};
+ghost use Rattle.meaning.specs.Between.Gathered.{far, fact_lines, effect_lines, Near};
 
 use access::word;
 
@@ -44,20 +44,20 @@ pub fn number(x: &[u32], i: usize) -> usize
 }
 
 pub fn variables(x: &[u32]) -> usize
-    ensures { (result ≡ variables-of x.now) × (result < 2 ^ 32) }
+    ensures { (result ≡ variables_of x.now) × (result < 2 ^ 32) }
 {
     number(x, VARIABLES_AT)
 }
 
 // Where the number of goal facts stands, and that of operators.
 pub fn goal_at(x: &[u32]) -> usize
-    ensures { (result ≡ goal-at x.now) × (result < 2 ^ 34) }
+    ensures { (result ≡ goal_at x.now) × (result < 2 ^ 34) }
 {
     RANGES_AT + 2 * variables(x)
 }
 
 pub fn operators_at(x: &[u32]) -> usize
-    ensures { (result ≡ operators-at x.now) × (result < 2 ^ 35) }
+    ensures { (result ≡ operators_at x.now) × (result < 2 ^ 35) }
 {
     let goal = goal_at(x);
     goal + 1 + FACT * number(x, goal)
@@ -66,14 +66,14 @@ pub fn operators_at(x: &[u32]) -> usize
 // Of the operator whose numbers begin at index i: where the number of its effects stands, and its cost.
 pub fn effects_at(x: &[u32], i: usize) -> usize
     requires { i ≤ far }
-    ensures { (result ≡ effects-at x.now i) × (result < i + 2 ^ 34) }
+    ensures { (result ≡ effects_at x.now i) × (result < i + 2 ^ 34) }
 {
     i + 1 + FACT * number(x, i)
 }
 
 pub fn cost_at(x: &[u32], i: usize) -> usize
     requires { i ≤ far }
-    ensures { (result ≡ cost-at x.now i) × (result < i + 2 ^ 35) }
+    ensures { (result ≡ cost_at x.now i) × (result < i + 2 ^ 35) }
 {
     let effects = effects_at(x, i);
     effects + 1 + EFFECT * number(x, effects)
@@ -82,7 +82,7 @@ pub fn cost_at(x: &[u32], i: usize) -> usize
 // What it costs: with metric 0 every operator costs 1.
 pub fn cost(x: &[u32], i: usize) -> u32
     requires { i ≤ far }
-    ensures { result ≡ (action-at x.now i).cost }
+    ensures { result ≡ (action_at x.now i).cost }
 {
     if word(x, METRIC_AT) == 0 {
         return 1;
@@ -93,7 +93,7 @@ pub fn cost(x: &[u32], i: usize) -> u32
 // The lines of facts whose number stands at index i: those of the goal, or of the prevail conditions.
 pub fn fact_lines(x: &[u32], i: usize) -> Lines
     requires { i ≤ far }
-    ensures { (result ≡ fact-lines x.now i) × Near result }
+    ensures { (result ≡ fact_lines x.now i) × Near result }
 {
     Lines {
         from: i + 1,
@@ -107,7 +107,7 @@ pub fn fact_lines(x: &[u32], i: usize) -> Lines
 // variable.
 pub fn effect_lines(x: &[u32], i: usize, on: usize) -> Lines
     requires { (i ≤ far) × (on ≤ 2) }
-    ensures { (result ≡ effect-lines x.now i on) × Near result }
+    ensures { (result ≡ effect_lines x.now i on) × Near result }
 {
     let effects = effects_at(x, i);
     Lines {

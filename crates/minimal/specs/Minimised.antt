@@ -3,38 +3,38 @@ use Rattle.std.specs.Prelude.{ℕ, ◌≡◌, List, [], ◌∷◌, ◌++◌, len
 use Rattle.std.proofs.Math.Option.{Option}
 use Rattle.refusal.specs.Place.{when}
 use Rattle.refusal.specs.Refusal.{Told}
-use Rattle.refusal.specs.Check.{Check, answer, unless-refused}
-use Rattle.reduction.specs.Minimal.{Minimal-reduction}
+use Rattle.refusal.specs.Check.{Check, answer, unless_refused}
+use Rattle.reduction.specs.Minimal.{MinimalReduction}
 use Rattle.tally.specs.Tally.{nothing}
 use Rattle.sheet.specs.Decode.{goal, initial}
 use Rattle.plan.specs.Valid.{steps}
-use Rattle.plan.specs.Checked.{lodged-tally}
-use Rattle.reduced.specs.Reduced.{reduction-checks, Answers, Tells-left}
+use Rattle.plan.specs.Checked.{lodged_tally}
+use Rattle.reduced.specs.Reduced.{reduction_checks, Answers, TellsLeft}
 use Rattle.landmark.specs.Marks.{marked, unmarked}
 use Rattle.minimal.specs.declared.within.Shortened.{Shortened}
 
 -- the most steps that may be unmarked, stated here and nowhere else in the definitions
-abbrev pub most-unmarked : ℕ
-most-unmarked = 20
+abbrev pub most_unmarked : ℕ
+most_unmarked = 20
 
 -- 12: more steps than the limit are unmarked; its place is how many
-unfoldable pub unmarked-checks : ℕ → List ℕ → List ℕ → List Check
-unmarked-checks limit w l = record { number = 12; fires = when (ltb limit (unmarked w l)) (unmarked w l) } ∷ []
+unfoldable pub unmarked_checks : ℕ → List ℕ → List ℕ → List Check
+unmarked_checks limit w l = record { number = 12; fires = when (ltb limit (unmarked w l)) (unmarked w l) } ∷ []
 
 -- the checks of the minimal reduction, in the order in which they run: those of every reduction, then 12
-unfoldable pub minimal-checks : ℕ → List ℕ → List ℕ → ℕ → List Check
-minimal-checks limit w l room = reduction-checks w l room ++ unmarked-checks limit w l
+unfoldable pub minimal_checks : ℕ → List ℕ → List ℕ → ℕ → List Check
+minimal_checks limit w l room = reduction_checks w l room ++ unmarked_checks limit w l
 
 module _ (limit : ℕ) (w l before : List ℕ) where
   -- the refusal of its first check that fires, with room for the list in a lent output
-  abbrev pub minimal-refusal : Option Told
-  minimal-refusal = answer (minimal-checks limit w l (length before))
+  abbrev pub minimal_refusal : Option Told
+  minimal_refusal = answer (minimal_checks limit w l (length before))
 
   -- the service: it answers with the minimal reduction of the list l over a lent output, of which there is just one
-  -- (`minimal-once`), and tells the tally of the lodged list and the number of its marked steps besides, zero on a
+  -- (`minimal_once`), and tells the tally of the lodged list and the number of its marked steps besides, zero on a
   -- refusal
   pub record Minimises (r : Shortened) (after : List ℕ) : Type 0 where
-    pub answers : Tells-left (Minimal-reduction (initial w) (goal w) (steps w l))
-        (λ m. Answers minimal-refusal w l m before r.answer r.mask.words after) minimal-refusal
-    pub lodged : r.lodged ≡ unless-refused minimal-refusal (lodged-tally w l) nothing
-    pub marks : r.marked ≡ unless-refused minimal-refusal (marked w l) 0
+    pub answers : TellsLeft (MinimalReduction (initial w) (goal w) (steps w l))
+        (λ m. Answers minimal_refusal w l m before r.answer r.mask.words after) minimal_refusal
+    pub lodged : r.lodged ≡ unless_refused minimal_refusal (lodged_tally w l) nothing
+    pub marks : r.marked ≡ unless_refused minimal_refusal (marked w l) 0

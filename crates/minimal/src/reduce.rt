@@ -1,6 +1,6 @@
 // The minimal reduction of a plan: refusals 1 to 12, and the tally, the mask and the list left.
-ghost use Rattle.minimal.specs.Minimised.{most-unmarked, Minimises};
-ghost use Rattle.minimal.specs.Statement.{Demand-three};
+ghost use Rattle.minimal.specs.Minimised.{most_unmarked, Minimises};
+ghost use Rattle.minimal.specs.Statement.{DemandThree};
 
 use crate::within::{Shortened, reduce_within};
 
@@ -9,9 +9,9 @@ pub const UNMARKED: usize = 20;
 
 // Writes what the minimal reduction leaves of a plan to the front of `out`.
 pub fn minimal_reduction(words: &[u32], plan: &[u32], out: &mut [u32]) -> Shortened
-    ensures answer { Minimises most-unmarked words.now plan.now
+    ensures answer { Minimises most_unmarked words.now plan.now
         out.old result out.new }
-    ensures demand_three { Demand-three most-unmarked words.now plan.now out.old
+    ensures demand_three { DemandThree most_unmarked words.now plan.now out.old
         result.answer result.mask.words out.new }
 {
     reduce_within(words, plan, out, UNMARKED)

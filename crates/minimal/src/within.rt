@@ -1,8 +1,8 @@
 // The minimal reduction of a plan of which no more than a limit of steps is unmarked.
 ghost use Rattle.std.specs.Prelude.{◌≤◌};
-ghost use Rattle.packed_state.specs.between.Chosen.{most-choices};
-ghost use Rattle.minimal.specs.between.Computed.{Minimises-of};
-ghost use Rattle.minimal.specs.between.Refused.{Refuses};
+ghost use Rattle.packed_state.specs.Between.Chosen.{most_choices};
+ghost use Rattle.minimal.specs.Between.Computed.{MinimisesOf};
+ghost use Rattle.minimal.specs.Between.Refused.{Refuses};
 
 use landmark::marks::mark_lodged;
 use mask::{Mask, mask_of};
@@ -42,8 +42,8 @@ impl Shortened {
 // Writes what the minimal reduction leaves of a plan to the front of `out`; refuses where more than `limit` steps are
 // unmarked. The search has room for so many.
 pub(crate) fn reduce_within(words: &[u32], plan: &[u32], out: &mut [u32], limit: usize) -> Shortened
-    requires { limit ≤ most-choices }
-    ensures { Minimises-of limit words.now plan.now out.old result
+    requires { limit ≤ most_choices }
+    ensures { MinimisesOf limit words.now plan.now out.old result
         out.new }
 {
     let checked = mark_lodged(words, plan, check_room(plan.len(), out.len()));

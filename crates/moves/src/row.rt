@@ -2,8 +2,8 @@
 ghost use Rattle.std.specs.Prelude.{◌≡◌, ◌<◌, ◌^◌};
 ghost use Rattle.std.proofs.lemmas.List.Edits.{sets};
 ghost use Rattle.mask.specs.Mask.{digit as digit-of, bit_up};
-ghost use Rattle.lent.specs.Words.{tally-words};
-ghost use Rattle.moves.specs.between.Tallied.{row_words};
+ghost use Rattle.lent.specs.Words.{tally_words};
+ghost use Rattle.moves.specs.Between.Tallied.{row_words};
 
 use crate::tallies::Tallies;
 use access::{put, word64};
@@ -38,7 +38,7 @@ fn digit(up: bool) -> u32
 // Writes the cost and the steps of a tally, the cost at index `at`.
 fn put_tally(rows: &mut [u32], at: usize, tally: Tally)
     requires { at < 2 ^ 32 }
-    ensures { rows.new ≡ sets rows.old at (tally-words tally) }
+    ensures { rows.new ≡ sets rows.old at (tally_words tally) }
 {
     put(rows, at, tally.cost);
     put(rows, at + 1, tally.steps);

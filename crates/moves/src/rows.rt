@@ -1,7 +1,7 @@
 // A row for each step of a plan, as a service.
 ghost use Rattle.plan.specs.Readable.{Readable};
 ghost use Rattle.moves.specs.Moves.{Moves};
-ghost use Rattle.moves.specs.between.Tallied.{Writes-rows};
+ghost use Rattle.moves.specs.Between.Tallied.{WritesRows};
 
 use crate::row::{bit, put_row};
 use crate::tallies::Tallies;
@@ -12,13 +12,13 @@ use refusal::Verdict;
 use sheet::layout::cost;
 use tally::Tally;
 
-// The words of a row. specs/between/Tallied.antt has their number for the laws.
+// The words of a row. specs/Between/Tallied.antt has their number for the laws.
 const ROW: usize = 9;
 
 // Writes the rows of a plan that can be read, one behind the other; returns the tally of the struck steps.
 fn write_rows(words: &[u32], plan: &[u32], kept: &[u64], marked: &[u64], rows: &mut [u32]) -> Tally
     requires { Readable words.now plan.now }
-    ensures { Writes-rows words.now plan.now kept.now marked.now result
+    ensures { WritesRows words.now plan.now kept.now marked.now result
         rows.old rows.new }
 {
     let mut so_far = Tallies::new();

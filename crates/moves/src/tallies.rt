@@ -1,6 +1,6 @@
 // The tallies of the steps so far: of all, of those kept and of those struck.
 ghost use Rattle.std.specs.Prelude.{◌≡◌};
-ghost use Rattle.moves.specs.between.Tallied.{none_yet, with-one};
+ghost use Rattle.moves.specs.Between.Tallied.{none_yet, with_one};
 
 use tally::Tally;
 
@@ -26,7 +26,7 @@ impl Tallies {
 
     // With one step more of this cost, which is kept or struck.
     pub fn add(self, cost: u32, is_kept: bool) -> Tallies
-        ensures { result ≡ with-one self cost is_kept }
+        ensures { result ≡ with_one self cost is_kept }
     {
         let lodged = self.lodged;
         let left = self.left;

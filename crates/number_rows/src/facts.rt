@@ -1,8 +1,8 @@
 // Lines of a variable and its value.
 ghost use Rattle.std.specs.Prelude.{◌≡◌, [], ◌∷◌};
-ghost use Rattle.form.specs.between.Form.{numbers, times};
-ghost use Rattle.form.specs.between.Reading.{Within, Room, Reads};
-ghost use Rattle.number_rows.specs.between.Rows.{fact-row};
+ghost use Rattle.form.specs.Between.Form.{numbers, times};
+ghost use Rattle.form.specs.Between.Reading.{Within, Room, Reads};
+ghost use Rattle.number_rows.specs.Between.Rows.{fact_row};
 
 use access::put;
 use fields::word::{Behind, read_number};
@@ -11,7 +11,7 @@ use form::reader::{Reader, kept_count};
 // Reads such a line, which is kept or not.
 fn read_fact(text: &[u8], r: Reader, tape: &mut [u32], keeps: bool) -> Reader
     requires { Within text.now r × Room text.now tape.old × (r.broken ≡ 0) }
-    ensures { Reads (numbers (fact-row keeps) ∷ []) text.now r tape.old
+    ensures { Reads (numbers (fact_row keeps) ∷ []) text.now r tape.old
         result tape.new }
 {
     let variable = read_number(text, r.at);
@@ -33,7 +33,7 @@ fn read_fact(text: &[u8], r: Reader, tape: &mut [u32], keeps: bool) -> Reader
 // Reads n such lines.
 pub fn read_facts(text: &[u8], r: Reader, tape: &mut [u32], keeps: bool, n: usize) -> Reader
     requires { Within text.now r × Room text.now tape.old }
-    ensures { Reads (times n (numbers (fact-row keeps) ∷ [])) text.now r tape.old
+    ensures { Reads (times n (numbers (fact_row keeps) ∷ [])) text.now r tape.old
         result tape.new }
 {
     let mut current = r;

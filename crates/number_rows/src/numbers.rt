@@ -1,9 +1,9 @@
 // Lines of one number. The number stands on the tape then, behind those kept before, whether it is kept or not: a
 // number that counts is read from there.
 ghost use Rattle.std.specs.Prelude.{List, [], ◌∷◌, ℕ};
-ghost use Rattle.form.specs.between.Form.{Row, Metric, Layer, Value, Count, Axioms, numbers, times};
-ghost use Rattle.form.specs.between.Reading.{Within, Room, Reads, Reads-row};
-ghost use Rattle.number_rows.specs.between.Rows.{Plain-row};
+ghost use Rattle.form.specs.Between.Form.{Row, Metric, Layer, Value, Count, Axioms, numbers, times};
+ghost use Rattle.form.specs.Between.Reading.{Within, Room, Reads, ReadsRow};
+ghost use Rattle.number_rows.specs.Between.Rows.{PlainRow};
 
 use access::put;
 use fields::limits::ANY;
@@ -13,8 +13,8 @@ use form::reader::{Reader, kept_count};
 // Reads a line of one number, which is kept or not, and which every sheet can say.
 pub fn read_plain(text: &[u8], r: Reader, tape: &mut [u32], keeps: bool) -> Reader
     requires { Within text.now r × Room text.now tape.old }
-    ensures { (row : Row) → Plain-row keeps row
-        → Reads-row row text.now r tape.old result tape.new }
+    ensures { (row : Row) → PlainRow keeps row
+        → ReadsRow row text.now r tape.old result tape.new }
 {
     if r.broken != 0 {
         return r;
@@ -87,7 +87,7 @@ pub fn read_layer(text: &[u8], r: Reader) -> Reader
 // Reads how many axioms there are: only 0 is what a sheet can say.
 pub fn read_axiom_count(text: &[u8], r: Reader, tape: &mut [u32]) -> Reader
     requires { Within text.now r × Room text.now tape.old }
-    ensures { Reads-row (Count Axioms) text.now r tape.old result tape.new }
+    ensures { ReadsRow (Count Axioms) text.now r tape.old result tape.new }
 {
     if r.broken != 0 {
         return r;

@@ -14,183 +14,183 @@ use lib.Pow.{pow-add, high}
 use borrow.Author.Tests.{eqb-true, eqb-false}
 use Rattle.reduction.specs.Reduction.{Reduction, count}
 use Rattle.mask.specs.Mask.{digit}
-use Rattle.packed_state.specs.between.Chosen.{open-before, weight, chosen}
+use Rattle.packed_state.specs.Between.Chosen.{open_before, weight, chosen}
 
 module _ (flags : Reduction) (i : ℕ) where
   -- past a flagged step there are no more unflagged ones
-  pub open-flagged : get_or flags i false ≡ true → open-before flags (suc i) ≡ open-before flags i
-  unfolding open-before
-  open-flagged up = rw (up, add-zero)
+  pub open_flagged : get_or flags i false ≡ true → open_before flags (suc i) ≡ open_before flags i
+  unfolding open_before
+  open_flagged up = rw (up, add-zero)
 
   -- past an unflagged one there is one more
-  pub open-unflagged : get_or flags i false ≡ false → open-before flags (suc i) ≡ suc (open-before flags i)
-  unfolding open-before
-  open-unflagged down = rw (down, add-one)
+  pub open_unflagged : get_or flags i false ≡ false → open_before flags (suc i) ≡ suc (open_before flags i)
+  unfolding open_before
+  open_unflagged down = rw (down, add-one)
 
   -- past a flagged step the choices are the same
-  pub chosen-flagged : (m : Reduction) → get_or flags i false ≡ true → chosen flags m (suc i) ≡ chosen flags m i
+  pub chosen_flagged : (m : Reduction) → get_or flags i false ≡ true → chosen flags m (suc i) ≡ chosen flags m i
   unfolding chosen
-  chosen-flagged m up = rw up
+  chosen_flagged m up = rw up
 
   -- past an unflagged one they have its bit where it is kept
-  pub chosen-unflagged : (m : Reduction) → get_or flags i false ≡ false → chosen flags m (suc i) ≡ chosen flags m i + digit (get_or m i false) * weight flags i
+  pub chosen_unflagged : (m : Reduction) → get_or flags i false ≡ false → chosen flags m (suc i) ≡ chosen flags m i + digit (get_or m i false) * weight flags i
   unfolding chosen
-  chosen-unflagged m down = rw down
+  chosen_unflagged m down = rw down
 
   -- the number of unflagged steps does not fall at a step
-  open-on : open-before flags i ≤ open-before flags (suc i)
-  unfolding open-before
-  open-on = omega arith
+  open_on : open_before flags i ≤ open_before flags (suc i)
+  unfolding open_before
+  open_on = omega arith
 
 -- a later index has no fewer unflagged steps before it
-pub open-rises : (flags : Reduction) (i j : ℕ) → i ≤ j → open-before flags i ≤ open-before flags j
-open-rises flags i j h =
-    le_ind (λ k. open-before flags i ≤ open-before flags k) (omega arith) (λ k later so_far. omega (arith, open-on flags k)) j h
+pub open_rises : (flags : Reduction) (i j : ℕ) → i ≤ j → open_before flags i ≤ open_before flags j
+open_rises flags i j h =
+    le_ind (λ k. open_before flags i ≤ open_before flags k) (omega arith) (λ k later so_far. omega (arith, open_on flags k)) j h
 
 -- the choices before an index are below the bit of the unflagged step there
-pub chosen-below : (flags m : Reduction) (i : ℕ) → chosen flags m i < weight flags i
-unfolding chosen open-before
-chosen-below flags m zero = omega arith
-chosen-below flags m (suc i) = by-case (chosen-below flags m i) (get_or flags i false) refl (get_or m i false) refl
+pub chosen_below : (flags m : Reduction) (i : ℕ) → chosen flags m i < weight flags i
+unfolding chosen open_before
+chosen_below flags m zero = omega arith
+chosen_below flags m (suc i) = by_case (chosen_below flags m i) (get_or flags i false) refl (get_or m i false) refl
   where
-    by-case : chosen flags m i < weight flags i → (b : Bool) → get_or flags i false ≡ b → (d : Bool) → get_or m i false ≡ d
+    by_case : chosen flags m i < weight flags i → (b : Bool) → get_or flags i false ≡ b → (d : Bool) → get_or m i false ≡ d
         → chosen flags m (suc i) < weight flags (suc i)
-    by-case below true up d e = rw (chosen-flagged flags i m up, open-flagged flags i up) below
-    by-case below false down true e =
-        rw (chosen-unflagged flags i m down, open-unflagged flags i down, e) (omega (arith, pow-suc 2 (suc (open-before flags i))))
-    by-case below false down false e =
-        rw (chosen-unflagged flags i m down, open-unflagged flags i down, e) (omega (arith, pow-suc 2 (suc (open-before flags i))))
+    by_case below true up d e = rw (chosen_flagged flags i m up, open_flagged flags i up) below
+    by_case below false down true e =
+        rw (chosen_unflagged flags i m down, open_unflagged flags i down, e) (omega (arith, pow-suc 2 (suc (open_before flags i))))
+    by_case below false down false e =
+        rw (chosen_unflagged flags i m down, open_unflagged flags i down, e) (omega (arith, pow-suc 2 (suc (open_before flags i))))
 
 -- the choices are odd
-pub chosen-odd : (flags m : Reduction) (i : ℕ) → chosen flags m i % 2 ≡ 1
+pub chosen_odd : (flags m : Reduction) (i : ℕ) → chosen flags m i % 2 ≡ 1
 unfolding chosen
-chosen-odd flags m zero = refl
-chosen-odd flags m (suc i) = by-case (chosen-odd flags m i) (get_or flags i false) refl (get_or m i false) refl
+chosen_odd flags m zero = refl
+chosen_odd flags m (suc i) = by_case (chosen_odd flags m i) (get_or flags i false) refl (get_or m i false) refl
   where
-    by-case : chosen flags m i % 2 ≡ 1 → (b : Bool) → get_or flags i false ≡ b → (d : Bool) → get_or m i false ≡ d → chosen flags m (suc i) % 2 ≡ 1
-    by-case odd true up d e = rw (chosen-flagged flags i m up) odd
-    by-case odd false down true e = rw (chosen-unflagged flags i m down, e) (omega (arith, pow-suc 2 (open-before flags i)))
-    by-case odd false down false e = rw (chosen-unflagged flags i m down, e) (omega arith)
+    by_case : chosen flags m i % 2 ≡ 1 → (b : Bool) → get_or flags i false ≡ b → (d : Bool) → get_or m i false ≡ d → chosen flags m (suc i) % 2 ≡ 1
+    by_case odd true up d e = rw (chosen_flagged flags i m up) odd
+    by_case odd false down true e = rw (chosen_unflagged flags i m down, e) (omega (arith, pow-suc 2 (open_before flags i)))
+    by_case odd false down false e = rw (chosen_unflagged flags i m down, e) (omega arith)
 
 -- two reductions with the same decisions before an index have the same choices there
-pub chosen-alike : (flags m n : Reduction) (i : ℕ) → ((k : ℕ) → k < i → get_or m k false ≡ get_or n k false) → chosen flags m i ≡ chosen flags n i
+pub chosen_alike : (flags m n : Reduction) (i : ℕ) → ((k : ℕ) → k < i → get_or m k false ≡ get_or n k false) → chosen flags m i ≡ chosen flags n i
 unfolding chosen
-chosen-alike flags m n zero same = refl
-chosen-alike flags m n (suc i) same = rw (chosen-alike flags m n i (λ k h. same k (omega arith)), same i (omega arith))
+chosen_alike flags m n zero same = refl
+chosen_alike flags m n (suc i) same = rw (chosen_alike flags m n i (λ k h. same k (omega arith)), same i (omega arith))
 
 -- where no unflagged step is kept from an index on, the choices stay
-pub chosen-stays : (flags m : Reduction) (i j : ℕ) → i ≤ j → ((k : ℕ) → i ≤ k → k < j → get_or m k false ≡ get_or flags k false) → chosen flags m j ≡ chosen flags m i
-chosen-stays flags m i j h same = le_ind (λ n. n ≤ j → chosen flags m n ≡ chosen flags m i) (λ within. refl) (λ n later so_far. one_on n later so_far) j h (omega arith)
+pub chosen_stays : (flags m : Reduction) (i j : ℕ) → i ≤ j → ((k : ℕ) → i ≤ k → k < j → get_or m k false ≡ get_or flags k false) → chosen flags m j ≡ chosen flags m i
+chosen_stays flags m i j h same = le_ind (λ n. n ≤ j → chosen flags m n ≡ chosen flags m i) (λ within. refl) (λ n later so_far. one_on n later so_far) j h (omega arith)
   where
     one_on : (n : ℕ) → i ≤ n → (n ≤ j → chosen flags m n ≡ chosen flags m i) → suc n ≤ j → chosen flags m (suc n) ≡ chosen flags m i
-    one_on n later so_far within = by-case (get_or flags n false) refl
+    one_on n later so_far within = by_case (get_or flags n false) refl
       where
-        by-case : (b : Bool) → get_or flags n false ≡ b → chosen flags m (suc n) ≡ chosen flags m i
-        by-case true up = chosen-flagged flags n m up ∙ so_far (omega arith)
-        by-case false down = chosen-unflagged flags n m down ∙ rw (same n later within ∙ down) (omega (arith, so_far (omega arith)))
+        by_case : (b : Bool) → get_or flags n false ≡ b → chosen flags m (suc n) ≡ chosen flags m i
+        by_case true up = chosen_flagged flags n m up ∙ so_far (omega arith)
+        by_case false down = chosen_unflagged flags n m down ∙ rw (same n later within ∙ down) (omega (arith, so_far (omega arith)))
 
 -- past flagged steps alone there are no more unflagged ones
-pub open_stays : (flags : Reduction) (i j : ℕ) → i ≤ j → ((k : ℕ) → i ≤ k → k < j → get_or flags k false ≡ true) → open-before flags j ≡ open-before flags i
+pub open_stays : (flags : Reduction) (i j : ℕ) → i ≤ j → ((k : ℕ) → i ≤ k → k < j → get_or flags k false ≡ true) → open_before flags j ≡ open_before flags i
 open_stays flags i j h all =
-    le_ind (λ n. n ≤ j → open-before flags n ≡ open-before flags i) (λ within. refl)
-    (λ n later so_far within. open-flagged flags n (all n later within) ∙ so_far (omega arith)) j h (omega arith)
+    le_ind (λ n. n ≤ j → open_before flags n ≡ open_before flags i) (λ within. refl)
+    (λ n later so_far within. open_flagged flags n (all n later within) ∙ so_far (omega arith)) j h (omega arith)
 
 -- the first unflagged step from an index on, or the end
-pub record Next-open (flags : Reduction) (i end j : ℕ) : Type 0 where
+pub record NextOpen (flags : Reduction) (i end j : ℕ) : Type 0 where
   pub later : i ≤ j
   pub within : j ≤ end
   pub passed : (k : ℕ) → i ≤ k → k < j → get_or flags k false ≡ true
   pub unflagged : j < end → get_or flags j false ≡ false
 
-pub next-open : (flags : Reduction) (n i : ℕ) → (j : ℕ) × Next-open flags i (i + n) j
-next-open flags zero i =
+pub next_open : (flags : Reduction) (n i : ℕ) → (j : ℕ) × NextOpen flags i (i + n) j
+next_open flags zero i =
     (i, record { later = omega arith; within = omega arith; passed = λ k above below. absurd (omega arith); unflagged = λ below. absurd (omega arith) })
-next-open flags (suc n) i = by-case (next-open flags n (suc i)) (get_or flags i false) refl
+next_open flags (suc n) i = by_case (next_open flags n (suc i)) (get_or flags i false) refl
   where
-    by-case : (j : ℕ) × Next-open flags (suc i) (suc i + n) j → (b : Bool) → get_or flags i false ≡ b → (j : ℕ) × Next-open flags i (i + suc n) j
-    by-case rest false down =
+    by_case : (j : ℕ) × NextOpen flags (suc i) (suc i + n) j → (b : Bool) → get_or flags i false ≡ b → (j : ℕ) × NextOpen flags i (i + suc n) j
+    by_case rest false down =
         (i, record { later = omega arith; within = omega arith; passed = λ k above below. absurd (omega arith); unflagged = λ below. down })
-    by-case (j, rest) true up = (
+    by_case (j, rest) true up = (
       j,
       record {
         later = omega (arith, rest.later);
         within = omega (arith, rest.within);
-        passed = λ k above below. first-passed k above below (eqb k i) refl;
+        passed = λ k above below. first_passed k above below (eqb k i) refl;
         unflagged = λ below. rest.unflagged (omega arith);
       },
     )
       where
-        first-passed : (k : ℕ) → i ≤ k → k < j → (b : Bool) → eqb k i ≡ b → get_or flags k false ≡ true
-        first-passed k above below true e = rw (eqb-true k i e) up
-        first-passed k above below false e = rest.passed k (omega (arith, eqb-false k i e)) below
+        first_passed : (k : ℕ) → i ≤ k → k < j → (b : Bool) → eqb k i ≡ b → get_or flags k false ≡ true
+        first_passed k above below true e = rw (eqb-true k i e) up
+        first_passed k above below false e = rest.passed k (omega (arith, eqb-false k i e)) below
 
 -- past an unflagged step the choices have more bits only above its own
-chosen-high : (flags m : Reduction) (i n : ℕ) → suc i ≤ n → get_or flags i false ≡ false
-    → (a : ℕ) × (chosen flags m n ≡ a * 2 ^ suc (suc (open-before flags i)) + chosen flags m (suc i))
-chosen-high flags m i n h down =
-    le_ind (λ k. (a : ℕ) × (chosen flags m k ≡ a * 2 ^ suc (suc (open-before flags i)) + chosen flags m (suc i))) (0, omega arith) (λ k later so_far. one_on k later so_far) n h
+chosen_high : (flags m : Reduction) (i n : ℕ) → suc i ≤ n → get_or flags i false ≡ false
+    → (a : ℕ) × (chosen flags m n ≡ a * 2 ^ suc (suc (open_before flags i)) + chosen flags m (suc i))
+chosen_high flags m i n h down =
+    le_ind (λ k. (a : ℕ) × (chosen flags m k ≡ a * 2 ^ suc (suc (open_before flags i)) + chosen flags m (suc i))) (0, omega arith) (λ k later so_far. one_on k later so_far) n h
   where
-    one_on : (k : ℕ) → suc i ≤ k → (a : ℕ) × (chosen flags m k ≡ a * 2 ^ suc (suc (open-before flags i)) + chosen flags m (suc i))
-        → (a : ℕ) × (chosen flags m (suc k) ≡ a * 2 ^ suc (suc (open-before flags i)) + chosen flags m (suc i))
-    one_on k later (a, so_far) = by-case (get_or flags k false) refl
+    one_on : (k : ℕ) → suc i ≤ k → (a : ℕ) × (chosen flags m k ≡ a * 2 ^ suc (suc (open_before flags i)) + chosen flags m (suc i))
+        → (a : ℕ) × (chosen flags m (suc k) ≡ a * 2 ^ suc (suc (open_before flags i)) + chosen flags m (suc i))
+    one_on k later (a, so_far) = by_case (get_or flags k false) refl
       where
         b : ℕ
-        b = 2 ^ suc (suc (open-before flags i))
+        b = 2 ^ suc (suc (open_before flags i))
 
         e : ℕ
-        e = open-before flags k - suc (open-before flags i)
+        e = open_before flags k - suc (open_before flags i)
 
         wide : weight flags k ≡ 2 ^ e * b
         wide =
-            let parts : suc (open-before flags k) ≡ e + suc (suc (open-before flags i)) = omega (arith, open-rises flags (suc i) k later, open-unflagged flags i down) in
-            rw parts (pow-add 2 e (suc (suc (open-before flags i))))
+            let parts : suc (open_before flags k) ≡ e + suc (suc (open_before flags i)) = omega (arith, open_rises flags (suc i) k later, open_unflagged flags i down) in
+            rw parts (pow-add 2 e (suc (suc (open_before flags i))))
 
-        by-case : (f : Bool) → get_or flags k false ≡ f → (a' : ℕ) × (chosen flags m (suc k) ≡ a' * b + chosen flags m (suc i))
-        by-case true up = (a, chosen-flagged flags k m up ∙ so_far)
-        by-case false free = (
+        by_case : (f : Bool) → get_or flags k false ≡ f → (a' : ℕ) × (chosen flags m (suc k) ≡ a' * b + chosen flags m (suc i))
+        by_case true up = (a, chosen_flagged flags k m up ∙ so_far)
+        by_case false free = (
           a + digit (get_or m k false) * 2 ^ e,
-          chosen-unflagged flags k m free
+          chosen_unflagged flags k m free
               ∙ rw (so_far, wide, add-mul a (digit (get_or m k false) * 2 ^ e) b, mul_assoc (digit (get_or m k false)) (2 ^ e) b) (omega arith),
         )
 
 -- the bit of an unflagged step tells whether it is kept
-pub chosen-bit : (flags m : Reduction) (i n : ℕ) → i < n → get_or flags i false ≡ false → chosen flags m n / weight flags i % 2 ≡ digit (get_or m i false)
-chosen-bit flags m i n h down = by_parts (chosen-high flags m i n h down)
+pub chosen_bit : (flags m : Reduction) (i n : ℕ) → i < n → get_or flags i false ≡ false → chosen flags m n / weight flags i % 2 ≡ digit (get_or m i false)
+chosen_bit flags m i n h down = by_parts (chosen_high flags m i n h down)
   where
     w : ℕ
     w = weight flags i
 
-    last-digit : (a : ℕ) (b : Bool) → (a * 2 + digit b) % 2 ≡ digit b
-    last-digit a true = omega arith
-    last-digit a false = omega arith
+    last_digit : (a : ℕ) (b : Bool) → (a * 2 + digit b) % 2 ≡ digit b
+    last_digit a true = omega arith
+    last_digit a false = omega arith
 
-    by_parts : (a : ℕ) × (chosen flags m n ≡ a * 2 ^ suc (suc (open-before flags i)) + chosen flags m (suc i)) → chosen flags m n / w % 2 ≡ digit (get_or m i false)
+    by_parts : (a : ℕ) × (chosen flags m n ≡ a * 2 ^ suc (suc (open_before flags i)) + chosen flags m (suc i)) → chosen flags m n / w % 2 ≡ digit (get_or m i false)
     by_parts (a, parts) =
-        let two : a * 2 ^ suc (suc (open-before flags i)) ≡ a * 2 * w = rw (pow-suc 2 (suc (open-before flags i)), mul_comm w 2) (sym (mul_assoc a 2 w)) in
+        let two : a * 2 ^ suc (suc (open_before flags i)) ≡ a * 2 * w = rw (pow-suc 2 (suc (open_before flags i)), mul_comm w 2) (sym (mul_assoc a 2 w)) in
         let whole : chosen flags m n ≡ (a * 2 + digit (get_or m i false)) * w + chosen flags m i =
-        parts ∙ rw (two, chosen-unflagged flags i m down, add-mul (a * 2) (digit (get_or m i false)) w) (omega arith) in
-        rw (whole, high (a * 2 + digit (get_or m i false)) (suc (open-before flags i)) (chosen-below flags m i)) (last-digit a (get_or m i false))
+        parts ∙ rw (two, chosen_unflagged flags i m down, add-mul (a * 2) (digit (get_or m i false)) w) (omega arith) in
+        rw (whole, high (a * 2 + digit (get_or m i false)) (suc (open_before flags i)) (chosen_below flags m i)) (last_digit a (get_or m i false))
 
 -- where all steps are kept all bits are one
-pub chosen-all : (flags m : Reduction) (i : ℕ) → ((k : ℕ) → k < i → get_or m k false ≡ true) → chosen flags m i ≡ weight flags i - 1
-unfolding chosen open-before
-chosen-all flags m zero all = refl
-chosen-all flags m (suc i) all = by-case (chosen-all flags m i (λ k h. all k (omega arith))) (get_or flags i false) refl
+pub chosen_all : (flags m : Reduction) (i : ℕ) → ((k : ℕ) → k < i → get_or m k false ≡ true) → chosen flags m i ≡ weight flags i - 1
+unfolding chosen open_before
+chosen_all flags m zero all = refl
+chosen_all flags m (suc i) all = by_case (chosen_all flags m i (λ k h. all k (omega arith))) (get_or flags i false) refl
   where
-    by-case : chosen flags m i ≡ weight flags i - 1 → (b : Bool) → get_or flags i false ≡ b → chosen flags m (suc i) ≡ weight flags (suc i) - 1
-    by-case before true up = rw (chosen-flagged flags i m up, open-flagged flags i up) before
-    by-case before false down =
-        rw (chosen-unflagged flags i m down, open-unflagged flags i down, all i (omega arith))
-        (omega (arith, before, pow-suc 2 (suc (open-before flags i)), chosen-below flags m i))
+    by_case : chosen flags m i ≡ weight flags i - 1 → (b : Bool) → get_or flags i false ≡ b → chosen flags m (suc i) ≡ weight flags (suc i) - 1
+    by_case before true up = rw (chosen_flagged flags i m up, open_flagged flags i up) before
+    by_case before false down =
+        rw (chosen_unflagged flags i m down, open_unflagged flags i down, all i (omega arith))
+        (omega (arith, before, pow-suc 2 (suc (open_before flags i)), chosen_below flags m i))
 
 -- of all steps those are unflagged that are not counted as flagged
-open-later : (b : Bool) (flags : Reduction) (i : ℕ) → open-before (b ∷ flags) (suc i) ≡ digit (not b) + open-before flags i
-unfolding open-before
-open-later b flags zero = omega arith
-open-later b flags (suc i) = omega (arith, open-later b flags i)
+open_later : (b : Bool) (flags : Reduction) (i : ℕ) → open_before (b ∷ flags) (suc i) ≡ digit (not b) + open_before flags i
+unfolding open_before
+open_later b flags zero = omega arith
+open_later b flags (suc i) = omega (arith, open_later b flags i)
 
-pub open-counted : (flags : Reduction) → open-before flags (length flags) + count flags ≡ length flags
-unfolding open-before count
-open-counted [] = refl
-open-counted (true ∷ flags) = omega (arith, open-later true flags (length flags), open-counted flags)
-open-counted (false ∷ flags) = omega (arith, open-later false flags (length flags), open-counted flags)
+pub open_counted : (flags : Reduction) → open_before flags (length flags) + count flags ≡ length flags
+unfolding open_before count
+open_counted [] = refl
+open_counted (true ∷ flags) = omega (arith, open_later true flags (length flags), open_counted flags)
+open_counted (false ∷ flags) = omega (arith, open_later false flags (length flags), open_counted flags)

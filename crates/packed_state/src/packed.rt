@@ -4,8 +4,8 @@
 ghost use Rattle.std.specs.Prelude.{◌≡◌, ◌≤◌, ◌<◌};
 ghost use Rattle.sheet.specs.Decode.{initial as initial-of};
 ghost use Rattle.step.specs.State.{in_array};
-ghost use Rattle.packed_state.specs.between.Packed.{most-rows, lacking, taking, has_all, written_over};
-ghost use Rattle.packed_state.specs.between.Packed.{packed_start};
+ghost use Rattle.packed_state.specs.Between.Packed.{most_rows, lacking, taking, has_all, written_over};
+ghost use Rattle.packed_state.specs.Between.Packed.{packed_start};
 
 use sheet::limits::Sheet;
 use step::state::initial;
@@ -40,7 +40,7 @@ fn takes(asked: u8, value: u8, has: u8) -> u8
 
 // Whether a state has all that row r asks for.
 pub fn holds_row(rows: &[u8; ROWS * ROW], r: usize, state: &[u8; STATE]) -> bool
-    requires { r < most-rows }
+    requires { r < most_rows }
     ensures { result ≡ has_all rows.now r state.now }
 {
     let from = r * ROW;
@@ -55,7 +55,7 @@ pub fn holds_row(rows: &[u8; ROWS * ROW], r: usize, state: &[u8; STATE]) -> bool
 
 // A state with row r written over it.
 pub fn write_row(rows: &[u8; ROWS * ROW], r: usize, state: &[u8; STATE]) -> [u8; STATE]
-    requires { r < most-rows }
+    requires { r < most_rows }
     ensures { result ≡ written_over rows.now r state.now }
 {
     let from = r * ROW;

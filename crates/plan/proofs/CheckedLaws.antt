@@ -11,65 +11,65 @@ use Rattle.refusal.specs.declared.Refusal.{Refusal}
 use Rattle.refusal.specs.declared.Refusal.TheVariants.{NotAPlan}
 use Rattle.refusal.specs.declared.Verdict.{Verdict}
 use Rattle.refusal.specs.declared.Verdict.TheVariants.{Passed, Refused as Refused-verdict}
-use Rattle.refusal.specs.Refusal.{told-refusal, told}
+use Rattle.refusal.specs.Refusal.{told_refusal, told}
 use Rattle.refusal.specs.Check.{Check, answer}
 use Rattle.sheet.specs.Decode.{initial, goal}
 use Rattle.tally.specs.Tally.{bounds}
-use Rattle.step.specs.State.{state-size, front, in_array}
-use Rattle.step.proofs.StateLaws.{sized, few-variables, front-initial, array-laid}
+use Rattle.step.specs.State.{state_size, front, in_array}
+use Rattle.step.proofs.StateLaws.{sized, few_variables, front_initial, array_laid}
 use Rattle.plan.specs.declared.check.Answer.TheVariants.{Valid, Refused}
 use Rattle.plan.specs.declared.walk.Walked.{Walked}
-use Rattle.plan.specs.Readable.{Readable-within}
+use Rattle.plan.specs.Readable.{ReadableWithin}
 use Rattle.plan.specs.Valid.{steps}
-use Rattle.plan.specs.between.Fault.{fault, final}
-use Rattle.plan.specs.between.Walk.{Walks}
-use Rattle.plan.specs.Checked.{read-checks, lodged-checks, no-state, Checks}
-use Rattle.plan.specs.between.Lodged.{Checks-lodged}
-use Rattle.plan.proofs.FaultLaws.{final-length}
-use Rattle.plan.proofs.PlanLaws.{read-readable, read-answers, besides-answers, fault-answers, faultless-passes, walked-tally}
+use Rattle.plan.specs.Between.Fault.{fault, final}
+use Rattle.plan.specs.Between.Walk.{Walks}
+use Rattle.plan.specs.Checked.{read_checks, lodged_checks, no_state, Checks}
+use Rattle.plan.specs.Between.Lodged.{ChecksLodged}
+use Rattle.plan.proofs.FaultLaws.{final_length}
+use Rattle.plan.proofs.PlanLaws.{read_readable, read_answers, besides_answers, fault_answers, faultless_passes, walked_tally}
 
 -- a refusal comes with a tally and a state of zeros
-refused : (checks : List Check) (w l : List ℕ) (r : Refusal) → answer checks ≡ some (told-refusal r) → Checks checks w l (Refused r) no-state
+refused : (checks : List Check) (w l : List ℕ) (r : Refusal) → answer checks ≡ some (told_refusal r) → Checks checks w l (Refused r) no_state
 refused checks w l r h = record { refusal = sym h; tally = rw h; end = rw h }
 
-module _ (limit : ℕ) (room : limit ≤ bounds.steps) (w l : List ℕ) (v v' : Verdict) (read : told v ≡ answer (read-checks limit w l)) where
-  pub read-refused : (r : Refusal) → v ≡ Refused-verdict r → Checks-lodged limit w l v' (Refused r) no-state
-  read-refused r e = record { checked = λ besides asked. refused _ w l r (read-answers limit besides w l (sym read ∙ ap told e)) }
+module _ (limit : ℕ) (room : limit ≤ bounds.steps) (w l : List ℕ) (v v' : Verdict) (read : told v ≡ answer (read_checks limit w l)) where
+  pub read_refused : (r : Refusal) → v ≡ Refused-verdict r → ChecksLodged limit w l v' (Refused r) no_state
+  read_refused r e = record { checked = λ besides asked. refused _ w l r (read_answers limit besides w l (sym read ∙ ap told e)) }
 
   module _ (passed : v ≡ Passed) where
-    readable : Readable-within limit w l
-    readable = read-readable limit w l (sym read ∙ ap told passed)
+    readable : ReadableWithin limit w l
+    readable = read_readable limit w l (sym read ∙ ap told passed)
 
-    pub besides-refused : (r : Refusal) → v' ≡ Refused-verdict r → Checks-lodged limit w l v' (Refused r) no-state
-    besides-refused r e = record { checked = λ besides asked. refused _ w l r (besides-answers limit besides w l readable (sym asked ∙ ap told e)) }
+    pub besides_refused : (r : Refusal) → v' ≡ Refused-verdict r → ChecksLodged limit w l v' (Refused r) no_state
+    besides_refused r e = record { checked = λ besides asked. refused _ w l r (besides_answers limit besides w l readable (sym asked ∙ ap told e)) }
 
     -- the walk from the starting values, at the front of an array
-    module _ (passed' : v' ≡ Passed) (values before after : List ℕ) (n : ℕ) (r : Walked) (starts : values ≡ in_array (initial w)) (fits : n ≡ state-size w)
+    module _ (passed' : v' ≡ Passed) (values before after : List ℕ) (n : ℕ) (r : Walked) (starts : values ≡ in_array (initial w)) (fits : n ≡ state_size w)
         (lent : before ≡ front w values) (walks : Walks w l before r after) where
       begins : before ≡ initial w
-      begins = lent ∙ rw starts (front-initial w readable.accepted)
+      begins = lent ∙ rw starts (front_initial w readable.accepted)
 
       found : fault (goal w) (initial w) 1 (steps w l) ≡ r.fault
       found = sym (walks.place ∙ rw begins refl)
 
-      pub not_valid : (k : ℕ) → r.fault ≡ At k → Checks-lodged limit w l v' (Refused (NotAPlan k)) no-state
+      pub not_valid : (k : ℕ) → r.fault ≡ At k → ChecksLodged limit w l v' (Refused (NotAPlan k)) no_state
       not_valid k e =
-          record { checked = λ besides asked. refused _ w l (NotAPlan k) (fault-answers limit besides w l readable (sym asked ∙ ap told passed') k (found ∙ e)) }
+          record { checked = λ besides asked. refused _ w l (NotAPlan k) (fault_answers limit besides w l readable (sym asked ∙ ap told passed') k (found ∙ e)) }
 
       reached : r.fault ≡ Nowhere → after ≡ final (initial w) (steps w l)
       reached e = walks.values e ∙ rw begins refl
 
-      pub valid : (ends : List ℕ) → r.fault ≡ Nowhere → ends ≡ after ++ drop n values → Checks-lodged limit w l v' (Valid r.tally) ends
+      pub valid : (ends : List ℕ) → r.fault ≡ Nowhere → ends ≡ after ++ drop n values → ChecksLodged limit w l v' (Valid r.tally) ends
       valid ends e laid =
-          let kept : length (final (initial w) (steps w l)) ≡ length (initial w) = final-length (initial w) (steps w l) in
+          let kept : length (final (initial w) (steps w l)) ≡ length (initial w) = final_length (initial w) (steps w l) in
           let past : n ≡ length (initial w) = fits ∙ sized w readable.accepted in
           record {
             checked = λ besides asked.
-                let passes : answer (lodged-checks limit besides w l) ≡ none =
-                faultless-passes limit besides w l readable (sym asked ∙ ap told passed') (found ∙ e) in
+                let passes : answer (lodged_checks limit besides w l) ≡ none =
+                faultless_passes limit besides w l readable (sym asked ∙ ap told passed') (found ∙ e) in
                 record {
                   refusal = sym passes;
-                  tally = rw passes (walks.tally e ∙ walked-tally w l readable.accepted readable.known (omega (arith, readable.few)));
-                  end = rw passes (laid ∙ rw (reached e, starts, past) (array-laid (initial w) (final (initial w) (steps w l)) (few-variables w readable.accepted) kept));
+                  tally = rw passes (walks.tally e ∙ walked_tally w l readable.accepted readable.known (omega (arith, readable.few)));
+                  end = rw passes (laid ∙ rw (reached e, starts, past) (array_laid (initial w) (final (initial w) (steps w l)) (few_variables w readable.accepted) kept));
                 };
           }

@@ -5,4 +5,4 @@ pub mod Readable
 pub mod Valid
 pub mod Checked
 -- between: what functions hand to each other, which need not be believed.
-pub mod between
+pub mod Between

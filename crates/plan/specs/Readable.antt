@@ -3,17 +3,17 @@ use Rattle.std.specs.Prelude.{ℕ, ◌≤◌, ◌<◌, length}
 use mathlib.Core.List.{List, Memᴰ}
 use Rattle.sheet.specs.Layout.{actions}
 use Rattle.sheet.specs.Causes.{Accepted}
-use Rattle.plan.specs.Limits.{most-steps}
+use Rattle.plan.specs.Limits.{most_steps}
 
 -- each entry of a list is the number of an action
-abbrev pub Entries-known : List ℕ → List ℕ → Type 0
-Entries-known w l = (a : ℕ) → Memᴰ a l → a < actions w
+abbrev pub EntriesKnown : List ℕ → List ℕ → Type 0
+EntriesKnown w l = (a : ℕ) → Memᴰ a l → a < actions w
 
 -- its sheet is accepted, it has no more steps than the limit, and each entry is the number of an action
-pub record Readable-within (limit : ℕ) (w l : List ℕ) : Type 0 where
+pub record ReadableWithin (limit : ℕ) (w l : List ℕ) : Type 0 where
   pub accepted : Accepted w
   pub few : length l ≤ limit
-  pub known : Entries-known w l
+  pub known : EntriesKnown w l
 
 abbrev pub Readable : List ℕ → List ℕ → Type 0
-Readable w l = Readable-within most-steps w l
+Readable w l = ReadableWithin most_steps w l

@@ -10,5 +10,5 @@ steps w l = map (action w) l
 
 -- where a list that can be read is no plan: place k is that of the first step that can't be done, or one past the last
 -- and only the goal is unmet
-abbrev pub Fails-at : List ℕ → List ℕ → ℕ → Type 0
-Fails-at w l k = Stuck (initial w) (steps w l) k ⊎ ((k ≡ length l + 1) × Unmet (goal w) (initial w) (steps w l))
+abbrev pub FailsAt : List ℕ → List ℕ → ℕ → Type 0
+FailsAt w l k = Stuck (initial w) (steps w l) k ⊎ ((k ≡ length l + 1) × Unmet (goal w) (initial w) (steps w l))

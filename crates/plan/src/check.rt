@@ -2,8 +2,8 @@
 ghost use Rattle.std.specs.Prelude.{◌≡◌, ◌≤◌};
 ghost use Rattle.tally.specs.Tally.{bounds};
 ghost use Rattle.plan.specs.declared.check.Answer.TheVariants.{Refused};
-ghost use Rattle.plan.specs.Checked.{plan-checks, no-state, Checks};
-ghost use Rattle.plan.specs.between.Lodged.{Checks-lodged};
+ghost use Rattle.plan.specs.Checked.{plan_checks, no_state, Checks};
+ghost use Rattle.plan.specs.Between.Lodged.{ChecksLodged};
 
 use crate::limits::Plan;
 use crate::list::check_read;
@@ -31,7 +31,7 @@ pub struct Checked {
 impl Checked {
     // A refusal, with its state of zeros.
     fn refused(refusal: Refusal) -> Checked
-        ensures { (result.answer ≡ Refused refusal) × (result.state.values ≡ no-state) }
+        ensures { (result.answer ≡ Refused refusal) × (result.state.values ≡ no_state) }
     {
         Checked {
             answer: Answer::Refused(refusal),
@@ -46,7 +46,7 @@ impl Checked {
 // a service asks besides, after what is read and before the plan's validity.
 pub fn check_lodged(words: &[u32], plan: &[u32], limit: usize, besides: Verdict) -> Checked
     requires { limit ≤ bounds.steps }
-    ensures { Checks-lodged limit words.now plan.now besides
+    ensures { ChecksLodged limit words.now plan.now besides
         result.answer result.state.values }
 {
     let read = check_read(words, plan, limit);
@@ -74,7 +74,7 @@ pub fn check_lodged(words: &[u32], plan: &[u32], limit: usize, besides: Verdict)
 
 // Checks a plan of a task.
 pub fn check_plan(words: &[u32], plan: &[u32]) -> Checked
-    ensures { Checks (plan-checks words.now plan.now)
+    ensures { Checks (plan_checks words.now plan.now)
         words.now plan.now result.answer result.state.values }
 {
     check_lodged(words, plan, Plan::STEPS, Verdict::Passed)

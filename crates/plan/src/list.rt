@@ -3,7 +3,7 @@
 ghost use Rattle.std.specs.Prelude.{◌≡◌};
 ghost use Rattle.refusal.specs.Refusal.{told};
 ghost use Rattle.refusal.specs.Check.{answer};
-ghost use Rattle.plan.specs.Checked.{unknown-place, list-checks, read-checks};
+ghost use Rattle.plan.specs.Checked.{unknown_place, list_checks, read_checks};
 
 use refusal::place::Place;
 use refusal::{Refusal, Verdict};
@@ -12,7 +12,7 @@ use sheet_check::check::check_sheet;
 
 // The position of the first unknown action.
 fn unknown_action(words: &[u32], plan: &[u32]) -> Place
-    ensures { result ≡ unknown-place words.now plan.now }
+    ensures { result ≡ unknown_place words.now plan.now }
 {
     let known = actions(words);
     let mut i = 0;
@@ -27,7 +27,7 @@ fn unknown_action(words: &[u32], plan: &[u32]) -> Place
 
 // Refusals 8, more steps than the limit, and 9.
 fn check_list(words: &[u32], plan: &[u32], limit: usize) -> Verdict
-    ensures { told result ≡ answer (list-checks limit words.now plan.now) }
+    ensures { told result ≡ answer (list_checks limit words.now plan.now) }
 {
     if limit < plan.len() {
         return Verdict::Refused(Refusal::PlanLength(limit));
@@ -41,7 +41,7 @@ fn check_list(words: &[u32], plan: &[u32], limit: usize) -> Verdict
 
 // The sheet's checks, then the list's.
 pub fn check_read(words: &[u32], plan: &[u32], limit: usize) -> Verdict
-    ensures { told result ≡ answer (read-checks limit words.now plan.now) }
+    ensures { told result ≡ answer (read_checks limit words.now plan.now) }
 {
     let sheet = check_sheet(words);
     match sheet {

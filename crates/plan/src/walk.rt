@@ -1,7 +1,7 @@
 // The steps of a plan in turn.
 ghost use Rattle.std.specs.Prelude.{◌≤◌, length};
 ghost use Rattle.sheet.specs.Limits.{limits};
-ghost use Rattle.plan.specs.between.Walk.{Walks};
+ghost use Rattle.plan.specs.Between.Walk.{Walks};
 
 use refusal::place::Place;
 use sheet::layout::cost;

@@ -2,17 +2,17 @@
 -- such line from 1, a missing one too"). Assumes nothing.
 use Rattle.std.specs.Prelude.{ℕ, ◌+◌, ◌≡◌, length}
 use mathlib.Core.List.{List, [], ◌∷◌, ◌++◌, map, Memᴰ}
-use Rattle.ascii.specs.Bytes.{line-end, ends-line, runs, split}
+use Rattle.ascii.specs.Bytes.{line_end, ends_line, runs, split}
 use Rattle.planner.specs.Text.{Text}
 use Rattle.planner.specs.Printed.{Line, lines, printed}
 
 -- a line holds no line end
-abbrev pub One-line : List ℕ → Type 0
-One-line bytes = Memᴰ line-end bytes → ⊥
+abbrev pub OneLine : List ℕ → Type 0
+OneLine bytes = Memᴰ line_end bytes → ⊥
 
 -- a text whose names are lines, and whose state has a value for each variable
 pub record Formed (t : Text) : Type 0 where
-  pub one_each : (l : Line) → Memᴰ l (lines t) → One-line l.bytes
+  pub one_each : (l : Line) → Memᴰ l (lines t) → OneLine l.bytes
   pub values : length t.state ≡ length t.variables
 
 -- the bytes are those of the text t
@@ -33,7 +33,7 @@ pub record Breaks (bytes : List ℕ) (n : ℕ) : Type 0 where
   pub before : List (List ℕ)
   pub line : List ℕ
   pub behind : List (List ℕ)
-  pub parts : runs (split ends-line bytes) ≡ before ++ (line ∷ behind)
+  pub parts : runs (split ends_line bytes) ≡ before ++ (line ∷ behind)
   pub place : n ≡ length before + 1
   pub begins : Begins before
   pub ended : (behind ≡ [] → ⊥) → Begins (before ++ (line ∷ [])) → ⊥

@@ -10,22 +10,22 @@ use Rattle.planner.specs.Text.{Change, Effect, Operator, Text}
 use Rattle.planner.specs.Printed.{Line, lines}
 
 -- the fact that a change asks for, and the one that it makes true
-abbrev pub old-fact : Change → Assignment
-old-fact c = elim c.old [ none ↦ [] | some v ↦ record { variable = c.variable; value = v } ∷ [] ]
+abbrev pub old_fact : Change → Assignment
+old_fact c = elim c.old [ none ↦ [] | some v ↦ record { variable = c.variable; value = v } ∷ [] ]
 
-abbrev pub new-fact : Change → Fact
-new-fact c = record { variable = c.variable; value = c.new }
+abbrev pub new_fact : Change → Fact
+new_fact c = record { variable = c.variable; value = c.new }
 
 -- an effect, with its conditions
-abbrev pub meant-effect : Effect → sas.Effect
-meant-effect e = record { condition = e.conditions; fact = new-fact e.change }
+abbrev pub meant_effect : Effect → sas.Effect
+meant_effect e = record { condition = e.conditions; fact = new_fact e.change }
 
 -- "prevail conditions and old values become preconditions; metric 0 makes every price 1"
-abbrev pub meant-action : Bool → Operator → Action
-meant-action metric o =
+abbrev pub meant_action : Bool → Operator → Action
+meant_action metric o =
     record {
-      precondition = o.prevail ++ flatten (map (λ e. old-fact e.change) o.effects);
-      effects = map meant-effect o.effects;
+      precondition = o.prevail ++ flatten (map (λ e. old_fact e.change) o.effects);
+      effects = map meant_effect o.effects;
       cost = cond metric o.cost 1;
     }
 
@@ -33,15 +33,15 @@ unfoldable pub meant : Text → Task
 meant t =
     record {
       domains = map (λ v. length v.values) t.variables;
-      actions = map (meant-action t.metric) t.operators;
+      actions = map (meant_action t.metric) t.operators;
       initial = t.state;
       goal = t.goal;
     }
 
 -- 14: the first line that no sheet can say; the first of these lines is line n
-unfoldable pub first-barred : ℕ → List Line → Place
-first-barred n [] = Nowhere
-first-barred n (l ∷ ls) = cond l.barred (At n) (first-barred (n + 1) ls)
+unfoldable pub first_barred : ℕ → List Line → Place
+first_barred n [] = Nowhere
+first_barred n (l ∷ ls) = cond l.barred (At n) (first_barred (n + 1) ls)
 
 abbrev pub unsayable : Text → Place
-unsayable t = first-barred 1 (lines t)
+unsayable t = first_barred 1 (lines t)

@@ -5,42 +5,42 @@ use mathlib.Core.Path.{◌≡◌, refl, sym, ◌∙◌, ap}
 use mathlib.Core.Bool.{Bool, true, false}
 use mathlib.Core.List.{List, [], ◌∷◌, ◌++◌, nil≢cons, cons≢nil, head-eq_of_cons-eq, tail-eq_of_cons-eq}
 use lib.ListN.{length}
-use Rattle.ascii.specs.Bytes.{ends-line, runs, split}
-use Rattle.ascii.proofs.SplitLaws.{split_at, split-in}
-use Rattle.fields.specs.between.Numbers.{most-number}
-use Rattle.printed_form.proofs.WalkLaws.{All-short}
+use Rattle.ascii.specs.Bytes.{ends_line, runs, split}
+use Rattle.ascii.proofs.SplitLaws.{split_at, split_in}
+use Rattle.fields.specs.Between.Numbers.{most_number}
+use Rattle.printed_form.proofs.WalkLaws.{AllShort}
 
 -- there are no more runs than bytes, and one; and none has more bytes
-pub runs-few : (bs : List ℕ) → length (split ends-line bs).others ≤ length bs
+pub runs_few : (bs : List ℕ) → length (split ends_line bs).others ≤ length bs
 unfolding split
-runs-few [] = omega arith
-runs-few (b ∷ bs) = by-case (runs-few bs) (ends-line b) refl
+runs_few [] = omega arith
+runs_few (b ∷ bs) = by_case (runs_few bs) (ends_line b) refl
   where
-    by-case : length (split ends-line bs).others ≤ length bs → (t : Bool) → ends-line b ≡ t → length (split ends-line (b ∷ bs)).others ≤ length (b ∷ bs)
-    by-case rest true e = rw (split_at ends-line b bs e) (omega arith)
-    by-case rest false e = rw (split-in ends-line b bs e) (omega arith)
+    by_case : length (split ends_line bs).others ≤ length bs → (t : Bool) → ends_line b ≡ t → length (split ends_line (b ∷ bs)).others ≤ length (b ∷ bs)
+    by_case rest true e = rw (split_at ends_line b bs e) (omega arith)
+    by_case rest false e = rw (split_in ends_line b bs e) (omega arith)
 
-pub runs-short : (bs : List ℕ) → length bs < most-number → All-short (runs (split ends-line bs)) × (length (split ends-line bs).first ≤ length bs)
+pub runs_short : (bs : List ℕ) → length bs < most_number → AllShort (runs (split ends_line bs)) × (length (split ends_line bs).first ≤ length bs)
 unfolding split
-runs-short [] few = ((omega arith, tt), omega arith)
-runs-short (b ∷ bs) few = by-case (runs-short bs (omega arith)) (ends-line b) refl
+runs_short [] few = ((omega arith, tt), omega arith)
+runs_short (b ∷ bs) few = by_case (runs_short bs (omega arith)) (ends_line b) refl
   where
-    by-case : All-short (runs (split ends-line bs)) × (length (split ends-line bs).first ≤ length bs) → (t : Bool) → ends-line b ≡ t
-        → All-short (runs (split ends-line (b ∷ bs))) × (length (split ends-line (b ∷ bs)).first ≤ length (b ∷ bs))
-    by-case (short, first) true e = rw (split_at ends-line b bs e) ((omega arith, short), omega arith)
-    by-case (short, first) false e = rw (split-in ends-line b bs e) ((omega arith, short.1), omega arith)
+    by_case : AllShort (runs (split ends_line bs)) × (length (split ends_line bs).first ≤ length bs) → (t : Bool) → ends_line b ≡ t
+        → AllShort (runs (split ends_line (b ∷ bs))) × (length (split ends_line (b ∷ bs)).first ≤ length (b ∷ bs))
+    by_case (short, first) true e = rw (split_at ends_line b bs e) ((omega arith, short), omega arith)
+    by_case (short, first) false e = rw (split_in ends_line b bs e) ((omega arith, short.1), omega arith)
 
-pub not-empty : {A : Type 0} (before : List A) (x : A) (behind : List A) → [] ≡ before ++ (x ∷ behind) → ⊥
-not-empty [] x behind e = nil≢cons e
-not-empty (b ∷ before) x behind e = nil≢cons e
+pub not_empty : {A : Type 0} (before : List A) (x : A) (behind : List A) → [] ≡ before ++ (x ∷ behind) → ⊥
+not_empty [] x behind e = nil≢cons e
+not_empty (b ∷ before) x behind e = nil≢cons e
 
 -- a list cut before its last element and elsewhere
-pub cut-last : {A : Type 0} (before : List A) (last : A) (front : List A) (here : A) (behind : List A) → before ++ (last ∷ []) ≡ front ++ (here ∷ behind)
+pub cut_last : {A : Type 0} (before : List A) (last : A) (front : List A) (here : A) (behind : List A) → before ++ (last ∷ []) ≡ front ++ (here ∷ behind)
     → (rest : List A) × (before ≡ front ++ rest) × (here ∷ behind ≡ rest ++ (last ∷ []))
-cut-last before last [] here behind e = (before, refl, sym e)
-cut-last [] last (f ∷ front) here behind e = absurd (not-empty front here behind (tail-eq_of_cons-eq e))
-cut-last (b ∷ before) last (f ∷ front) here behind e =
-    let (rest, first, second) = cut-last before last front here behind (tail-eq_of_cons-eq e) in
+cut_last before last [] here behind e = (before, refl, sym e)
+cut_last [] last (f ∷ front) here behind e = absurd (not_empty front here behind (tail-eq_of_cons-eq e))
+cut_last (b ∷ before) last (f ∷ front) here behind e =
+    let (rest, first, second) = cut_last before last front here behind (tail-eq_of_cons-eq e) in
     (rest, ap (λ c. c ∷ before) (head-eq_of_cons-eq e) ∙ ap (λ cs. f ∷ cs) first, second)
 
 -- a list cut at two places

@@ -10,36 +10,36 @@ use Rattle.refusal.specs.declared.Refusal.{Refusal}
 use Rattle.refusal.specs.declared.Refusal.TheVariants.{PlanLength}
 use Rattle.refusal.specs.declared.Verdict.{Verdict}
 use Rattle.refusal.specs.declared.Verdict.TheVariants.{Passed, Refused}
-use Rattle.refusal.specs.Refusal.{Told, told-refusal, told}
+use Rattle.refusal.specs.Refusal.{Told, told_refusal, told}
 use Rattle.refusal.specs.Check.{answer}
-use Rattle.refusal.proofs.CheckLaws.{answer-fires}
-use Rattle.sheet.specs.Causes.{sheet-checks}
-use Rattle.plan.specs.Limits.{most-steps}
-use Rattle.plan.specs.Checked.{list-checks, plan-checks}
-use Rattle.plan.proofs.PlanLaws.{sheet-answers, list-answers, read-answers}
-use Rattle.program.specs.Long.{long-refusal}
+use Rattle.refusal.proofs.CheckLaws.{answer_fires}
+use Rattle.sheet.specs.Causes.{sheet_checks}
+use Rattle.plan.specs.Limits.{most_steps}
+use Rattle.plan.specs.Checked.{list_checks, plan_checks}
+use Rattle.plan.proofs.PlanLaws.{sheet_answers, list_answers, read_answers}
+use Rattle.program.specs.Long.{long_refusal}
 
 module _ (w : List ℕ) where
-  long-sheet : (t : Told) → answer (sheet-checks w) ≡ some t → long-refusal w ≡ t
-  unfolding long-refusal
-  long-sheet t e = rw (e, long-refusal)
+  long_sheet : (t : Told) → answer (sheet_checks w) ≡ some t → long_refusal w ≡ t
+  unfolding long_refusal
+  long_sheet t e = rw (e, long_refusal)
 
-  long-plan : answer (sheet-checks w) ≡ none → long-refusal w ≡ told-refusal (PlanLength most-steps)
-  unfolding long-refusal
-  long-plan e = rw (e, long-refusal)
+  long_plan : answer (sheet_checks w) ≡ none → long_refusal w ≡ told_refusal (PlanLength most_steps)
+  unfolding long_refusal
+  long_plan e = rw (e, long_refusal)
 
   -- the task is refused, or passes
-  pub long-refused : (v : Verdict) (r : Refusal) → told v ≡ answer (sheet-checks w) → v ≡ Refused r → long-refusal w ≡ told-refusal r
-  long-refused v r sheet refuses = long-sheet (told-refusal r) (sym sheet ∙ ap told refuses)
+  pub long_refused : (v : Verdict) (r : Refusal) → told v ≡ answer (sheet_checks w) → v ≡ Refused r → long_refusal w ≡ told_refusal r
+  long_refused v r sheet refuses = long_sheet (told_refusal r) (sym sheet ∙ ap told refuses)
 
-  pub long-passed : (v : Verdict) → told v ≡ answer (sheet-checks w) → v ≡ Passed → long-refusal w ≡ told-refusal (PlanLength most-steps)
-  long-passed v sheet passes = long-plan (sym sheet ∙ ap told passes)
+  pub long_passed : (v : Verdict) → told v ≡ answer (sheet_checks w) → v ≡ Passed → long_refusal w ≡ told_refusal (PlanLength most_steps)
+  long_passed v sheet passes = long_plan (sym sheet ∙ ap told passes)
 
   -- the check of a plan answers so wherever the plan has too many steps, whatever they are
-  pub as-checked : (l : List ℕ) → most-steps < length l → answer (plan-checks w l) ≡ some (long-refusal w)
-  unfolding list-checks
-  as-checked l long = by-case (answer (sheet-checks w)) refl
+  pub as_checked : (l : List ℕ) → most_steps < length l → answer (plan_checks w l) ≡ some (long_refusal w)
+  unfolding list_checks
+  as_checked l long = by_case (answer (sheet_checks w)) refl
     where
-      by-case : (o : Option Told) → answer (sheet-checks w) ≡ o → answer (plan-checks w l) ≡ some (long-refusal w)
-      by-case (some t) e = rw (long-sheet t e) (read-answers _ [] w l (sheet-answers most-steps w l e))
-      by-case none e = rw (long-plan e) (read-answers _ [] w l (list-answers most-steps w l e ∙ answer-fires _ _ most-steps (rw (lt-ltb most-steps (length l) long))))
+      by_case : (o : Option Told) → answer (sheet_checks w) ≡ o → answer (plan_checks w l) ≡ some (long_refusal w)
+      by_case (some t) e = rw (long_sheet t e) (read_answers _ [] w l (sheet_answers most_steps w l e))
+      by_case none e = rw (long_plan e) (read_answers _ [] w l (list_answers most_steps w l e ∙ answer_fires _ _ most_steps (rw (lt-ltb most_steps (length l) long))))

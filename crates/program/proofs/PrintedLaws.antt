@@ -13,72 +13,72 @@ use Rattle.ascii.specs.Bytes.{ascii}
 use Rattle.lines.specs.Lines.{line}
 use Rattle.lines.specs.Prints.{Prints}
 use Rattle.refusal.specs.Refusal.{Told}
-use Rattle.program.specs.between.Room.{line-room}
-use Rattle.records.specs.between.Needed.{bytes-to-read}
-use Rattle.records.proofs.FormLaws.{reads-header}
-use Rattle.records.proofs.FormTheorem.{still-needed}
-use Rattle.program.specs.Printed.{refusal-line, Has-read, Has-done}
+use Rattle.program.specs.Between.Room.{line_room}
+use Rattle.records.specs.Between.Needed.{bytes_to_read}
+use Rattle.records.proofs.FormLaws.{reads_header}
+use Rattle.records.proofs.FormTheorem.{still_needed}
+use Rattle.program.specs.Printed.{refusal_line, HasRead, HasDone}
 use Rattle.program.specs.declared.input.Input.{Input}
 
-pub refusal-printed : {at : ℕ} {before after : List ℕ} {end : ℕ} (t : Told) {number place : ℕ} → number ≡ t.number → place ≡ t.place
-    → Prints (line (ascii "refused") (number ∷ place ∷ [])) at before after end → Prints (refusal-line t) at before after end
-refusal-printed t numbered placed prints = rw (← numbered, ← placed) prints
+pub refusal_printed : {at : ℕ} {before after : List ℕ} {end : ℕ} (t : Told) {number place : ℕ} → number ≡ t.number → place ≡ t.place
+    → Prints (line (ascii "refused") (number ∷ place ∷ [])) at before after end → Prints (refusal_line t) at before after end
+refusal_printed t numbered placed prints = rw (← numbered, ← placed) prints
 
-pub refusal-fits : (t : Told) {number place : ℕ} → number ≡ t.number → place ≡ t.place → length (line (ascii "refused") (number ∷ place ∷ [])) ≤ line-room
-    → length (refusal-line t) ≤ line-room
-refusal-fits t numbered placed short = rw (← numbered, ← placed) short
+pub refusal_fits : (t : Told) {number place : ℕ} → number ≡ t.number → place ≡ t.place → length (line (ascii "refused") (number ∷ place ∷ [])) ≤ line_room
+    → length (refusal_line t) ≤ line_room
+refusal_fits t numbered placed short = rw (← numbered, ← placed) short
 
 -- so many bytes at the front
-front-counts : (n : ℕ) (bytes : List ℕ) → n ≤ length bytes → IsPrefixLen n bytes
-front-counts n bytes h = (h, sym (length-take-le n bytes h))
+front_counts : (n : ℕ) (bytes : List ℕ) → n ≤ length bytes → IsPrefixLen n bytes
+front_counts n bytes h = (h, sym (length-take-le n bytes h))
 
 module _ (further beyond : ℕ) (bytes : List ℕ) where
   -- nothing has been read
-  pub read-nothing : Has-read further beyond bytes (record { count = 0; ended = true })
-  read-nothing =
+  pub read_nothing : HasRead further beyond bytes (record { count = 0; ended = true })
+  read_nothing =
       record {
-        counted = front-counts 0 bytes (omega arith);
+        counted = front_counts 0 bytes (omega arith);
         enough = λ e. absurd (false≢true (sym e));
-        short = λ e. rw (reads-header further beyond [] (lit< tt)) (lit< tt);
+        short = λ e. rw (reads_header further beyond [] (lit< tt)) (lit< tt);
       }
 
-  module _ (n want : ℕ) (there : n ≤ length bytes) (is : want ≡ bytes-to-read further beyond (take n bytes)) where
+  module _ (n want : ℕ) (there : n ≤ length bytes) (is : want ≡ bytes_to_read further beyond (take n bytes)) where
     -- all that must be
-    pub read-enough : want ≤ n → Has-read further beyond bytes (record { count = n; ended = false })
-    read-enough low = record { counted = front-counts n bytes there; enough = λ e. rw (← is) low; short = λ e. absurd (false≢true e) }
+    pub read_enough : want ≤ n → HasRead further beyond bytes (record { count = n; ended = false })
+    read_enough low = record { counted = front_counts n bytes there; enough = λ e. rw (← is) low; short = λ e. absurd (false≢true e) }
 
     -- or less, though more was asked for
     pub read_short : (rest after : List ℕ) (got : ℕ) → after ≡ take n bytes ++ rest → n + got ≤ length after → n + got < want
-        → Has-read further beyond after (record { count = n + got; ended = true })
-    read_short rest after got is-after room less =
+        → HasRead further beyond after (record { count = n + got; ended = true })
+    read_short rest after got is_after room less =
         let front : length (take n bytes) ≡ n = length-take-le n bytes there in
-        let read : take (n + got) after ≡ take n bytes ++ take got rest = rw is-after (rw front at (take-append-add (take n bytes) rest got)) in
+        let read : take (n + got) after ≡ take n bytes ++ take got rest = rw is_after (rw front at (take-append-add (take n bytes) rest got)) in
         let long : length (take n bytes ++ take got rest) ≡ n + got = ap length (sym read) ∙ length-take-le (n + got) after room in
-        let same = still-needed further beyond (take n bytes) (take got rest) (omega (arith, long, is)) in
+        let same = still_needed further beyond (take n bytes) (take got rest) (omega (arith, long, is)) in
         record {
-          counted = front-counts (n + got) after room;
+          counted = front_counts (n + got) after room;
           enough = λ e. absurd (false≢true (sym e));
           short = λ e. rw read (omega (arith, same, is));
         }
 
 -- a text that is put at the front, where there is room for it
 module _ (text before after : List ℕ) (written : ℕ) (room : length text ≤ length before) (prints : Prints text 0 before after written) where
-  all-written : written ≡ length text
-  all-written = omega (arith, prints.ends)
+  all_written : written ≡ length text
+  all_written = omega (arith, prints.ends)
 
   parts : after ≡ text ++ drop (length text) before
   parts = prints.written ∙ sets-eq text before 0 (omega arith) ∙ rw zero-add
 
-  front-text : take written after ≡ text
-  front-text = rw (parts, all-written) (take-append_seam text (drop (length text) before))
+  front_text : take written after ≡ text
+  front_text = rw (parts, all_written) (take-append_seam text (drop (length text) before))
 
-  rest-stays : drop written after ≡ drop written before
-  rest-stays = rw (parts, all-written) (drop-append_seam text (drop (length text) before))
+  rest_stays : drop written after ≡ drop written before
+  rest_stays = rw (parts, all_written) (drop-append_seam text (drop (length text) before))
 
 -- a program that has read, and has printed its answer to what it has read
 pub has_done : (further : ℕ) (text : List ℕ → List ℕ) (bytes : List ℕ) (input : Input) (before after : List ℕ) (written room : ℕ) → room ≤ length before
-    → Has-read further 1 bytes input → length (text (take input.count bytes)) ≤ room → Prints (text (take input.count bytes)) 0 before after written
-    → Has-done further text bytes (record { input = input; written = written }) before after
+    → HasRead further 1 bytes input → length (text (take input.count bytes)) ≤ room → Prints (text (take input.count bytes)) 0 before after written
+    → HasDone further text bytes (record { input = input; written = written }) before after
 has_done further text bytes input before after written room roomy read short prints =
     let fits : length (text (take input.count bytes)) ≤ length before = omega (arith, short, roomy) in
-    record { read = read; printed = front-text _ before after written fits prints; others = rest-stays _ before after written fits prints }
+    record { read = read; printed = front_text _ before after written fits prints; others = rest_stays _ before after written fits prints }

@@ -5,30 +5,30 @@ use mathlib.Core.List.{List, [], ◌∷◌}
 use lib.ListN.{length, length-append}
 use lib.Dec.{lit≤}
 use Rattle.lines.specs.Lines.{numeral, spaced, line}
-use Rattle.lines.proofs.NumeralLaws.{numeral-length}
-use Rattle.program.specs.between.Room.{word_room, Short-line}
+use Rattle.lines.proofs.NumeralLaws.{numeral_length}
+use Rattle.program.specs.Between.Room.{word_room, ShortLine}
 
-pub numeral-fits : (x : ℕ) → x < 2 ^ 64 → length (numeral x) ≤ word_room
-numeral-fits x h = numeral-length word_room x (omega (arith, h)) (lit≤ tt)
+pub numeral_fits : (x : ℕ) → x < 2 ^ 64 → length (numeral x) ≤ word_room
+numeral_fits x h = numeral_length word_room x (omega (arith, h)) (lit≤ tt)
 
 -- one number, and one more
-spaced-nothing-length : length (spaced []) ≤ 0
+spaced_nothing_length : length (spaced []) ≤ 0
 unfolding spaced
-spaced-nothing-length = omega arith
+spaced_nothing_length = omega arith
 
-spaced-length : (x : ℕ) (xs : List ℕ) → x < 2 ^ 64 → length (spaced (x ∷ xs)) ≤ 21 + length (spaced xs)
+spaced_length : (x : ℕ) (xs : List ℕ) → x < 2 ^ 64 → length (spaced (x ∷ xs)) ≤ 21 + length (spaced xs)
 unfolding spaced
-spaced-length x xs h = let long = length-append (numeral x) (spaced xs) in omega (arith, numeral-fits x h, long)
+spaced_length x xs h = let long = length-append (numeral x) (spaced xs) in omega (arith, numeral_fits x h, long)
 
 module _ (word : List ℕ) where
-  line-length : (numbers : List ℕ) → length (line word numbers) ≤ length word + length (spaced numbers) + 1
-  line-length numbers = rw (length-append, length-append) (omega arith)
+  line_length : (numbers : List ℕ) → length (line word numbers) ≤ length word + length (spaced numbers) + 1
+  line_length numbers = rw (length-append, length-append) (omega arith)
 
-  pub none-fit : Short-line word []
-  none-fit short = omega (arith, line-length [], spaced-nothing-length)
+  pub none_fit : ShortLine word []
+  none_fit short = omega (arith, line_length [], spaced_nothing_length)
 
-  pub one-fits : (a : ℕ) → a < 2 ^ 64 → Short-line word (a ∷ [])
-  one-fits a h short = omega (arith, line-length (a ∷ []), spaced-length a [] h, spaced-nothing-length)
+  pub one_fits : (a : ℕ) → a < 2 ^ 64 → ShortLine word (a ∷ [])
+  one_fits a h short = omega (arith, line_length (a ∷ []), spaced_length a [] h, spaced_nothing_length)
 
-  pub two-fit : (a b : ℕ) → a < 2 ^ 64 → b < 2 ^ 64 → Short-line word (a ∷ b ∷ [])
-  two-fit a b h k short = omega (arith, line-length (a ∷ b ∷ []), spaced-length a (b ∷ []) h, spaced-length b [] k, spaced-nothing-length)
+  pub two_fit : (a b : ℕ) → a < 2 ^ 64 → b < 2 ^ 64 → ShortLine word (a ∷ b ∷ [])
+  two_fit a b h k short = omega (arith, line_length (a ∷ b ∷ []), spaced_length a (b ∷ []) h, spaced_length b [] k, spaced_nothing_length)

@@ -5,4 +5,4 @@ pub mod Opening
 pub mod Reply
 pub mod Printed
 -- between: what functions hand to each other, which need not be believed.
-pub mod between
+pub mod Between

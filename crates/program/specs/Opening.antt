@@ -2,10 +2,10 @@
 -- answers. Assumes nothing.
 use Rattle.std.specs.Prelude.{ℕ, List}
 use Rattle.refusal.specs.declared.Refusal.TheVariants.{Length}
-use Rattle.refusal.specs.Refusal.{Told, told-refusal}
+use Rattle.refusal.specs.Refusal.{Told, told_refusal}
 use Rattle.records.specs.declared.frame.Frame.TheVariants.{Broken, Long, Whole}
-use Rattle.records.specs.RecordForm.{unpacked, plan-words, further-words, input-form}
-use Rattle.program.specs.Long.{long-refusal}
+use Rattle.records.specs.RecordForm.{unpacked, plan_words, further_words, input_form}
+use Rattle.program.specs.Long.{long_refusal}
 
 pub data Opening : Type 0 where
   Refused : Told → Opening
@@ -15,8 +15,8 @@ pub data Opening : Type 0 where
 -- task's own refusal or else 8; where it is whole, its words
 unfoldable pub opening : ℕ → List ℕ → Opening
 opening further bytes =
-    elim (input-form further bytes) [
-      | Broken ↦ Refused (told-refusal Length)
-      | Long n ↦ Refused (long-refusal (unpacked bytes n))
-      | Whole n m end ↦ Lodged (unpacked bytes n) (plan-words bytes n m) (further-words bytes n m further)
+    elim (input_form further bytes) [
+      | Broken ↦ Refused (told_refusal Length)
+      | Long n ↦ Refused (long_refusal (unpacked bytes n))
+      | Whole n m end ↦ Lodged (unpacked bytes n) (plan_words bytes n m) (further_words bytes n m further)
     ]

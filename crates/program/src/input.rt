@@ -1,5 +1,5 @@
 // The reading of standard input, in stages, so that a program never waits for bytes that it does not need.
-ghost use Rattle.program.specs.Printed.{Has-read};
+ghost use Rattle.program.specs.Printed.{HasRead};
 
 use libc::STDIN_FILENO;
 use records::framing::{WORDS, bytes_to_read};
@@ -23,7 +23,7 @@ pub struct Done {
 // one; or to the end of the input. Where the bytes lent could be too few nothing is read, as from an input that is
 // empty.
 pub fn read(bytes: &mut [u8], further: u32, beyond: u32) -> Input
-    ensures { Has-read further beyond bytes.new result }
+    ensures { HasRead further beyond bytes.new result }
 {
     if bytes.len() < WORD * (WORDS + further as usize) + beyond as usize {
         return Input {

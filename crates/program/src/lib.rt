@@ -2,6 +2,8 @@
 // input: the reading. pack: words as bytes. parts: the plan and what is behind it among the words. long: the refusal of
 // a plan that is too long to be read. opened: what a program finds of its input, by all these. output: the lines of a
 // tally and of a refusal, and the writing.
+#![tactic(auto)]
+
 pub mod input;
 mod long;
 pub mod opened;

@@ -2,9 +2,9 @@
 ghost use Rattle.std.specs.Prelude.{◌≡◌, [], ◌∷◌, ◌≤◌, length, take};
 ghost use Rattle.lines.specs.Lines.{numeral, line, row};
 ghost use Rattle.lines.specs.Prints.{Prints};
-ghost use Rattle.refusal.specs.Refusal.{told-refusal};
-ghost use Rattle.program.specs.Printed.{tally-line, refusal-line};
-ghost use Rattle.program.specs.between.Room.{word_room, line-room, Short-line};
+ghost use Rattle.refusal.specs.Refusal.{told_refusal};
+ghost use Rattle.program.specs.Printed.{tally_line, refusal_line};
+ghost use Rattle.program.specs.Between.Room.{word_room, line_room, ShortLine};
 
 use libc::{STDERR_FILENO, STDOUT_FILENO};
 use lines::{put_line, put_row};
@@ -17,7 +17,7 @@ pub const LINE: usize = 64;
 // Puts a line of a word alone.
 pub fn put_alone(out: &mut [u8], at: usize, word: &[u8]) -> usize
     ensures prints { Prints (line word.now []) at out.old out.new result }
-    ensures short_line { Short-line word.now [] }
+    ensures short_line { ShortLine word.now [] }
 {
     put_line(out, at, word, &[])
 }
@@ -25,7 +25,7 @@ pub fn put_alone(out: &mut [u8], at: usize, word: &[u8]) -> usize
 // Puts a line of a word and a number.
 pub fn put_one(out: &mut [u8], at: usize, word: &[u8], number: u64) -> usize
     ensures prints { Prints (line word.now (number ∷ [])) at out.old out.new result }
-    ensures short_line { Short-line word.now (number ∷ []) }
+    ensures short_line { ShortLine word.now (number ∷ []) }
 {
     put_line(out, at, word, &[number])
 }
@@ -34,7 +34,7 @@ pub fn put_one(out: &mut [u8], at: usize, word: &[u8], number: u64) -> usize
 fn put_two(out: &mut [u8], at: usize, word: &[u8], first: u64, second: u64) -> usize
     ensures prints { Prints (line word.now (first ∷ second ∷ [])) at
         out.old out.new result }
-    ensures short_line { Short-line word.now (first ∷ second ∷ []) }
+    ensures short_line { ShortLine word.now (first ∷ second ∷ []) }
 {
     put_line(out, at, word, &[first, second])
 }
@@ -42,23 +42,23 @@ fn put_two(out: &mut [u8], at: usize, word: &[u8], first: u64, second: u64) -> u
 // Puts a line of three numbers.
 pub fn put_three(out: &mut [u8], at: usize, first: u64, second: u64, third: u64) -> usize
     ensures prints { Prints (row first (second ∷ third ∷ [])) at out.old out.new result }
-    ensures short_line { Short-line (numeral first) (second ∷ third ∷ []) × (length (numeral first) ≤ word_room) }
+    ensures short_line { ShortLine (numeral first) (second ∷ third ∷ []) × (length (numeral first) ≤ word_room) }
 {
     put_row(out, at, first, &[second, third])
 }
 
 // Puts a line of a word, and the steps and the cost of a tally.
 pub fn put_tally(out: &mut [u8], at: usize, word: &[u8], tally: Tally) -> usize
-    ensures prints { Prints (tally-line word.now tally) at out.old out.new result }
-    ensures short_line { Short-line word.now (tally.steps ∷ tally.cost ∷ []) }
+    ensures prints { Prints (tally_line word.now tally) at out.old out.new result }
+    ensures short_line { ShortLine word.now (tally.steps ∷ tally.cost ∷ []) }
 {
     put_two(out, at, word, tally.steps as u64, tally.cost as u64)
 }
 
 // Puts the line of a refusal: its number and its place.
 pub fn put_refusal(out: &mut [u8], at: usize, refusal: Refusal) -> usize
-    ensures prints { Prints (refusal-line (told-refusal refusal)) at out.old out.new result }
-    ensures refusal_len_bound { length (refusal-line (told-refusal refusal)) ≤ line-room }
+    ensures prints { Prints (refusal_line (told_refusal refusal)) at out.old out.new result }
+    ensures refusal_len_bound { length (refusal_line (told_refusal refusal)) ≤ line_room }
 {
     put_two(
         out,

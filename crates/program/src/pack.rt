@@ -1,6 +1,6 @@
 // Words as bytes.
 ghost use Rattle.records.specs.RecordForm.{word_bytes};
-ghost use Rattle.records.specs.Bytes.{bytes_of, all-bytes};
+ghost use Rattle.records.specs.Bytes.{bytes_of, all_bytes};
 ghost use Rattle.lines.specs.Prints.{Prints};
 
 use lines::put_text;
@@ -24,7 +24,7 @@ fn put_word(out: &mut [u8], at: usize, x: u32) -> usize
 
 // Puts words at the front.
 pub fn pack(words: &[u32], out: &mut [u8]) -> usize
-    ensures { Prints (all-bytes words.now) 0 out.old out.new result }
+    ensures { Prints (all_bytes words.now) 0 out.old out.new result }
 {
     let mut end = 0;
     let mut i = 0;

@@ -11,106 +11,106 @@ use lib.ListN.{length, get_or, length-append}
 use lib.Dec.{eqb}
 use Rattle.sas.specs.Task.{Fact, Assignment, Effect, Action, Task}
 use Rattle.sas.specs.Plan.{written}
-use Rattle.sas.specs.between.WellFormed.{Known, Rising, Action-formed}
-use Rattle.sas.proofs.WellFormedLaws.{rising-few, rising-known}
+use Rattle.sas.specs.Between.WellFormed.{Known, Rising, ActionFormed}
+use Rattle.sas.proofs.WellFormedLaws.{rising_few, rising_known}
 use Rattle.sheet.specs.Limits.{limits}
-use Rattle.sheet.specs.Layout.{first-edition, second-edition, header, actions}
+use Rattle.sheet.specs.Layout.{first_edition, second_edition, header, actions}
 use Rattle.sheet.specs.Causes.{Accepted}
 use Rattle.sheet.specs.Decode.{task}
-use Rattle.sheet.specs.between.Encode.{fact-word, fact-words, effect-part, effects-part, action-part, parts, pairs_of, first-offset, body, sheet-of, encode, Encodable}
-use Rattle.sheet.proofs.LaidLaws.{pairs-of-length}
-use Rattle.sheet.proofs.Parts.{accepted-measured}
-use Rattle.sheet.proofs.EncodeTheorem.{decode-encodes, accepted-encodable}
+use Rattle.sheet.specs.Between.Encode.{fact_word, fact_words, effect_part, effects_part, action_part, parts, pairs_of, first_offset, body, sheet_of, encode, Encodable}
+use Rattle.sheet.proofs.LaidLaws.{pairs_of_length}
+use Rattle.sheet.proofs.Parts.{accepted_measured}
+use Rattle.sheet.proofs.EncodeTheorem.{decode_encodes, accepted_encodable}
 use Rattle.plan.specs.Readable.{Readable}
-use Rattle.records.specs.Bytes.{Word-sized, nothing, word}
-use Rattle.records.proofs.BytesTheorem.{sized-append}
+use Rattle.records.specs.Bytes.{WordSized, nothing, word}
+use Rattle.records.proofs.BytesTheorem.{sized_append}
 
-sized-each : (xs : List ℕ) → ((i : ℕ) → i < length xs → get_or xs i 0 < 2 ^ 32) → Word-sized xs
-sized-each [] each = nothing
-sized-each (x ∷ xs) each = word (each 0 (omega arith)) (sized-each xs (λ i h. each (suc i) (omega (arith, h))))
+sized_each : (xs : List ℕ) → ((i : ℕ) → i < length xs → get_or xs i 0 < 2 ^ 32) → WordSized xs
+sized_each [] each = nothing
+sized_each (x ∷ xs) each = word (each 0 (omega arith)) (sized_each xs (λ i h. each (suc i) (omega (arith, h))))
 
-sized-pairs : (from : ℕ) (ps : List (List ℕ)) → from + length (flatten ps) ≤ limits.words → Word-sized (pairs_of from ps)
+sized_pairs : (from : ℕ) (ps : List (List ℕ)) → from + length (flatten ps) ≤ limits.words → WordSized (pairs_of from ps)
 unfolding pairs_of flatten
-sized-pairs from [] fits = nothing
-sized-pairs from (p ∷ ps) fits =
+sized_pairs from [] fits = nothing
+sized_pairs from (p ∷ ps) fits =
     word {x = from} (omega arith)
     (word {x = length p} (omega (arith, length-append p (flatten ps)))
-    (sized-pairs (from + length p) ps (omega (arith, length-append p (flatten ps)))))
+    (sized_pairs (from + length p) ps (omega (arith, length-append p (flatten ps)))))
 
 -- a task that can be written
 module _ {edition : ℕ} (T : Task) (can : Encodable edition T) where
-  known-sized : {f : Fact} → Known T.domains f → fact-word f < 2 ^ 32
-  known-sized {f} known = omega (arith, known.variable, known.value, can.variables, can.values f.variable known.variable)
+  known_sized : {f : Fact} → Known T.domains f → fact_word f < 2 ^ 32
+  known_sized {f} known = omega (arith, known.variable, known.value, can.variables, can.values f.variable known.variable)
 
-  sized-facts : (q : Assignment) → ((f : Fact) → Memᴰ f q → Known T.domains f) → Word-sized (fact-words q)
-  sized-facts [] known = nothing
-  sized-facts (f ∷ q) known = word {x = fact-word f} (known-sized (known f (Memᴰ.head refl))) (sized-facts q (λ g m. known g (Memᴰ.tail m)))
+  sized_facts : (q : Assignment) → ((f : Fact) → Memᴰ f q → Known T.domains f) → WordSized (fact_words q)
+  sized_facts [] known = nothing
+  sized_facts (f ∷ q) known = word {x = fact_word f} (known_sized (known f (Memᴰ.head refl))) (sized_facts q (λ g m. known g (Memᴰ.tail m)))
 
   -- facts whose variables rise are no more than there are variables
-  sized-group : {q : Assignment} → Rising T.domains 0 q → (length q < 2 ^ 32) × Word-sized (fact-words q)
-  sized-group {q} rising = (omega (arith, rising-few rising, can.variables), sized-facts q (λ f m. rising-known rising m))
+  sized_group : {q : Assignment} → Rising T.domains 0 q → (length q < 2 ^ 32) × WordSized (fact_words q)
+  sized_group {q} rising = (omega (arith, rising_few rising, can.variables), sized_facts q (λ f m. rising_known rising m))
 
-  sized-conditional : (es : List Effect) → ((e : Effect) → Memᴰ e es → Rising T.domains 0 e.condition × Known T.domains e.fact)
-      → Word-sized (flatten (map effect-part es))
-  unfolding flatten effect-part
-  sized-conditional [] formed = nothing
-  sized-conditional (e ∷ es) formed =
+  sized_conditional : (es : List Effect) → ((e : Effect) → Memᴰ e es → Rising T.domains 0 e.condition × Known T.domains e.fact)
+      → WordSized (flatten (map effect_part es))
+  unfolding flatten effect_part
+  sized_conditional [] formed = nothing
+  sized_conditional (e ∷ es) formed =
       let (condition, known) = formed e (Memᴰ.head refl) in
-      let (few, facts) = sized-group condition in
-      sized-append (word {x = length e.condition} few (sized-append facts (word {x = fact-word e.fact} (known-sized known) nothing)))
-      (sized-conditional es (λ d m. formed d (Memᴰ.tail m)))
+      let (few, facts) = sized_group condition in
+      sized_append (word {x = length e.condition} few (sized_append facts (word {x = fact_word e.fact} (known_sized known) nothing)))
+      (sized_conditional es (λ d m. formed d (Memᴰ.tail m)))
 
-  sized-effects : (a : Action) → Action-formed T.domains a → Word-sized (effects-part edition a)
-  unfolding effects-part written
-  sized-effects a formed = by-edition (eqb edition second-edition)
+  sized_effects : (a : Action) → ActionFormed T.domains a → WordSized (effects_part edition a)
+  unfolding effects_part written
+  sized_effects a formed = by_edition (eqb edition second_edition)
     where
-      by-edition : (b : Bool) → Word-sized (cond b (flatten (map effect-part a.effects)) (fact-words (map (λ e. e.fact) a.effects)))
-      by-edition true = sized-conditional a.effects (λ e m. (formed.conditions e m, formed.known e.fact (Memᴰ.map (λ d. d.fact) m)))
-      by-edition false = sized-facts (map (λ e. e.fact) a.effects) formed.known
+      by_edition : (b : Bool) → WordSized (cond b (flatten (map effect_part a.effects)) (fact_words (map (λ e. e.fact) a.effects)))
+      by_edition true = sized_conditional a.effects (λ e m. (formed.conditions e m, formed.known e.fact (Memᴰ.map (λ d. d.fact) m)))
+      by_edition false = sized_facts (map (λ e. e.fact) a.effects) formed.known
 
-  sized-action : (a : Action) → Memᴰ a T.actions → Word-sized (action-part edition a)
-  unfolding action-part
-  sized-action a is =
-      let formed : Action-formed T.domains a = can.well-formed.actions a is in
-      let (few, facts) = sized-group formed.precondition in
-      word {x = a.cost} (omega (arith, can.costs a is)) (word {x = length a.precondition} few (sized-append facts (sized-effects a formed)))
+  sized_action : (a : Action) → Memᴰ a T.actions → WordSized (action_part edition a)
+  unfolding action_part
+  sized_action a is =
+      let formed : ActionFormed T.domains a = can.well_formed.actions a is in
+      let (few, facts) = sized_group formed.precondition in
+      word {x = a.cost} (omega (arith, can.costs a is)) (word {x = length a.precondition} few (sized_append facts (sized_effects a formed)))
 
-  sized-actions : (some : List Action) → ((a : Action) → Memᴰ a some → Memᴰ a T.actions) → Word-sized (flatten (map (action-part edition) some))
+  sized_actions : (some : List Action) → ((a : Action) → Memᴰ a some → Memᴰ a T.actions) → WordSized (flatten (map (action_part edition) some))
   unfolding flatten
-  sized-actions [] among = nothing
-  sized-actions (a ∷ some) among = sized-append (sized-action a (among a (Memᴰ.head refl))) (sized-actions some (λ b is. among b (Memᴰ.tail is)))
+  sized_actions [] among = nothing
+  sized_actions (a ∷ some) among = sized_append (sized_action a (among a (Memᴰ.head refl))) (sized_actions some (λ b is. among b (Memᴰ.tail is)))
 
-  sized-parts : Word-sized (flatten (parts edition T))
+  sized_parts : WordSized (flatten (parts edition T))
   unfolding parts flatten
-  sized-parts =
-      let start = can.well-formed.initial in
-      sized-append (sized-each T.domains (λ v h. omega (arith, can.values v h)))
-      (sized-append (sized-each T.initial (λ v h. let inside : v < length T.domains = omega (arith, start.complete) in omega (arith, start.below v inside, can.values v inside)))
-      (sized-append (sized-group can.well-formed.goal).1 (sized-actions T.actions (λ a is. is))))
+  sized_parts =
+      let start = can.well_formed.initial in
+      sized_append (sized_each T.domains (λ v h. omega (arith, can.values v h)))
+      (sized_append (sized_each T.initial (λ v h. let inside : v < length T.domains = omega (arith, start.complete) in omega (arith, start.below v inside, can.values v inside)))
+      (sized_append (sized_group can.well_formed.goal).1 (sized_actions T.actions (λ a is. is))))
 
-  sized-encoded : Word-sized (encode edition T)
-  unfolding encode sheet-of body
-  sized-encoded =
+  sized_encoded : WordSized (encode edition T)
+  unfolding encode sheet_of body
+  sized_encoded =
       let all = can.words in
       let number : length (body (parts edition T)) ≡ 2 * length (parts edition T) + length (flatten (parts edition T)) =
-      omega (arith, length-append (pairs_of (first-offset (parts edition T)) (parts edition T)) (flatten (parts edition T)), pairs-of-length (first-offset (parts edition T)) (parts edition T)) in
-      word {x = edition} (known-edition can.known)
+      omega (arith, length-append (pairs_of (first_offset (parts edition T)) (parts edition T)) (flatten (parts edition T)), pairs_of_length (first_offset (parts edition T)) (parts edition T)) in
+      word {x = edition} (known_edition can.known)
       (word {x = length T.domains} (omega (arith, can.variables))
       (word {x = length T.actions} (omega (arith, can.actions))
       (word {x = header + length (body (parts edition T))} (omega (arith, all))
-      (sized-append (sized-pairs (first-offset (parts edition T)) (parts edition T) (omega (arith, all, number))) sized-parts))))
+      (sized_append (sized_pairs (first_offset (parts edition T)) (parts edition T) (omega (arith, all, number))) sized_parts))))
     where
-      known-edition : (edition ≡ first-edition) ⊎ (edition ≡ second-edition) → edition < 2 ^ 32
-      known-edition (inl one) = omega arith
-      known-edition (inr two) = omega arith
+      known_edition : (edition ≡ first_edition) ⊎ (edition ≡ second_edition) → edition < 2 ^ 32
+      known_edition (inl one) = omega arith
+      known_edition (inr two) = omega arith
 
-accepted-sized : (w : List ℕ) → Accepted w → Word-sized w
-accepted-sized w accepted = subst Word-sized (decode-encodes w accepted) (sized-encoded (task w) (accepted-encodable w accepted))
+accepted_sized : (w : List ℕ) → Accepted w → WordSized w
+accepted_sized w accepted = subst WordSized (decode_encodes w accepted) (sized_encoded (task w) (accepted_encodable w accepted))
 
-sized-entries : (n : ℕ) → n ≤ limits.actions → (l : List ℕ) → ((a : ℕ) → Memᴰ a l → a < n) → Word-sized l
-sized-entries n few [] known = nothing
-sized-entries n few (a ∷ l) known = word {x = a} (omega (arith, known a (Memᴰ.head refl))) (sized-entries n few l (λ b is. known b (Memᴰ.tail is)))
+sized_entries : (n : ℕ) → n ≤ limits.actions → (l : List ℕ) → ((a : ℕ) → Memᴰ a l → a < n) → WordSized l
+sized_entries n few [] known = nothing
+sized_entries n few (a ∷ l) known = word {x = a} (omega (arith, known a (Memᴰ.head refl))) (sized_entries n few l (λ b is. known b (Memᴰ.tail is)))
 
-pub readable-sized : (w l : List ℕ) → Readable w l → Word-sized w × Word-sized l
-readable-sized w l readable =
-    (accepted-sized w readable.accepted, sized-entries (actions w) (accepted-measured w readable.accepted).actions l readable.known)
+pub readable_sized : (w l : List ℕ) → Readable w l → WordSized w × WordSized l
+readable_sized w l readable =
+    (accepted_sized w readable.accepted, sized_entries (actions w) (accepted_measured w readable.accepted).actions l readable.known)

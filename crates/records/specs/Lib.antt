@@ -3,4 +3,4 @@
 pub mod RecordForm
 pub mod Bytes
 -- between: what functions hand to each other, which need not be believed.
-pub mod between
+pub mod Between

@@ -5,7 +5,7 @@ use Rattle.std.specs.Prelude.{ℕ, ◌+◌, ◌*◌, Bool, cond, ◌||◌, List,
 use Rattle.sheet.specs.Limits.{limits}
 use Rattle.sheet.specs.Layout.{header}
 use Rattle.sheet.specs.Decode.{table}
-use Rattle.plan.specs.Limits.{most-steps}
+use Rattle.plan.specs.Limits.{most_steps}
 use Rattle.records.specs.declared.frame.Ending.{Ending}
 use Rattle.records.specs.declared.frame.Ending.TheVariants as ending
 use Rattle.records.specs.declared.frame.Frame.{Frame}
@@ -15,13 +15,13 @@ use Rattle.records.specs.declared.frame.Frame.TheVariants.{Broken, Long, Whole}
 abbrev pub word_bytes : ℕ
 word_bytes = 4
 
-abbrev pub byte-values : ℕ
-byte-values = 256
+abbrev pub byte_values : ℕ
+byte_values = 256
 
 -- the number that bytes stand for, the lowest first
 unfoldable pub little_endian : List ℕ → ℕ
 little_endian [] = 0
-little_endian (b ∷ bs) = b + byte-values * little_endian bs
+little_endian (b ∷ bs) = b + byte_values * little_endian bs
 
 -- word i of the input; what is past its end reads as 0
 unfoldable pub word_at : List ℕ → ℕ → ℕ
@@ -32,70 +32,70 @@ abbrev pub unpacked : List ℕ → ℕ → List ℕ
 unpacked bytes n = table (word_at bytes) 0 n
 
 -- behind a task of n words and the length: the plan, of m words; and behind that, the k further words
-abbrev pub plan-words : List ℕ → ℕ → ℕ → List ℕ
-plan-words bytes n m = table (word_at bytes) (n + 1) m
+abbrev pub plan_words : List ℕ → ℕ → ℕ → List ℕ
+plan_words bytes n m = table (word_at bytes) (n + 1) m
 
-abbrev pub further-words : List ℕ → ℕ → ℕ → ℕ → List ℕ
-further-words bytes n m k = table (word_at bytes) (n + 1 + m) k
+abbrev pub further_words : List ℕ → ℕ → ℕ → ℕ → List ℕ
+further_words bytes n m k = table (word_at bytes) (n + 1 + m) k
 
 -- the word of the task that says how many words it has
 abbrev pub length_at : ℕ
 length_at = 3
 
 -- how many words the task has
-abbrev pub task-length : List ℕ → ℕ
-task-length bytes = word_at bytes length_at
+abbrev pub task_length : List ℕ → ℕ
+task_length bytes = word_at bytes length_at
 
 -- outside 4 to 8,192
 abbrev pub outside : ℕ → Bool
 outside n = ltb n header || ltb limits.words n
 
 -- how many words the plan has, by the word after the task
-abbrev pub plan-length : List ℕ → ℕ
-plan-length bytes = word_at bytes (task-length bytes)
+abbrev pub plan_length : List ℕ → ℕ
+plan_length bytes = word_at bytes (task_length bytes)
 
 -- the byte at which the plan begins, after the task and the length; and the byte behind the record
-abbrev pub plan-start : List ℕ → ℕ
-plan-start bytes = word_bytes * (task-length bytes + 1)
+abbrev pub plan_start : List ℕ → ℕ
+plan_start bytes = word_bytes * (task_length bytes + 1)
 
-abbrev pub record-end : ℕ → List ℕ → ℕ
-record-end further bytes = plan-start bytes + word_bytes * (plan-length bytes + further)
+abbrev pub record_end : ℕ → List ℕ → ℕ
+record_end further bytes = plan_start bytes + word_bytes * (plan_length bytes + further)
 
 -- the bytes to word 3, the last of the words that every task has
-abbrev pub header-bytes : ℕ
-header-bytes = word_bytes * header
+abbrev pub header_bytes : ℕ
+header_bytes = word_bytes * header
 
 -- where the record at the front of bytes ends, whatever follows it. Document 02, C-20, on "a record whose end can't be
 -- found": it is not told while bytes to word 3, or to the plan's length, are lacking ("input cut short"), with how many
 -- there must be to tell more; it is nowhere for "word 3 outside 4 to 8,192" and for "a list over 255"; else it is
 -- found, with the words of the record, be the bytes to it there or not
-unfoldable pub record-ending : ℕ → List ℕ → Ending
-record-ending further bytes =
-    cond (ltb (length bytes) header-bytes) (ending.Untold header-bytes)
-    (cond (outside (task-length bytes)) ending.Unfit
-    (cond (ltb (length bytes) (plan-start bytes)) (ending.Untold (plan-start bytes))
-    (cond (ltb most-steps (plan-length bytes)) (ending.Long (task-length bytes))
-    (ending.Ends (task-length bytes) (plan-length bytes) (record-end further bytes)))))
+unfoldable pub record_ending : ℕ → List ℕ → Ending
+record_ending further bytes =
+    cond (ltb (length bytes) header_bytes) (ending.Untold header_bytes)
+    (cond (outside (task_length bytes)) ending.Unfit
+    (cond (ltb (length bytes) (plan_start bytes)) (ending.Untold (plan_start bytes))
+    (cond (ltb most_steps (plan_length bytes)) (ending.Long (task_length bytes))
+    (ending.Ends (task_length bytes) (plan_length bytes) (record_end further bytes)))))
 
 -- the form of a record by where it ends. Document 01: "A word 3 outside 4 to 8,192, or input that breaks off": broken,
 -- before the end is told or before it; "After a length above 255 nothing more is read": long; else whole, with its
 -- words and its end
-abbrev pub as-record : List ℕ → Ending → Frame
-as-record bytes (ending.Untold k) = Broken
-as-record bytes ending.Unfit = Broken
-as-record bytes (ending.Long n) = Long n
-as-record bytes (ending.Ends n m end) = cond (ltb (length bytes) end) Broken (Whole n m end)
+abbrev pub as_record : List ℕ → Ending → Frame
+as_record bytes (ending.Untold k) = Broken
+as_record bytes ending.Unfit = Broken
+as_record bytes (ending.Long n) = Long n
+as_record bytes (ending.Ends n m end) = cond (ltb (length bytes) end) Broken (Whole n m end)
 
 -- the form of the record at the front of bytes, whatever follows it
-unfoldable pub record-form : ℕ → List ℕ → Frame
-record-form further bytes = as-record bytes (record-ending further bytes)
+unfoldable pub record_form : ℕ → List ℕ → Frame
+record_form further bytes = as_record bytes (record_ending further bytes)
 
 -- a record's form where nothing may follow it (document 01: "or runs on"): broken where something does
-abbrev pub as-input : List ℕ → Frame → Frame
-as-input bytes Broken = Broken
-as-input bytes (Long n) = Long n
-as-input bytes (Whole n m end) = cond (ltb end (length bytes)) Broken (Whole n m end)
+abbrev pub as_input : List ℕ → Frame → Frame
+as_input bytes Broken = Broken
+as_input bytes (Long n) = Long n
+as_input bytes (Whole n m end) = cond (ltb end (length bytes)) Broken (Whole n m end)
 
 -- the form of an input of one record
-unfoldable pub input-form : ℕ → List ℕ → Frame
-input-form further bytes = as-input bytes (record-form further bytes)
+unfoldable pub input_form : ℕ → List ℕ → Frame
+input_form further bytes = as_input bytes (record_form further bytes)

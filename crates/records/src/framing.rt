@@ -1,9 +1,9 @@
 // Where a record at the front of bytes ends, which form it has, and how much must have been read to tell. `further` is
 // how many words stand behind its plan: none in document 01's program.
 ghost use Rattle.std.specs.Prelude.{◌≡◌, ◌<◌, ◌≤◌, ◌^◌};
-ghost use Rattle.records.specs.RecordForm.{outside as outside-limits, task-length, record-ending};
-ghost use Rattle.records.specs.RecordForm.{record-form, input-form};
-ghost use Rattle.records.specs.between.Needed.{bytes-to-read, most_bytes};
+ghost use Rattle.records.specs.RecordForm.{outside as outside-limits, task_length, record_ending};
+ghost use Rattle.records.specs.RecordForm.{record_form, input_form};
+ghost use Rattle.records.specs.Between.Needed.{bytes_to_read, most_bytes};
 
 use crate::frame::{Ending, Frame};
 use crate::word::{WORD, word_at};
@@ -21,7 +21,7 @@ pub const BYTES: usize = WORD * WORDS + ALONE as usize;
 
 // How many words the task has, by its own account.
 fn task_length(bytes: &[u8]) -> usize
-    ensures { (result ≡ task-length bytes.now) × (result < 2 ^ 32) }
+    ensures { (result ≡ task_length bytes.now) × (result < 2 ^ 32) }
 {
     word_at(bytes, LENGTH_AT) as usize
 }
@@ -42,7 +42,7 @@ fn outside(words: usize) -> bool
 // Where the record at the front of the bytes ends, whatever follows it. Of records that stand one behind the other each
 // is found by the bytes from the end of the one before on.
 pub fn find_end(bytes: &[u8], further: u32) -> Ending
-    ensures { result ≡ record-ending further bytes.now }
+    ensures { result ≡ record_ending further bytes.now }
 {
     let header = WORD * PAIRS_AT;
     if bytes.len() < header {
@@ -66,7 +66,7 @@ pub fn find_end(bytes: &[u8], further: u32) -> Ending
 
 // The form of the record at the front of the bytes, whatever follows it.
 pub fn frame_record(bytes: &[u8], further: u32) -> Frame
-    ensures { result ≡ record-form further bytes.now }
+    ensures { result ≡ record_form further bytes.now }
 {
     let ending = find_end(bytes, further);
     match ending {
@@ -85,7 +85,7 @@ pub fn frame_record(bytes: &[u8], further: u32) -> Frame
 
 // The form of an input of one record, behind which nothing may follow.
 pub fn frame_input(bytes: &[u8], further: u32) -> Frame
-    ensures { result ≡ input-form further bytes.now }
+    ensures { result ≡ input_form further bytes.now }
 {
     let framed = frame_record(bytes, further);
     match framed {
@@ -104,7 +104,7 @@ pub fn frame_input(bytes: &[u8], further: u32) -> Frame
 // How many bytes in all must have been read before the form can be told, as far as those read so far show, with
 // `beyond` bytes behind the record. Where it ends nowhere, no more need be.
 pub fn bytes_to_read(bytes: &[u8], further: u32, beyond: u32) -> usize
-    ensures { (result ≡ bytes-to-read further beyond bytes.now) × (result ≤ most_bytes further beyond) }
+    ensures { (result ≡ bytes_to_read further beyond bytes.now) × (result ≤ most_bytes further beyond) }
 {
     let ending = find_end(bytes, further);
     match ending {

@@ -9,15 +9,15 @@ use lib.ListN.{length, replicate}
 use Rattle.refusal.specs.declared.Refusal.{Refusal}
 use Rattle.refusal.specs.Refusal.{Told}
 use Rattle.tally.specs.declared.Tally.{Tally}
-use Rattle.tally.proofs.TallyLaws.{same-tally}
+use Rattle.tally.proofs.TallyLaws.{same_tally}
 use Rattle.plan.specs.declared.check.Answer.{Answer}
 use Rattle.plan.specs.declared.check.Answer.TheVariants.{Valid, Refused}
-use Rattle.plan.specs.Checked.{told-answer}
+use Rattle.plan.specs.Checked.{told_answer}
 use Rattle.reduction.specs.Reduction.{Reduction}
-use Rattle.mask.specs.Mask.{mask-length, mask-bits}
-use Rattle.mask.proofs.MaskTheorem.{ones-are-kept, mask-keeps}
+use Rattle.mask.specs.Mask.{mask_length, mask_bits}
+use Rattle.mask.proofs.MaskTheorem.{ones_are_kept, mask_keeps}
 use Rattle.reduced.specs.Reduced.{Answers}
-use Rattle.reduced.specs.between.Kept.{Keeps, Finishes}
+use Rattle.reduced.specs.Between.Kept.{Keeps, Finishes}
 use Rattle.reduced.proofs.TalliedLaws.{plainly}
 use Rattle.plan.specs.Readable.{Readable}
 
@@ -25,35 +25,35 @@ use Rattle.plan.specs.Readable.{Readable}
 pub keeps : (w l : List ℕ) (m : Reduction) (before after words : List ℕ) (tally : Tally) → Readable w l → length m ≡ length l
     → Finishes w l m before tally words after → Keeps w l m before tally words after
 keeps w l m before after words tally readable fits x =
-    let few : length m ≤ mask-bits = omega (arith, readable.few) in
+    let few : length m ≤ mask_bits = omega (arith, readable.few) in
     record {
-      counted = same-tally _ _ (x.costs ∙ ap (λ t. t.cost) (plainly w l m readable fits)) (x.steps ∙ rw x.told-by (ones-are-kept m few));
-      told-by = x.told-by;
-      written = x.written ∙ rw (x.told-by, mask-keeps m l few fits);
+      counted = same_tally _ _ (x.costs ∙ ap (λ t. t.cost) (plainly w l m readable fits)) (x.steps ∙ rw x.told_by (ones_are_kept m few));
+      told_by = x.told_by;
+      written = x.written ∙ rw (x.told_by, mask_keeps m l few fits);
     }
 
 -- of a refusal the reduction does not matter
-pub answers-same : (t : Option Told) (w l : List ℕ) (m n : Reduction) (before : List ℕ) (given : Answer) (mask after : List ℕ) → (t ≡ none → m ≡ n)
+pub answers_same : (t : Option Told) (w l : List ℕ) (m n : Reduction) (before : List ℕ) (given : Answer) (mask after : List ℕ) → (t ≡ none → m ≡ n)
     → Answers t w l m before given mask after → Answers t w l n before given mask after
-answers-same none w l m n before given mask after same answers = subst (λ k. Answers none w l k before given mask after) (same refl) answers
-answers-same (some r) w l m n before given mask after same answers =
-    record { refusal = answers.refusal; tally = answers.tally; told-by = answers.told-by; output = answers.output }
+answers_same none w l m n before given mask after same answers = subst (λ k. Answers none w l k before given mask after) (same refl) answers
+answers_same (some r) w l m n before given mask after same answers =
+    record { refusal = answers.refusal; tally = answers.tally; told_by = answers.told_by; output = answers.output }
 
-module _ (t : Option Told) (w l : List ℕ) (m : Reduction) (before : List ℕ) (given : Answer) (checked : told-answer given ≡ t) where
+module _ (t : Option Told) (w l : List ℕ) (m : Reduction) (before : List ℕ) (given : Answer) (checked : told_answer given ≡ t) where
   -- a service refuses, with zeros, and touches nothing
-  pub answers-refused : (r : Refusal) → given ≡ Refused r → Answers t w l m before (Refused r) (replicate mask-length 0) before
-  answers-refused r refuses =
-      let refused : told-answer (Refused r) ≡ t = sym (ap told-answer refuses) ∙ checked in
-      record { refusal = refused; tally = rw (← refused); told-by = rw (← refused); output = rw (← refused) }
+  pub answers_refused : (r : Refusal) → given ≡ Refused r → Answers t w l m before (Refused r) (replicate mask_length 0) before
+  answers_refused r refuses =
+      let refused : told_answer (Refused r) ≡ t = sym (ap told_answer refuses) ∙ checked in
+      record { refusal = refused; tally = rw (← refused); told_by = rw (← refused); output = rw (← refused) }
 
   -- or hands on what is told and written of its reduction
-  pub answers-kept : (lodged : Tally) (left : Reduction) (after words : List ℕ) (tally : Tally) → given ≡ Valid lodged → left ≡ m → Keeps w l left before tally words after
+  pub answers_kept : (lodged : Tally) (left : Reduction) (after words : List ℕ) (tally : Tally) → given ≡ Valid lodged → left ≡ m → Keeps w l left before tally words after
       → Answers t w l m before (Valid tally) words after
-  answers-kept lodged left after words tally passes same keeps =
-      let passed : none ≡ t = sym (ap told-answer passes) ∙ checked in
+  answers_kept lodged left after words tally passes same keeps =
+      let passed : none ≡ t = sym (ap told_answer passes) ∙ checked in
       record {
         refusal = passed;
         tally = rw (← passed, ← same) keeps.counted;
-        told-by = rw (← passed, ← same) keeps.told-by;
+        told_by = rw (← passed, ← same) keeps.told_by;
         output = rw (← passed, ← same) keeps.written;
       }

@@ -8,27 +8,27 @@ use lib.ListN.{length, set, replicate, length-replicate, length-append, length-m
 use lib.Seq.{set_at, take_at}
 use Rattle.sheet.specs.Decode.{action}
 use Rattle.plan.specs.Valid.{steps}
-use Rattle.plan.specs.Limits.{most-steps}
+use Rattle.plan.specs.Limits.{most_steps}
 use Rattle.reduction.specs.Reduction.{Reduction, whole}
-use Rattle.reduced.specs.between.Held.{mask, flags_of, none-struck, Leaves}
+use Rattle.reduced.specs.Between.Held.{mask, flags_of, none_struck, Leaves}
 
 -- of `most` flags the first i are up
 abbrev pub raised : ℕ → ℕ → List Bool
 raised most i = replicate i true ++ replicate (most - i) false
 
-pub raised-more : (most i : ℕ) → i < most → set (raised most i) i true ≡ raised most (i + 1)
-raised-more most i h =
+pub raised_more : (most i : ℕ) → i < most → set (raised most i) i true ≡ raised most (i + 1)
+raised_more most i h =
     let fewer : most - i ≡ suc (most - (i + 1)) = omega arith in
     rw (fewer, set_at (replicate i true) false (replicate (most - (i + 1)) false) true i (length-replicate i true), ← replicate-append-replicate i 1 true)
     (sym (append_assoc (replicate i true) (true ∷ []) (replicate (most - (i + 1)) false)))
 
 -- all flags that there are for n steps
-pub all-raised : (n : ℕ) → raised most-steps (min n most-steps) ≡ none-struck n
-all-raised n = let left : most-steps - min n most-steps ≡ most-steps - n = omega arith in rw left
+pub all_raised : (n : ℕ) → raised most_steps (min n most_steps) ≡ none_struck n
+all_raised n = let left : most_steps - min n most_steps ≡ most_steps - n = omega arith in rw left
 
 -- of a list within the limit they hold the whole of it
-pub all_held : (l : List ℕ) (flags : Reduction) → length l ≤ most-steps → flags ≡ none-struck (length l) → flags ≡ flags_of l (whole l)
-all_held l flags few is = let all : min (length l) most-steps ≡ length l = omega arith in is ∙ rw all
+pub all_held : (l : List ℕ) (flags : Reduction) → length l ≤ most_steps → flags ≡ none_struck (length l) → flags ≡ flags_of l (whole l)
+all_held l flags few is = let all : min (length l) most_steps ≡ length l = omega arith in is ∙ rw all
 
 -- the flags that hold a reduction of the steps
 pub leaves : (w l : List ℕ) (m left flags : Reduction) → length left ≡ length (steps w l) → left ≡ m → flags ≡ flags_of l left → Leaves l m flags

@@ -10,25 +10,25 @@ use borrow.Author.Tests.{ltb-true, ltb-false, eq-eqb, ne_eqb}
 use Rattle.tally.specs.declared.Order.TheVariants.{Less, Equal, Greater}
 use Rattle.tally.specs.Tally.{comparison}
 use Rattle.reduction.specs.Reduction.{Reduction, kept}
-use Rattle.reduced.specs.between.Tallied.{is-less}
+use Rattle.reduced.specs.Between.Tallied.{is_less}
 
 -- the lower tally is that of the lower price, then of the fewer steps
-pub less-lower : (a x b y : ℕ) → is-less (comparison (record { cost = a; steps = x }) (record { cost = b; steps = y })) ≡ (ltb a b || (eqb a b && ltb x y))
+pub less_lower : (a x b y : ℕ) → is_less (comparison (record { cost = a; steps = x }) (record { cost = b; steps = y })) ≡ (ltb a b || (eqb a b && ltb x y))
 unfolding comparison
-less-lower a x b y = by-case (ltb a b) refl (ltb b a) refl (ltb x y) refl (ltb y x) refl
+less_lower a x b y = by_case (ltb a b) refl (ltb b a) refl (ltb x y) refl (ltb y x) refl
   where
-    by-case : (p : Bool) → ltb a b ≡ p → (q : Bool) → ltb b a ≡ q → (r : Bool) → ltb x y ≡ r → (t : Bool) → ltb y x ≡ t
-        → is-less (cond (ltb a b) Less (cond (ltb b a) Greater (cond (ltb x y) Less (cond (ltb y x) Greater Equal)))) ≡ (ltb a b || (eqb a b && ltb x y))
-    by-case true e q f r g t h = rw e
-    by-case false e true f r g t h = let apart : eqb a b ≡ false = ne_eqb a b (λ same. omega (arith, ltb-true b a f)) in rw (e, f, apart)
-    by-case false e false f true g t h = let same : eqb a b ≡ true = eq-eqb a b (omega (arith, ltb-false a b e, ltb-false b a f)) in rw (e, f, g, same)
-    by-case false e false f false g true h = rw (e, f, g, h, and-false)
-    by-case false e false f false g false h = rw (e, f, g, h, and-false)
+    by_case : (p : Bool) → ltb a b ≡ p → (q : Bool) → ltb b a ≡ q → (r : Bool) → ltb x y ≡ r → (t : Bool) → ltb y x ≡ t
+        → is_less (cond (ltb a b) Less (cond (ltb b a) Greater (cond (ltb x y) Less (cond (ltb y x) Greater Equal)))) ≡ (ltb a b || (eqb a b && ltb x y))
+    by_case true e q f r g t h = rw e
+    by_case false e true f r g t h = let apart : eqb a b ≡ false = ne_eqb a b (λ same. omega (arith, ltb-true b a f)) in rw (e, f, apart)
+    by_case false e false f true g t h = let same : eqb a b ≡ true = eq-eqb a b (omega (arith, ltb-false a b e, ltb-false b a f)) in rw (e, f, g, same)
+    by_case false e false f false g true h = rw (e, f, g, h, and-false)
+    by_case false e false f false g false h = rw (e, f, g, h, and-false)
 
 -- flags past the end of a plan keep nothing
-pub kept-mask : {A : Type 0} (m : Reduction) (p : List A) → kept (take (length p) m) p ≡ kept m p
+pub kept_mask : {A : Type 0} (m : Reduction) (p : List A) → kept (take (length p) m) p ≡ kept m p
 unfolding kept
-kept-mask m [] = refl
-kept-mask [] (a ∷ p) = refl
-kept-mask (true ∷ m) (a ∷ p) = ap (λ q. a ∷ q) (kept-mask m p)
-kept-mask (false ∷ m) (a ∷ p) = kept-mask m p
+kept_mask m [] = refl
+kept_mask [] (a ∷ p) = refl
+kept_mask (true ∷ m) (a ∷ p) = ap (λ q. a ∷ q) (kept_mask m p)
+kept_mask (false ∷ m) (a ∷ p) = kept_mask m p

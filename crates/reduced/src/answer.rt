@@ -1,7 +1,7 @@
 // What a service that writes a reduction answers.
 ghost use Rattle.std.specs.Prelude.{◌≡◌, replicate};
 ghost use Rattle.plan.specs.declared.check.Answer.TheVariants.{Valid, Refused};
-ghost use Rattle.mask.specs.Mask.{mask-length};
+ghost use Rattle.mask.specs.Mask.{mask_length};
 
 use crate::finish::Kept;
 use mask::Mask;
@@ -18,7 +18,7 @@ pub struct Reduced {
 impl Reduced {
     // A refusal, with its mask of zeros.
     pub fn refused(refusal: Refusal) -> Reduced
-        ensures { (result.answer ≡ Refused refusal) × (result.mask.words ≡ replicate mask-length 0) }
+        ensures { (result.answer ≡ Refused refusal) × (result.mask.words ≡ replicate mask_length 0) }
     {
         Reduced {
             answer: Answer::Refused(refusal),

@@ -1,5 +1,5 @@
 // What is told and written of a reduction.
-ghost use Rattle.reduced.specs.between.Kept.{Finishes};
+ghost use Rattle.reduced.specs.Between.Kept.{Finishes};
 
 use crate::tallied::tally_of;
 use mask::{Mask, mask_of, write_kept};

@@ -1,13 +1,13 @@
 // A reduction as flags: one for each step that a plan may have, none up past its last.
 ghost use Rattle.std.specs.Prelude.{◌≡◌};
-ghost use Rattle.reduced.specs.between.Held.{none-struck};
+ghost use Rattle.reduced.specs.Between.Held.{none_struck};
 
 use crate::room::shorter;
 use plan::limits::Plan;
 
 // The flags of a plan of n steps of which none is struck; every flag is up where a plan may not have as many.
 pub fn all_kept(n: usize) -> [bool; Plan::STEPS]
-    ensures { result ≡ none-struck n }
+    ensures { result ≡ none_struck n }
 {
     let up = shorter(n, Plan::STEPS);
     let mut flags = [false; Plan::STEPS];

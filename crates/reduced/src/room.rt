@@ -2,13 +2,13 @@
 ghost use Rattle.std.specs.Prelude.{◌≡◌, min};
 ghost use Rattle.refusal.specs.Refusal.{told};
 ghost use Rattle.refusal.specs.Check.{answer};
-ghost use Rattle.reduced.specs.Reduced.{room-checks};
+ghost use Rattle.reduced.specs.Reduced.{room_checks};
 
 use refusal::{Refusal, Verdict};
 
 // Checks that an output of `room` words has room for a plan of so many steps.
 pub fn check_room(steps: usize, room: usize) -> Verdict
-    ensures { told result ≡ answer (room-checks steps room) }
+    ensures { told result ≡ answer (room_checks steps room) }
 {
     if room < steps {
         return Verdict::Refused(Refusal::ShortOutput(steps));

@@ -1,6 +1,6 @@
 // The tally of a reduction.
 ghost use Rattle.std.specs.Prelude.{◌≡◌};
-ghost use Rattle.reduced.specs.between.Tallied.{tallied};
+ghost use Rattle.reduced.specs.Between.Tallied.{tallied};
 
 use access::flag;
 use sheet::layout::cost;

@@ -1,8 +1,8 @@
 // A reduction of what a reduction leaves, as one mask over the lodged plan.
 ghost use Rattle.std.specs.Prelude.{◌≡◌, ◌≤◌, length};
-ghost use Rattle.plan.specs.Limits.{most-steps};
+ghost use Rattle.plan.specs.Limits.{most_steps};
 ghost use Rattle.reduction.specs.Reduction.{Reduction, compose};
-ghost use Rattle.mask.specs.Mask.{mask-bits, mask-words};
+ghost use Rattle.mask.specs.Mask.{mask_bits, mask_words};
 
 use mask::{Mask, mask_of};
 use plan::limits::Plan;
@@ -10,9 +10,9 @@ use plan::limits::Plan;
 // The mask of the steps that are kept by these flags, and then by the second mask: its steps are those that the flags
 // keep.
 pub fn mask_through(flags: &[bool], second: Mask) -> Mask
-    requires { length flags.now ≤ most-steps }
-    ensures { (m : Reduction) → second.words ≡ mask-words m → length m ≤ mask-bits
-        → result.words ≡ mask-words (compose flags.now m) }
+    requires { length flags.now ≤ most_steps }
+    ensures { (m : Reduction) → second.words ≡ mask_words m → length m ≤ mask_bits
+        → result.words ≡ mask_words (compose flags.now m) }
 {
     let n = flags.len();
     let mut both = [false; Plan::STEPS];

@@ -7,4 +7,4 @@ pub mod OlderRule
 pub mod Trials
 pub mod Minimal
 -- between: what functions hand to each other, which need not be believed.
-pub mod between
+pub mod Between

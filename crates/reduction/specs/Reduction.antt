@@ -39,13 +39,13 @@ compose (true ∷ r) [] = false ∷ compose r []
 compose (true ∷ r) (b ∷ m) = b ∷ compose r m
 
 -- a list is valid for a test at the end: each step can be done in turn from s, and the state after the last passes
-unfoldable pub valid-for : (State → Bool) → State → List Action → Bool
-valid-for ends s p = elim (run s p) [ none ↦ false | some t ↦ ends t ]
+unfoldable pub valid_for : (State → Bool) → State → List Action → Bool
+valid_for ends s p = elim (run s p) [ none ↦ false | some t ↦ ends t ]
 
 -- a reduction is valid for a test at the end when the list it leaves is
-pub record Valid-for (ends : State → Bool) (s : State) (p : List Action) (m : Reduction) : Type 0 where
+pub record ValidFor (ends : State → Bool) (s : State) (p : List Action) (m : Reduction) : Type 0 where
   pub fits : length m ≡ length p
-  pub valid-left : valid-for ends s (kept m p) ≡ true
+  pub valid_left : valid_for ends s (kept m p) ≡ true
 
 -- document 01's test at the end: all goal facts hold
 abbrev pub meets : Assignment → State → Bool
@@ -53,11 +53,11 @@ meets goal t = satisfies t goal
 
 -- "A list is valid when each step can be done in turn from the starting values and all goal facts hold after the last."
 abbrev pub valid : State → Assignment → List Action → Bool
-valid s goal p = valid-for (meets goal) s p
+valid s goal p = valid_for (meets goal) s p
 
 -- "A reduction is valid when the list it leaves is."
-abbrev pub Valid-reduction : State → Assignment → List Action → Reduction → Type 0
-Valid-reduction s goal p m = Valid-for (meets goal) s p m
+abbrev pub ValidReduction : State → Assignment → List Action → Reduction → Type 0
+ValidReduction s goal p m = ValidFor (meets goal) s p m
 
 -- the kept steps before index i lead from s to t
 abbrev pub Before : State → List Action → Reduction → ℕ → State → Type 0

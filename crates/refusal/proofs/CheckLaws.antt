@@ -9,43 +9,43 @@ use Rattle.refusal.specs.Refusal.{Told}
 use Rattle.refusal.specs.Check.{Check, answer}
 
 -- what is told is its number and its place
-pub told-parts : (t : Told) (n : ℕ) → n ≡ t.number → ◌≡◌ {A = Told} (record { number = n; place = t.place }) t
-told-parts t n e = rw e
+pub told_parts : (t : Told) (n : ℕ) → n ≡ t.number → ◌≡◌ {A = Told} (record { number = n; place = t.place }) t
+told_parts t n e = rw e
 
-pub answer-fires : (c : Check) (cs : List Check) (k : ℕ) → c.fires ≡ At k → answer (c ∷ cs) ≡ some (record { number = c.number; place = k })
+pub answer_fires : (c : Check) (cs : List Check) (k : ℕ) → c.fires ≡ At k → answer (c ∷ cs) ≡ some (record { number = c.number; place = k })
 unfolding answer
-answer-fires c cs k e = rw e
+answer_fires c cs k e = rw e
 
-pub answer-passes : (c : Check) (cs : List Check) → c.fires ≡ Nowhere → answer (c ∷ cs) ≡ answer cs
+pub answer_passes : (c : Check) (cs : List Check) → c.fires ≡ Nowhere → answer (c ∷ cs) ≡ answer cs
 unfolding answer
-answer-passes c cs e = rw e
+answer_passes c cs e = rw e
 
-pub answer-nothing : answer [] ≡ none
+pub answer_nothing : answer [] ≡ none
 unfolding answer
-answer-nothing = refl
+answer_nothing = refl
 
 -- where no check answers, the first does not fire
-pub none-fires : (c : Check) (cs : List Check) → answer (c ∷ cs) ≡ none → (c.fires ≡ Nowhere) × (answer cs ≡ none)
-none-fires c cs h = by-case c.fires refl
+pub none_fires : (c : Check) (cs : List Check) → answer (c ∷ cs) ≡ none → (c.fires ≡ Nowhere) × (answer cs ≡ none)
+none_fires c cs h = by_case c.fires refl
   where
-    by-case : (p : Place) → c.fires ≡ p → (c.fires ≡ Nowhere) × (answer cs ≡ none)
-    by-case Nowhere e = (e, sym (answer-passes c cs e) ∙ h)
-    by-case (At k) e = absurd (some-ne-none _ (sym (answer-fires c cs k e) ∙ h))
+    by_case : (p : Place) → c.fires ≡ p → (c.fires ≡ Nowhere) × (answer cs ≡ none)
+    by_case Nowhere e = (e, sym (answer_passes c cs e) ∙ h)
+    by_case (At k) e = absurd (some-ne-none _ (sym (answer_fires c cs k e) ∙ h))
 
 -- a list of checks that another begins: where the first list answers, so does the whole; where it does not, the second does
-pub answer-first : (cs ds : List Check) {t : Told} → answer cs ≡ some t → answer (cs ++ ds) ≡ some t
-answer-first [] ds h = absurd (some-ne-none _ (sym h ∙ answer-nothing))
-answer-first (c ∷ cs) ds {t} h = by-case (λ e. answer-first cs ds e) c.fires refl
+pub answer_first : (cs ds : List Check) {t : Told} → answer cs ≡ some t → answer (cs ++ ds) ≡ some t
+answer_first [] ds h = absurd (some-ne-none _ (sym h ∙ answer_nothing))
+answer_first (c ∷ cs) ds {t} h = by_case (λ e. answer_first cs ds e) c.fires refl
   where
-    by-case : (answer cs ≡ some t → answer (cs ++ ds) ≡ some t) → (p : Place) → c.fires ≡ p → answer (c ∷ (cs ++ ds)) ≡ some t
-    by-case below Nowhere e = answer-passes c (cs ++ ds) e ∙ below (sym (answer-passes c cs e) ∙ h)
-    by-case below (At k) e = answer-fires c (cs ++ ds) k e ∙ sym (answer-fires c cs k e) ∙ h
+    by_case : (answer cs ≡ some t → answer (cs ++ ds) ≡ some t) → (p : Place) → c.fires ≡ p → answer (c ∷ (cs ++ ds)) ≡ some t
+    by_case below Nowhere e = answer_passes c (cs ++ ds) e ∙ below (sym (answer_passes c cs e) ∙ h)
+    by_case below (At k) e = answer_fires c (cs ++ ds) k e ∙ sym (answer_fires c cs k e) ∙ h
 
-pub answer-second : (cs ds : List Check) → answer cs ≡ none → answer (cs ++ ds) ≡ answer ds
-answer-second [] ds h = refl
-answer-second (c ∷ cs) ds h = let (passes, rest) = none-fires c cs h in answer-passes c (cs ++ ds) passes ∙ answer-second cs ds rest
+pub answer_second : (cs ds : List Check) → answer cs ≡ none → answer (cs ++ ds) ≡ answer ds
+answer_second [] ds h = refl
+answer_second (c ∷ cs) ds h = let (passes, rest) = none_fires c cs h in answer_passes c (cs ++ ds) passes ∙ answer_second cs ds rest
 
 -- where two lists of checks joined answer nothing, the first answers nothing
-pub first-none : (cs ds : List Check) (t : Option Told) → answer (cs ++ ds) ≡ none → answer cs ≡ t → answer cs ≡ none
-first-none cs ds none h e = e
-first-none cs ds (some t) h e = absurd (some-ne-none _ (sym (answer-first cs ds e) ∙ h))
+pub first_none : (cs ds : List Check) (t : Option Told) → answer (cs ++ ds) ≡ none → answer cs ≡ t → answer cs ≡ none
+first_none cs ds none h e = e
+first_none cs ds (some t) h e = absurd (some-ne-none _ (sym (answer_first cs ds e) ∙ h))

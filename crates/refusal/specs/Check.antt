@@ -16,6 +16,6 @@ answer [] = none
 answer (c ∷ cs) = elim c.fires [ Nowhere ↦ answer cs | At k ↦ some (record { number = c.number; place = k }) ]
 
 -- the first where nothing is refused, the second on a refusal
-abbrev pub unless-refused : {A : Type 0} → Option Told → A → A → A
-unless-refused none x y = x
-unless-refused (some t) x y = y
+abbrev pub unless_refused : {A : Type 0} → Option Told → A → A → A
+unless_refused none x y = x
+unless_refused (some t) x y = y

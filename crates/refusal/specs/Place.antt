@@ -14,13 +14,13 @@ or_else Nowhere q = q
 or_else (At k) q = At k
 
 -- the first place that f finds at one of the n numbers from i on
-unfoldable pub first-of-next : (ℕ → Place) → ℕ → ℕ → Place
-first-of-next f i zero = Nowhere
-first-of-next f i (suc n) = elim (f i) [ Nowhere ↦ first-of-next f (i + 1) n | At k ↦ At k ]
+unfoldable pub first_of_next : (ℕ → Place) → ℕ → ℕ → Place
+first_of_next f i zero = Nowhere
+first_of_next f i (suc n) = elim (f i) [ Nowhere ↦ first_of_next f (i + 1) n | At k ↦ At k ]
 
 -- the first place that f finds at one of the numbers from i up to, not including, end
 unfoldable pub first_of : (ℕ → Place) → ℕ → ℕ → Place
-first_of f i end = first-of-next f i (end - i)
+first_of f i end = first_of_next f i (end - i)
 
 -- the first of the numbers from i up to, not including, end at which a test holds
 unfoldable pub first : (ℕ → Bool) → ℕ → ℕ → Place

@@ -14,25 +14,25 @@ pub record Told : Type 0 where
   pub number : ℕ
   pub place : ℕ
 
-abbrev pub told-refusal : Refusal → Told
-told-refusal Length = record { number = 1; place = 0 }
-told-refusal Edition = record { number = 2; place = 0 }
-told-refusal Counts = record { number = 3; place = 0 }
-told-refusal (Pair k) = record { number = 4; place = k }
-told-refusal (Variable v) = record { number = 5; place = v }
-told-refusal (Fact i) = record { number = 6; place = i }
-told-refusal (Cost a) = record { number = 7; place = a }
-told-refusal (PlanLength n) = record { number = 8; place = n }
-told-refusal (UnknownAction i) = record { number = 9; place = i }
-told-refusal (ShortOutput n) = record { number = 10; place = n }
-told-refusal (NotAPlan i) = record { number = 11; place = i }
-told-refusal (Unmarked n) = record { number = 12; place = n }
-told-refusal (Form n) = record { number = 13; place = n }
-told-refusal (Unsupported n) = record { number = 14; place = n }
-told-refusal Unwritable = record { number = 15; place = 0 }
-told-refusal (Conflict a) = record { number = 16; place = a }
+abbrev pub told_refusal : Refusal → Told
+told_refusal Length = record { number = 1; place = 0 }
+told_refusal Edition = record { number = 2; place = 0 }
+told_refusal Counts = record { number = 3; place = 0 }
+told_refusal (Pair k) = record { number = 4; place = k }
+told_refusal (Variable v) = record { number = 5; place = v }
+told_refusal (Fact i) = record { number = 6; place = i }
+told_refusal (Cost a) = record { number = 7; place = a }
+told_refusal (PlanLength n) = record { number = 8; place = n }
+told_refusal (UnknownAction i) = record { number = 9; place = i }
+told_refusal (ShortOutput n) = record { number = 10; place = n }
+told_refusal (NotAPlan i) = record { number = 11; place = i }
+told_refusal (Unmarked n) = record { number = 12; place = n }
+told_refusal (Form n) = record { number = 13; place = n }
+told_refusal (Unsupported n) = record { number = 14; place = n }
+told_refusal Unwritable = record { number = 15; place = 0 }
+told_refusal (Conflict a) = record { number = 16; place = a }
 
 -- a verdict's refusal, if it is one
 abbrev pub told : Verdict → Option Told
 told Passed = none
-told (Refused r) = some (told-refusal r)
+told (Refused r) = some (told_refusal r)

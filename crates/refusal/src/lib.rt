@@ -1,9 +1,11 @@
 // The causes of refusal of documents 01 and 02, each with the place that is not always the same. place: where a check
 // fires, if it does. specs/Refusal.antt gives each its number and place, and `number` and `place` hold the code to it.
+#![tactic(auto)]
+
 pub mod place;
 
 ghost use Rattle.std.specs.Prelude.{◌≡◌};
-ghost use Rattle.refusal.specs.Refusal.{told-refusal};
+ghost use Rattle.refusal.specs.Refusal.{told_refusal};
 
 #[derive(Drop)]
 pub enum Refusal {
@@ -28,7 +30,7 @@ pub enum Refusal {
 impl Refusal {
     // The number in document 01's table, which document 02's join.
     pub fn number(self) -> u32
-        ensures { result ≡ (told-refusal self).number }
+        ensures { result ≡ (told_refusal self).number }
     {
         match self {
             Refusal::Length => 1,
@@ -52,7 +54,7 @@ impl Refusal {
 
     // The place that is returned with it.
     pub fn place(self) -> usize
-        ensures { result ≡ (told-refusal self).place }
+        ensures { result ≡ (told_refusal self).place }
     {
         match self {
             Refusal::Length => 0,

@@ -3,4 +3,4 @@
 pub mod Report
 pub mod Shortened
 -- between: what functions hand to each other, which need not be believed.
-pub mod between
+pub mod Between

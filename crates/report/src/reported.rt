@@ -2,7 +2,7 @@
 ghost use Rattle.std.specs.Prelude.{◌+◌, ◌≤◌, ◌<◌, length};
 ghost use Rattle.reduction.specs.Reduction.{Reduction};
 ghost use Rattle.report.specs.Report.{step_lines, report};
-ghost use Rattle.report.specs.between.Reported.{Masks-steps, Reports, Puts-step, Puts-lines};
+ghost use Rattle.report.specs.Between.Reported.{MasksSteps, Reports, PutsStep, PutsLines};
 
 use access::word;
 use mask::Mask;
@@ -14,7 +14,7 @@ use tally::Tally;
 // Puts the line of the step at index i: its position, its action and its cost.
 fn put_step(words: &[u32], plan: &[u32], i: usize, out: &mut [u8], at: usize) -> usize
     requires { i < length plan.now }
-    ensures { Puts-step words.now plan.now i at out.old out.new result }
+    ensures { PutsStep words.now plan.now i at out.old out.new result }
 {
     let action = word(plan, i);
     put_three(
@@ -28,8 +28,8 @@ fn put_step(words: &[u32], plan: &[u32], i: usize, out: &mut [u8], at: usize) ->
 
 // Puts a line for each kept step.
 fn put_steps(words: &[u32], plan: &[u32], mask: Mask, out: &mut [u8], at: usize) -> usize
-    ensures { (m : Reduction) → Masks-steps plan.now m mask → at ≤ length out.old
-        → Puts-lines (length plan.now) (step_lines words.now 1 plan.now m) at
+    ensures { (m : Reduction) → MasksSteps plan.now m mask → at ≤ length out.old
+        → PutsLines (length plan.now) (step_lines words.now 1 plan.now m) at
         out.old out.new result }
 {
     let mut end = at;
@@ -55,7 +55,7 @@ pub fn put_report(
     at: usize,
 ) -> usize
     ensures { (m : Reduction) → Reports words.now plan.now m told kept
-        → Puts-lines (3 + length plan.now) (report words.now plan.now m) at
+        → PutsLines (3 + length plan.now) (report words.now plan.now m) at
         out.old out.new result }
 {
     let lodged = told.lodged;

@@ -1,7 +1,7 @@
 // What is printed for a plan that is shortened, put to the front of lent bytes.
-ghost use Rattle.program.specs.between.Room.{Text-put};
+ghost use Rattle.program.specs.Between.Room.{TextPut};
 ghost use Rattle.report.specs.Shortened.{shortened};
-ghost use Rattle.report.specs.between.Reported.{report-room};
+ghost use Rattle.report.specs.Between.Reported.{report_room};
 
 use crate::reported::put_report;
 use minimal::reduce::minimal_reduction;
@@ -11,7 +11,7 @@ use program::output::put_refusal;
 
 // Puts the report of a plan, or its refusal. The list left has room for the longest that is read.
 pub fn put_shortened(words: &[u32], plan: &[u32], out: &mut [u8]) -> usize
-    ensures { Text-put report-room out.old out.new result
+    ensures { TextPut report_room out.old out.new result
         (shortened words.now plan.now) }
 {
     let mut left = [0u32; Plan::STEPS];

@@ -5,4 +5,4 @@ pub mod Task
 pub mod Plan
 pub mod Conflict
 -- between: what functions hand to each other, which need not be believed.
-pub mod between
+pub mod Between

@@ -19,8 +19,8 @@ unconditional [] = []
 unconditional (e ∷ es) = elim e.condition [ [] ↦ e.fact ∷ unconditional es | f ∷ q ↦ unconditional es ]
 
 -- the facts that an action makes true wherever it is applied
-unfoldable pub written-always : Action → Assignment
-written-always a = unconditional a.effects
+unfoldable pub written_always : Action → Assignment
+written_always a = unconditional a.effects
 
 -- the facts that must hold where an action is applied: those of its precondition
 unfoldable pub needed : Action → Assignment
@@ -29,8 +29,8 @@ needed a = a.precondition
 abbrev pub may_write : Action → Fact → Type 0
 may_write a f = Memᴰ f (written a)
 
-abbrev pub always-writes : Action → Fact → Type 0
-always-writes a f = Memᴰ f (written-always a)
+abbrev pub always_writes : Action → Fact → Type 0
+always_writes a f = Memᴰ f (written_always a)
 
 abbrev pub needs : Action → Fact → Type 0
 needs a f = Memᴰ f (needed a)
@@ -41,10 +41,10 @@ satisfies s [] = true
 satisfies s (f ∷ q) = holds s f && satisfies s q
 
 -- the first fact of an assignment, in the order that it is written in, that does not hold in a state. No definition
--- here rests on an order: an assignment holds just where no fact fails (`none-fails` of proofs/FactLaws).
-unfoldable pub first-failing : State → Assignment → Option Fact
-first-failing s [] = none
-first-failing s (f ∷ q) = elim (holds s f) [ true ↦ first-failing s q | false ↦ some f ]
+-- here rests on an order: an assignment holds just where no fact fails (`none_fails` of proofs/FactLaws).
+unfoldable pub first_failing : State → Assignment → Option Fact
+first_failing s [] = none
+first_failing s (f ∷ q) = elim (holds s f) [ true ↦ first_failing s q | false ↦ some f ]
 
 -- an action is applicable in a state: its precondition holds there
 unfoldable pub applicable : State → Action → Bool
@@ -61,7 +61,7 @@ acting s [] = []
 acting s (e ∷ es) = elim (satisfies s e.condition) [ true ↦ e.fact ∷ acting s es | false ↦ acting s es ]
 
 -- the state that an action makes of a state: all conditions are read there, then all acting facts are assigned. In
--- which order does not matter, since no two of them disagree (`acting-agrees` of proofs/ActionLaws).
+-- which order does not matter, since no two of them disagree (`acting_agrees` of proofs/ActionLaws).
 unfoldable pub apply : State → Action → State
 apply s a = assign s (acting s a.effects)
 
@@ -90,13 +90,13 @@ pub record Stuck (s : State) (p : List Action) (i : ℕ) : Type 0 where
   pub parts : p ≡ earlier ++ (here ∷ later)
   pub position : i ≡ length earlier + 1
   pub reached : run s earlier ≡ some before
-  pub not-applicable : applicable before here ≡ false
+  pub not_applicable : applicable before here ≡ false
 
 -- every action of p can be applied in turn, but the goal does not hold after the last
 pub record Unmet (goal : Assignment) (s : State) (p : List Action) : Type 0 where
   pub end : State
   pub reached : run s p ≡ some end
-  pub goal-fails : satisfies end goal ≡ false
+  pub goal_fails : satisfies end goal ≡ false
 
 -- the cost of a sequence of actions: the sum of their costs
 unfoldable pub cost : List Action → ℕ

@@ -1,7 +1,7 @@
 // The search from the starting values.
 ghost use Rattle.std.specs.Prelude.{◌≡◌, ◌+◌, ◌-◌, ◌≤◌, ◌^◌};
-ghost use Rattle.packed_state.specs.between.Chosen.{most-choices};
-ghost use Rattle.turns.specs.between.Told.{Begins, Finds};
+ghost use Rattle.packed_state.specs.Between.Chosen.{most_choices};
+ghost use Rattle.turns.specs.Between.Told.{Begins, Finds};
 
 use crate::unpack::unpack;
 use choice_rows::rows::{STRUCK, fill_rows};
@@ -15,7 +15,7 @@ use turns::turns::{keep, strike};
 
 // The choices that keep all of `count` unflagged steps.
 fn all_chosen(count: usize) -> u64
-    requires { count ≤ most-choices }
+    requires { count ≤ most_choices }
     ensures { result ≡ 2 ^ (count + 1) - 1 }
 {
     (1 << (count + 1)) - 1

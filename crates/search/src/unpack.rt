@@ -1,6 +1,6 @@
 // The flags of the steps that choices keep.
 ghost use Rattle.std.specs.Prelude.{◌≡◌};
-ghost use Rattle.turns.specs.between.Unpacked.{chosen-up, kept_by, Unpacks};
+ghost use Rattle.turns.specs.Between.Unpacked.{chosen_up, kept_by, Unpacks};
 
 use access::flag;
 use choice_rows::rows::open;
@@ -10,7 +10,7 @@ use turns::chosen::BITS;
 
 // Whether choices keep unflagged step d.
 fn is_chosen(bits: u64, d: usize) -> bool
-    ensures { result ≡ chosen-up bits d }
+    ensures { result ≡ chosen_up bits d }
 {
     if d < BITS {
         (bits >> (d + 1)) % 2 == 1

@@ -12,7 +12,7 @@ pub mod GroupLaws
 pub mod EffectLaws
 -- Accepted: an accepted task means a well-formed SAS+ task.
 pub mod Accepted
--- LaidLaws: parts that stand end to end among words, as their pairs say; they do in just the words that `sheet-of` writes.
+-- LaidLaws: parts that stand end to end among words, as their pairs say; they do in just the words that `sheet_of` writes.
 pub mod LaidLaws
 -- FactWords: a fact and its word, and facts among words.
 pub mod FactWords

@@ -5,21 +5,21 @@ use mathlib.Core.List.{List}
 use borrow.Author.Tests.{eq-eqb, ne_eqb, lt-ltb, le-ltb}
 use Rattle.refusal.specs.declared.place.Place.TheVariants.{At}
 use Rattle.refusal.specs.Place.{first}
-use Rattle.sheet.specs.Layout.{pairs, pairs_end, part_end, stated-length}
-use Rattle.sheet.specs.Causes.{due, bad-pair, pair_place}
+use Rattle.sheet.specs.Layout.{pairs, pairs_end, part_end, stated_length}
+use Rattle.sheet.specs.Causes.{due, bad_pair, pair_place}
 
-pub due-first : (w : List ℕ) (k : ℕ) → k ≡ 0 → due w k ≡ pairs_end w
+pub due_first : (w : List ℕ) (k : ℕ) → k ≡ 0 → due w k ≡ pairs_end w
 unfolding due
-due-first w k e = rw (eq-eqb k 0 e, due)
+due_first w k e = rw (eq-eqb k 0 e, due)
 
-pub due-later : (w : List ℕ) (k : ℕ) → (k ≡ 0 → ⊥) → due w k ≡ part_end w (k - 1)
+pub due_later : (w : List ℕ) (k : ℕ) → (k ≡ 0 → ⊥) → due w k ≡ part_end w (k - 1)
 unfolding due
-due-later w k e = rw (ne_eqb k 0 e, due)
+due_later w k e = rw (ne_eqb k 0 e, due)
 
-pub pairs-unfit : (w : List ℕ) → stated-length w < pairs_end w → pair_place w ≡ At 0
+pub pairs_unfit : (w : List ℕ) → stated_length w < pairs_end w → pair_place w ≡ At 0
 unfolding pair_place
-pairs-unfit w h = rw (lt-ltb _ _ h)
+pairs_unfit w h = rw (lt-ltb _ _ h)
 
-pub pairs-fit : (w : List ℕ) → pairs_end w ≤ stated-length w → pair_place w ≡ first (bad-pair w) 0 (pairs w)
+pub pairs_fit : (w : List ℕ) → pairs_end w ≤ stated_length w → pair_place w ≡ first (bad_pair w) 0 (pairs w)
 unfolding pair_place
-pairs-fit w h = rw (le-ltb _ _ h)
+pairs_fit w h = rw (le-ltb _ _ h)

@@ -17,24 +17,24 @@ use Rattle.sheet.specs.Layout.{word}
 use Rattle.sheet.specs.Decode.{table, fact_of, facts}
 
 module _ {A : Type 0} (f : ℕ → A) where
-  pub table-nothing : (i : ℕ) → table f i zero ≡ []
+  pub table_nothing : (i : ℕ) → table f i zero ≡ []
   unfolding table
-  table-nothing i = refl
+  table_nothing i = refl
 
   pub table_more : (i n : ℕ) → table f i (suc n) ≡ f i ∷ table f (i + 1) n
   unfolding table
   table_more i n = refl
 
-  pub table-length : (i n : ℕ) → length (table f i n) ≡ n
+  pub table_length : (i n : ℕ) → length (table f i n) ≡ n
   unfolding table
-  table-length i zero = refl
-  table-length i (suc n) = ap suc (table-length (i + 1) n)
+  table_length i zero = refl
+  table_length i (suc n) = ap suc (table_length (i + 1) n)
 
   -- one element more behind
-  pub table-last : (i n : ℕ) → table f i (suc n) ≡ table f i n ++ (f (i + n) ∷ [])
+  pub table_last : (i n : ℕ) → table f i (suc n) ≡ table f i n ++ (f (i + n) ∷ [])
   unfolding table
-  table-last i zero = ap (λ k. f k ∷ []) (omega arith)
-  table-last i (suc n) = let on : i + 1 + n ≡ i + suc n = omega arith in ap (λ l. f i ∷ l) (table-last (i + 1) n ∙ rw on)
+  table_last i zero = ap (λ k. f k ∷ []) (omega arith)
+  table_last i (suc n) = let on : i + 1 + n ≡ i + suc n = omega arith in ap (λ l. f i ∷ l) (table_last (i + 1) n ∙ rw on)
 
   -- the element at index k is the value at number j = i + k
   pub table_at : (i n k j : ℕ) (d : A) → k < n → j ≡ i + k → get_or (table f i n) k d ≡ f j
@@ -44,17 +44,17 @@ module _ {A : Type 0} (f : ℕ → A) where
   table_at i (suc n) (suc k) j d h e = table_at (i + 1) n k j d (omega arith) (omega arith)
 
   -- the first m elements, and m elements from index k on, at number j = i + k
-  pub table-take : (i m n : ℕ) → m ≤ n → take m (table f i n) ≡ table f i m
+  pub table_take : (i m n : ℕ) → m ≤ n → take m (table f i n) ≡ table f i m
   unfolding table
-  table-take i zero n h = refl
-  table-take i (suc m) zero h = absurd (omega arith)
-  table-take i (suc m) (suc n) h = ap (λ l. f i ∷ l) (table-take (i + 1) m n (omega arith))
+  table_take i zero n h = refl
+  table_take i (suc m) zero h = absurd (omega arith)
+  table_take i (suc m) (suc n) h = ap (λ l. f i ∷ l) (table_take (i + 1) m n (omega arith))
 
-  pub table-part : (i k m n j : ℕ) → k + m ≤ n → j ≡ i + k → take m (drop k (table f i n)) ≡ table f j m
+  pub table_part : (i k m n j : ℕ) → k + m ≤ n → j ≡ i + k → take m (drop k (table f i n)) ≡ table f j m
   unfolding table
-  table-part i zero m n j h e = let same : j ≡ i = omega arith in rw same (table-take i m n (omega arith))
-  table-part i (suc k) m zero j h e = absurd (omega arith)
-  table-part i (suc k) m (suc n) j h e = table-part (i + 1) k m n j (omega arith) (omega arith)
+  table_part i zero m n j h e = let same : j ≡ i = omega arith in rw same (table_take i m n (omega arith))
+  table_part i (suc k) m zero j h e = absurd (omega arith)
+  table_part i (suc k) m (suc n) j h e = table_part (i + 1) k m n j (omega arith) (omega arith)
 
   -- a function that agrees with f at each number of the table makes the same table
   pub table_same : (g : ℕ → A) (i n : ℕ) → ((k : ℕ) → i ≤ k → k < i + n → f k ≡ g k) → table f i n ≡ table g i n
@@ -63,59 +63,59 @@ module _ {A : Type 0} (f : ℕ → A) where
   table_same g i (suc n) same = rw (same i (omega arith) (omega arith), table_same g (i + 1) n (λ k low high. same k (omega arith) (omega arith)))
 
   -- each value at a number of the table is one of its members
-  pub table-member : (i n k : ℕ) → i ≤ k → k < i + n → Memᴰ (f k) (table f i n)
+  pub table_member : (i n k : ℕ) → i ≤ k → k < i + n → Memᴰ (f k) (table f i n)
   unfolding table
-  table-member i zero k low high = absurd (omega arith)
-  table-member i (suc n) k low high = by-case (table-member (i + 1) n k) (eqb k i) refl
+  table_member i zero k low high = absurd (omega arith)
+  table_member i (suc n) k low high = by_case (table_member (i + 1) n k) (eqb k i) refl
     where
-      by-case : (i + 1 ≤ k → k < i + 1 + n → Memᴰ (f k) (table f (i + 1) n)) → (b : Bool) → eqb k i ≡ b → Memᴰ (f k) (f i ∷ table f (i + 1) n)
-      by-case later true e = Memᴰ.head (ap f (eqb-true k i e))
-      by-case later false e = Memᴰ.tail (later (omega (arith, eqb-false k i e)) (omega arith))
+      by_case : (i + 1 ≤ k → k < i + 1 + n → Memᴰ (f k) (table f (i + 1) n)) → (b : Bool) → eqb k i ≡ b → Memᴰ (f k) (f i ∷ table f (i + 1) n)
+      by_case later true e = Memᴰ.head (ap f (eqb-true k i e))
+      by_case later false e = Memᴰ.tail (later (omega (arith, eqb-false k i e)) (omega arith))
 
   -- and each member is the value at one of them
-  pub table-member-at : (i n : ℕ) {x : A} → Memᴰ x (table f i n) → (k : ℕ) × (i ≤ k) × (k < i + n) × (x ≡ f k)
+  pub table_member_at : (i n : ℕ) {x : A} → Memᴰ x (table f i n) → (k : ℕ) × (i ≤ k) × (k < i + n) × (x ≡ f k)
   unfolding table
-  table-member-at i zero m = absurd (Memᴰ.not-nil m)
-  table-member-at i (suc n) m =
+  table_member_at i zero m = absurd (Memᴰ.not-nil m)
+  table_member_at i (suc n) m =
       ⊎_elim
       (λ here. (i, omega arith, omega arith, here))
-      (λ later. let (k, low, high, e) = table-member-at (i + 1) n later in (k, omega arith, omega arith, e))
+      (λ later. let (k, low, high, e) = table_member_at (i + 1) n later in (k, omega arith, omega arith, e))
       (Memᴰ.cases_cons m)
 
-pub facts-length : (w : List ℕ) (i end : ℕ) → length (facts w i end) ≡ end - i
+pub facts_length : (w : List ℕ) (i end : ℕ) → length (facts w i end) ≡ end - i
 unfolding facts
-facts-length w i end = table-length _ i (end - i)
+facts_length w i end = table_length _ i (end - i)
 
 -- from the end on there is no fact
-pub facts-over : (w : List ℕ) (i end : ℕ) → end ≤ i → facts w i end ≡ []
+pub facts_over : (w : List ℕ) (i end : ℕ) → end ≤ i → facts w i end ≡ []
 unfolding facts table
-facts-over w i end h = rw (none_left i end h)
+facts_over w i end h = rw (none_left i end h)
 
 -- before the end, the fact here comes first
-pub facts-next : (w : List ℕ) (i end : ℕ) → i < end → facts w i end ≡ fact_of (word w i) ∷ facts w (i + 1) end
+pub facts_next : (w : List ℕ) (i end : ℕ) → i < end → facts w i end ≡ fact_of (word w i) ∷ facts w (i + 1) end
 unfolding facts table
-facts-next w i end h = rw (one_fewer i end h)
+facts_next w i end h = rw (one_fewer i end h)
 
 -- and the one before the end comes last
-pub facts-last : (w : List ℕ) (i end : ℕ) → i < end → facts w i end ≡ facts w i (end - 1) ++ (fact_of (word w (end - 1)) ∷ [])
+pub facts_last : (w : List ℕ) (i end : ℕ) → i < end → facts w i end ≡ facts w i (end - 1) ++ (fact_of (word w (end - 1)) ∷ [])
 unfolding facts
-facts-last w i end h =
+facts_last w i end h =
     let more : end - i ≡ suc (end - 1 - i) = omega arith in
     let there : i + (end - 1 - i) ≡ end - 1 = omega arith in
-    rw (more, table-last (λ j. fact_of (word w j)) i (end - 1 - i), there)
+    rw (more, table_last (λ j. fact_of (word w j)) i (end - 1 - i), there)
 
 -- from the end on nothing is stored
-pub stores-over : (f : ℕ → ℕ) (l : List ℕ) (i end : ℕ) → end ≤ i → sets l i (table f i (end - i)) ≡ l
-stores-over f l i end h = rw (none_left i end h, table-nothing f i)
+pub stores_over : (f : ℕ → ℕ) (l : List ℕ) (i end : ℕ) → end ≤ i → sets l i (table f i (end - i)) ≡ l
+stores_over f l i end h = rw (none_left i end h, table_nothing f i)
 
 -- before the end, the value here is stored first
-pub stores-next : (f : ℕ → ℕ) (l : List ℕ) (i end : ℕ) → i < end
+pub stores_next : (f : ℕ → ℕ) (l : List ℕ) (i end : ℕ) → i < end
     → sets l i (table f i (end - i)) ≡ sets (set l i (f i)) (i + 1) (table f (i + 1) (end - (i + 1)))
-stores-next f l i end h = rw (one_fewer i end h, table_more f i (end - (i + 1)), add-one i)
+stores_next f l i end h = rw (one_fewer i end h, table_more f i (end - (i + 1)), add-one i)
 
 -- a table stored over as many words is all that is left
-pub stores-whole : (f : ℕ → ℕ) (l : List ℕ) (n : ℕ) → length l ≡ n → sets l 0 (table f 0 n) ≡ table f 0 n
-stores-whole f l n e =
-    let long : length (table f 0 n) ≡ n = table-length f 0 n in
+pub stores_whole : (f : ℕ → ℕ) (l : List ℕ) (n : ℕ) → length l ≡ n → sets l 0 (table f 0 n) ≡ table f 0 n
+stores_whole f l n e =
+    let long : length (table f 0 n) ≡ n = table_length f 0 n in
     let none_after : drop (0 + length (table f 0 n)) l ≡ [] = drop_of_length-le l {i = 0 + length (table f 0 n)} (omega arith) in
     sets-eq (table f 0 n) l 0 (omega arith) ∙ rw (none_after, append-nil)

@@ -10,14 +10,14 @@ abbrev pub edition : List ℕ → ℕ
 edition w = word w 0
 
 -- the edition of document 01, and that of document 02, C-15, whose effects have conditions
-abbrev pub first-edition : ℕ
-first-edition = 1
+abbrev pub first_edition : ℕ
+first_edition = 1
 
-abbrev pub second-edition : ℕ
-second-edition = 2
+abbrev pub second_edition : ℕ
+second_edition = 2
 
-abbrev pub has-conditions : List ℕ → Bool
-has-conditions w = eqb (edition w) second-edition
+abbrev pub has_conditions : List ℕ → Bool
+has_conditions w = eqb (edition w) second_edition
 
 -- word 1, 01's V
 abbrev pub variables : List ℕ → ℕ
@@ -28,8 +28,8 @@ abbrev pub actions : List ℕ → ℕ
 actions w = word w 2
 
 -- word 3, 01's N
-abbrev pub stated-length : List ℕ → ℕ
-stated-length w = word w 3
+abbrev pub stated_length : List ℕ → ℕ
+stated_length w = word w 3
 
 -- the words before the pairs, which every sheet has
 abbrev pub header : ℕ
@@ -64,31 +64,31 @@ abbrev pub start : List ℕ → ℕ → ℕ
 start w v = word w (offset w 1 + v)
 
 -- pair 2: the goal
-abbrev pub goal-start : List ℕ → ℕ
-goal-start w = offset w 2
+abbrev pub goal_start : List ℕ → ℕ
+goal_start w = offset w 2
 
-abbrev pub goal-end : List ℕ → ℕ
-goal-end w = part_end w 2
+abbrev pub goal_end : List ℕ → ℕ
+goal_end w = part_end w 2
 
 -- pair 3 + a: the part of action a is its cost, its number of precondition facts, those facts, and its effects up to the
 -- end: in edition 1 a fact each
-abbrev pub cost-word : List ℕ → ℕ → ℕ
-cost-word w a = word w (offset w (3 + a))
+abbrev pub cost_word : List ℕ → ℕ → ℕ
+cost_word w a = word w (offset w (3 + a))
 
-abbrev pub precondition-count : List ℕ → ℕ → ℕ
-precondition-count w a = word w (offset w (3 + a) + 1)
+abbrev pub precondition_count : List ℕ → ℕ → ℕ
+precondition_count w a = word w (offset w (3 + a) + 1)
 
-abbrev pub precondition-start : List ℕ → ℕ → ℕ
-precondition-start w a = offset w (3 + a) + 2
+abbrev pub precondition_start : List ℕ → ℕ → ℕ
+precondition_start w a = offset w (3 + a) + 2
 
-abbrev pub effect-start : List ℕ → ℕ → ℕ
-effect-start w a = offset w (3 + a) + 2 + precondition-count w a
+abbrev pub effect_start : List ℕ → ℕ → ℕ
+effect_start w a = offset w (3 + a) + 2 + precondition_count w a
 
-abbrev pub effect-end : List ℕ → ℕ → ℕ
-effect-end w a = part_end w (3 + a)
+abbrev pub effect_end : List ℕ → ℕ → ℕ
+effect_end w a = part_end w (3 + a)
 
 -- in edition 2 an effect is its number of condition facts, those facts, and its own fact. That one stands behind the
 -- others, for the effect at word i of a part that ends at word `end`: in an accepted sheet before the end, and never
 -- past it
-abbrev pub effect-fact : List ℕ → ℕ → ℕ → ℕ
-effect-fact w end i = min (i + 1 + word w i) end
+abbrev pub effect_fact : List ℕ → ℕ → ℕ → ℕ
+effect_fact w end i = min (i + 1 + word w i) end

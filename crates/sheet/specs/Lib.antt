@@ -5,4 +5,4 @@ pub mod Layout
 pub mod Decode
 pub mod Causes
 -- between: what functions hand to each other, which need not be believed.
-pub mod between
+pub mod Between

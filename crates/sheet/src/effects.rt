@@ -1,7 +1,7 @@
 // The effects of an action. How they lie among the words is known here and to the sheet's own checks alone: every other
 // function goes through them one by one, from the first.
 ghost use Rattle.std.specs.Prelude.{◌≡◌, ◌<◌, ◌^◌};
-ghost use Rattle.sheet.specs.between.Effects.{fact-place, first-written, first-condition, rest-effects};
+ghost use Rattle.sheet.specs.Between.Effects.{fact_place, first_written, first_condition, rest_effects};
 
 use crate::group::Group;
 use crate::layout::effect_fact;
@@ -19,7 +19,7 @@ pub struct Effects {
 impl Effects {
     // Where the fact of the first of them stands.
     fn fact_place(self, w: &[u32]) -> usize
-        ensures { result ≡ fact-place w.now self }
+        ensures { result ≡ fact_place w.now self }
     {
         if self.conditional {
             return effect_fact(w, self.end, self.at);
@@ -29,14 +29,14 @@ impl Effects {
 
     // The word of the fact that the first of them may write.
     pub fn first(self, w: &[u32]) -> u32
-        ensures { (result ≡ first-written w.now self) × (result < 2 ^ 32) }
+        ensures { (result ≡ first_written w.now self) × (result < 2 ^ 32) }
     {
         word(w, self.fact_place(w))
     }
 
     // The condition of the first of them, which is empty in edition 1.
     pub fn condition(self, w: &[u32]) -> Group
-        ensures { result ≡ first-condition w.now self }
+        ensures { result ≡ first_condition w.now self }
     {
         if self.conditional {
             let fact = self.fact_place(w);
@@ -59,7 +59,7 @@ impl Effects {
 
     // All but the first; where there is none, none.
     pub fn rest(self, w: &[u32]) -> Effects
-        ensures { result ≡ rest-effects w.now self }
+        ensures { result ≡ rest_effects w.now self }
     {
         if self.at < self.end {
             let fact = self.fact_place(w);

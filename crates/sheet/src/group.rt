@@ -2,8 +2,8 @@
 // group's facts lie among the words is known here and to the sheet's own checks alone: every other function goes
 // through a group fact by fact, from the first or from the last.
 ghost use Rattle.std.specs.Prelude.{◌≡◌, ◌<◌, ◌^◌};
-ghost use Rattle.sheet.specs.between.Group.{goal-group, needed-group, first-fact, rest_of, last_fact, front_of};
-ghost use Rattle.sheet.specs.between.Effects.{effects-of};
+ghost use Rattle.sheet.specs.Between.Group.{goal_group, needed_group, first_fact, rest_of, last_fact, front_of};
+ghost use Rattle.sheet.specs.Between.Effects.{effects_of};
 
 use crate::effects::Effects;
 use crate::layout::{ACTION_HEADER, FIRST_ACTION, GOAL, has_conditions, number, offset, size};
@@ -19,7 +19,7 @@ pub struct Group {
 impl Group {
     // The word of its first fact.
     pub fn first(self, w: &[u32]) -> u32
-        ensures { (result ≡ first-fact w.now self) × (result < 2 ^ 32) }
+        ensures { (result ≡ first_fact w.now self) × (result < 2 ^ 32) }
     {
         word(w, self.at)
     }
@@ -63,7 +63,7 @@ impl Group {
 
 // The goal.
 pub fn goal(w: &[u32]) -> Group
-    ensures { result ≡ goal-group w.now }
+    ensures { result ≡ goal_group w.now }
 {
     let at = offset(w, GOAL);
     Group {
@@ -81,8 +81,8 @@ pub struct ActionFacts {
 
 // The facts of action a, from one reading of its pair.
 pub fn facts_of(w: &[u32], a: u32) -> ActionFacts
-    ensures { (result.precondition ≡ needed-group w.now a)
-        × (result.effects ≡ effects-of w.now a) }
+    ensures { (result.precondition ≡ needed_group w.now a)
+        × (result.effects ≡ effects_of w.now a) }
 {
     let k = FIRST_ACTION + a as usize;
     let from = offset(w, k);

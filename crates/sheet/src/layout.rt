@@ -1,8 +1,8 @@
 // Where the parts of a task stand among its words. Each function is safe for any words: what a word lacks reads as 0.
 ghost use Rattle.std.specs.Prelude.{◌≡◌, ◌<◌, ◌≤◌, ◌^◌};
-ghost use Rattle.sheet.specs.Layout.{word as word_at, variables as variables-of, actions as actions-of};
-ghost use Rattle.sheet.specs.Layout.{offset as offset-of, size as type_size, cost-word};
-ghost use Rattle.sheet.specs.Layout.{has-conditions, effect-fact};
+ghost use Rattle.sheet.specs.Layout.{word as word_at, variables as variables_of, actions as actions-of};
+ghost use Rattle.sheet.specs.Layout.{offset as offset-of, size as type_size, cost_word};
+ghost use Rattle.sheet.specs.Layout.{has_conditions, effect_fact};
 
 use access::word;
 
@@ -44,7 +44,7 @@ pub fn number(w: &[u32], i: usize) -> usize
 
 // Whether the edition is one whose effects have conditions.
 pub fn has_conditions(w: &[u32]) -> bool
-    ensures { result ≡ has-conditions w.now }
+    ensures { result ≡ has_conditions w.now }
 {
     number(w, EDITION_AT) == SECOND_EDITION
 }
@@ -52,7 +52,7 @@ pub fn has_conditions(w: &[u32]) -> bool
 // Where the fact of an effect that has a condition stands, for the effect at word `at` of a part that ends at word
 // `end`: behind its number of condition facts and these, and never past the end.
 pub fn effect_fact(w: &[u32], end: usize, at: usize) -> usize
-    ensures { result ≡ effect-fact w.now end at }
+    ensures { result ≡ effect_fact w.now end at }
 {
     if at < end {
         let behind = number(w, at) + 1;
@@ -65,7 +65,7 @@ pub fn effect_fact(w: &[u32], end: usize, at: usize) -> usize
 
 // The number of variables, 01's V.
 pub fn variables(w: &[u32]) -> usize
-    ensures { (result ≡ variables-of w.now) × (result < 2 ^ 32) }
+    ensures { (result ≡ variables_of w.now) × (result < 2 ^ 32) }
 {
     number(w, VARIABLES_AT)
 }
@@ -102,7 +102,7 @@ pub fn start_at(w: &[u32]) -> usize
 
 // The cost of action a.
 pub fn cost(w: &[u32], a: u32) -> u32
-    ensures { (result ≡ cost-word w.now a) × (result < 2 ^ 32) }
+    ensures { (result ≡ cost_word w.now a) × (result < 2 ^ 32) }
 {
     word(w, offset(w, FIRST_ACTION + a as usize))
 }

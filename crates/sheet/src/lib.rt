@@ -1,6 +1,8 @@
 // The job sheet of document 01: the words of a task, which the caller lends.
 // limits: what a sheet may hold at most. layout: where its parts stand. group: its groups of facts. effects: those of
 // an action.
+#![tactic(auto)]
+
 pub mod effects;
 pub mod group;
 pub mod layout;

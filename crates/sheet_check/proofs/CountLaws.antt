@@ -7,9 +7,9 @@ use lib.Dec.{ltb}
 use borrow.Author.Tests.{ltb-false}
 use Rattle.sheet.specs.Limits.{limits}
 use Rattle.sheet.specs.Layout.{variables, actions}
-use Rattle.sheet.specs.Causes.{bad-counts}
-use Rattle.sheet.proofs.CauseLaws.{none-of-three}
+use Rattle.sheet.specs.Causes.{bad_counts}
+use Rattle.sheet.proofs.CauseLaws.{none_of_three}
 
-pub variables-few : (w : List ℕ) → bad-counts w ≡ false → variables w ≤ limits.variables
-unfolding bad-counts
-variables-few w good = ltb-false _ _ (none-of-three (ltb (variables w) 1) (ltb limits.variables (variables w)) (ltb limits.actions (actions w)) good).1
+pub variables_few : (w : List ℕ) → bad_counts w ≡ false → variables w ≤ limits.variables
+unfolding bad_counts
+variables_few w good = ltb-false _ _ (none_of_three (ltb (variables w) 1) (ltb limits.variables (variables w)) (ltb limits.actions (actions w)) good).1

@@ -2,7 +2,7 @@
 ghost use Rattle.std.specs.Prelude.{◌≡◌, false, drop};
 ghost use Rattle.refusal.specs.Refusal.{told};
 ghost use Rattle.refusal.specs.Check.{answer};
-ghost use Rattle.sheet.specs.Causes.{bad-counts, sheet-checks};
+ghost use Rattle.sheet.specs.Causes.{bad_counts, sheet_checks};
 
 use crate::costs::bad_cost_place;
 use crate::facts::bad_fact_place;
@@ -16,8 +16,8 @@ use refusal::{Refusal, Verdict};
 // The checks of the parts, 4 to 7 and 16, which follow those of the header: the last needs as few variables as a table
 // has room for.
 fn check_parts(w: &[u32]) -> Verdict
-    requires { bad-counts w.now ≡ false }
-    ensures { told result ≡ answer (drop 3 (sheet-checks w.now)) }
+    requires { bad_counts w.now ≡ false }
+    ensures { told result ≡ answer (drop 3 (sheet_checks w.now)) }
 {
     let pair = bad_pair_place(w);
     if let Place::At(k) = pair {
@@ -44,7 +44,7 @@ fn check_parts(w: &[u32]) -> Verdict
 
 // Accepts a task or gives the first cause of refusal.
 pub fn check_sheet(w: &[u32]) -> Verdict
-    ensures { told result ≡ answer (sheet-checks w.now) }
+    ensures { told result ≡ answer (sheet_checks w.now) }
 {
     if bad_length(w) {
         return Verdict::Refused(Refusal::Length);

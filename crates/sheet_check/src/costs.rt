@@ -1,6 +1,6 @@
 // Cause 7: a price above the limit.
 ghost use Rattle.std.specs.Prelude.{◌≡◌};
-ghost use Rattle.sheet.specs.Causes.{cost-place};
+ghost use Rattle.sheet.specs.Causes.{cost_place};
 
 use refusal::place::Place;
 use sheet::layout::{actions, cost};
@@ -8,7 +8,7 @@ use sheet::limits::Sheet;
 
 // The place of cause 7.
 pub(crate) fn bad_cost_place(w: &[u32]) -> Place
-    ensures { result ≡ cost-place w.now }
+    ensures { result ≡ cost_place w.now }
 {
     let n = actions(w);
     let mut a = 0;

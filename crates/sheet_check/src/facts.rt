@@ -3,8 +3,8 @@ ghost use Rattle.std.specs.Prelude.{◌≡◌, ◌<◌, ◌-◌};
 ghost use Rattle.refusal.specs.Place.{first_of};
 ghost use Rattle.sheet.specs.Decode.{effect_words};
 ghost use Rattle.sheet.specs.Layout.{actions as actions-of};
-ghost use Rattle.sheet.specs.Causes.{bad-fact, group-place, bad-effect, effect-place, first-in, action-place, fact-place};
-ghost use Rattle.sheet_check.specs.between.BadEffects.{Bad-in-effects};
+ghost use Rattle.sheet.specs.Causes.{bad_fact, group_place, bad_effect, effect_place, first_in, action_place, fact_place};
+ghost use Rattle.sheet_check.specs.Between.BadEffects.{BadInEffects};
 
 use crate::variables::domain;
 use refusal::place::Place;
@@ -15,7 +15,7 @@ use sheet::limits::Sheet;
 
 // Whether the fact at word i is bad, in a group that begins at word `from`.
 fn bad_fact(w: &[u32], from: usize, i: usize) -> bool
-    ensures { result ≡ bad-fact w.now from i }
+    ensures { result ≡ bad_fact w.now from i }
 {
     let fact = number(w, i);
     let variable = fact / Sheet::VALUES;
@@ -35,7 +35,7 @@ fn bad_fact(w: &[u32], from: usize, i: usize) -> bool
 
 // The first bad fact of a group.
 fn bad_in_group(w: &[u32], group: Group) -> Place
-    ensures { result ≡ group-place w.now group.at group.end }
+    ensures { result ≡ group_place w.now group.at group.end }
 {
     let from = group.at;
     let end = group.end;
@@ -51,7 +51,7 @@ fn bad_in_group(w: &[u32], group: Group) -> Place
 
 // Whether the fact of the effect with a condition at word i is bad: the first effect stands at word `from`.
 fn bad_effect(w: &[u32], from: usize, end: usize, i: usize) -> bool
-    ensures { result ≡ bad-effect w.now from end i }
+    ensures { result ≡ bad_effect w.now from end i }
 {
     let fact = number(w, effect_fact(w, end, i));
     let variable = fact / Sheet::VALUES;
@@ -72,7 +72,7 @@ fn bad_effect(w: &[u32], from: usize, end: usize, i: usize) -> bool
 // The first bad fact of that effect.
 fn bad_in_effect(w: &[u32], from: usize, end: usize, i: usize) -> Place
     requires { i < end }
-    ensures { result ≡ effect-place w.now from end i }
+    ensures { result ≡ effect_place w.now from end i }
 {
     let at = effect_fact(w, end, i);
     let found = bad_in_group(w, Group { at: i + 1, end: at });
@@ -89,7 +89,7 @@ fn bad_in_effect(w: &[u32], from: usize, end: usize, i: usize) -> Place
 
 // The first bad fact of all effects with conditions that stand from word `from` up to word `end`.
 fn bad_in_conditional(w: &[u32], from: usize, end: usize) -> Place
-    ensures { result ≡ first-in (effect-place w.now from end)
+    ensures { result ≡ first_in (effect_place w.now from end)
         (effect_words w.now end from (end - from)) }
 {
     let mut i = from;
@@ -109,7 +109,7 @@ fn bad_in_conditional(w: &[u32], from: usize, end: usize) -> Place
 
 // The first bad fact of an action's effects, which are a group where they have no conditions.
 fn bad_in_effects(w: &[u32], effects: Effects) -> Place
-    ensures { Bad-in-effects w.now effects result }
+    ensures { BadInEffects w.now effects result }
 {
     if effects.conditional {
         return bad_in_conditional(w, effects.at, effects.end);
@@ -125,7 +125,7 @@ fn bad_in_effects(w: &[u32], effects: Effects) -> Place
 
 // The first bad fact of action a.
 fn bad_in_action(w: &[u32], a: u32) -> Place
-    ensures { result ≡ action-place w.now a }
+    ensures { result ≡ action_place w.now a }
 {
     let facts = facts_of(w, a);
     let found = bad_in_group(w, facts.precondition);
@@ -137,7 +137,7 @@ fn bad_in_action(w: &[u32], a: u32) -> Place
 
 // The first bad fact of all actions.
 fn bad_in_actions(w: &[u32]) -> Place
-    ensures { result ≡ first_of (action-place w.now) 0 (actions-of w.now) }
+    ensures { result ≡ first_of (action_place w.now) 0 (actions-of w.now) }
 {
     let n = actions(w);
     let mut a = 0;
@@ -153,7 +153,7 @@ fn bad_in_actions(w: &[u32]) -> Place
 
 // The place of cause 6.
 pub(crate) fn bad_fact_place(w: &[u32]) -> Place
-    ensures { result ≡ fact-place w.now }
+    ensures { result ≡ fact_place w.now }
 {
     let found = bad_in_group(w, goal(w));
     match found {

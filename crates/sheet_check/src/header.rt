@@ -1,12 +1,12 @@
 // Causes 1 to 3: the length, the edition, the numbers of variables and actions.
 ghost use Rattle.std.specs.Prelude.{◌≡◌};
-ghost use Rattle.sheet.specs.Causes.{bad-length, bad-edition, bad-counts};
+ghost use Rattle.sheet.specs.Causes.{bad_length, bad_edition, bad_counts};
 
 use sheet::layout::{EDITION, EDITION_AT, LENGTH_AT, PAIRS_AT, actions, number, variables};
 use sheet::limits::Sheet;
 
 pub(crate) fn bad_length(w: &[u32]) -> bool
-    ensures { result ≡ bad-length w.now }
+    ensures { result ≡ bad_length w.now }
 {
     if w.len() < PAIRS_AT {
         return true;
@@ -21,7 +21,7 @@ pub(crate) fn bad_length(w: &[u32]) -> bool
 }
 
 pub(crate) fn bad_edition(w: &[u32]) -> bool
-    ensures { result ≡ bad-edition w.now }
+    ensures { result ≡ bad_edition w.now }
 {
     if number(w, EDITION_AT) == EDITION {
         return false;
@@ -30,7 +30,7 @@ pub(crate) fn bad_edition(w: &[u32]) -> bool
 }
 
 pub(crate) fn bad_counts(w: &[u32]) -> bool
-    ensures { result ≡ bad-counts w.now }
+    ensures { result ≡ bad_counts w.now }
 {
     let v = variables(w);
     if v < 1 {

@@ -3,7 +3,7 @@ ghost use Rattle.std.specs.Prelude.{◌≡◌, ◌<◌, ◌≤◌, ◌-◌, ◌^
 ghost use Rattle.sas.specs.Conflict.{some_of};
 ghost use Rattle.sheet.specs.Layout.{pairs_end as pairs-end-of};
 ghost use Rattle.sheet.specs.Decode.{effect_words};
-ghost use Rattle.sheet.specs.Causes.{due as due-of, runs_past, past-part, wrong_size, bad-pair, pair_place};
+ghost use Rattle.sheet.specs.Causes.{due as due-of, runs_past, past_part, wrong_size, bad_pair, pair_place};
 
 use refusal::place::Place;
 use sheet::layout::{
@@ -44,7 +44,7 @@ fn some_past(w: &[u32], end: usize, from: usize) -> bool
 }
 
 fn past_part(w: &[u32], end: usize, from: usize) -> bool
-    ensures { result ≡ past-part w.now end from }
+    ensures { result ≡ past_part w.now end from }
 {
     if has_conditions(w) {
         return some_past(w, end, from);
@@ -79,7 +79,7 @@ fn wrong_size(w: &[u32], k: usize) -> bool
 
 fn bad_pair(w: &[u32], k: usize) -> bool
     requires { k ≤ 2 ^ 33 }
-    ensures { result ≡ bad-pair w.now k }
+    ensures { result ≡ bad_pair w.now k }
 {
     let from = offset(w, k);
     if from != due(w, k) {

@@ -1,7 +1,7 @@
 // Cause 5: a domain size or a starting value beyond its range.
 ghost use Rattle.std.specs.Prelude.{◌≡◌, ◌<◌, ◌≤◌, ◌^◌};
 ghost use Rattle.sheet.specs.Layout.{domain as domain-of};
-ghost use Rattle.sheet.specs.Causes.{bad-variable, variable-place};
+ghost use Rattle.sheet.specs.Causes.{bad_variable, variable_place};
 
 use refusal::place::Place;
 use sheet::layout::{DOMAINS, INITIAL, number, offset, variables};
@@ -17,7 +17,7 @@ pub(crate) fn domain(w: &[u32], v: usize) -> usize
 
 fn bad_variable(w: &[u32], v: usize) -> bool
     requires { v ≤ 2 ^ 33 }
-    ensures { result ≡ bad-variable w.now v }
+    ensures { result ≡ bad_variable w.now v }
 {
     let values = domain(w, v);
     if values < 1 {
@@ -34,7 +34,7 @@ fn bad_variable(w: &[u32], v: usize) -> bool
 
 // The place of cause 5.
 pub(crate) fn bad_variable_place(w: &[u32]) -> Place
-    ensures { result ≡ variable-place w.now }
+    ensures { result ≡ variable_place w.now }
 {
     let n = variables(w);
     let mut v = 0;

@@ -7,10 +7,10 @@ use mathlib.Core.List.{List, [], ◌∷◌, ◌++◌, flatten}
 use lib.ListN.{length, set, length-append}
 use lib.Seq.{sets, set_comm}
 use Rattle.sheet.specs.Layout.{header}
-use Rattle.sheet.specs.between.Encode.{pairs_of}
-use Rattle.sheet.proofs.LaidLaws.{pairs-of-length}
-use Rattle.access.proofs.StoreLaws.{stores-joined}
-use Rattle.sheet_writer.specs.between.Laid.{laid}
+use Rattle.sheet.specs.Between.Encode.{pairs_of}
+use Rattle.sheet.proofs.LaidLaws.{pairs_of_length}
+use Rattle.access.proofs.StoreLaws.{stores_joined}
+use Rattle.sheet_writer.specs.Between.Laid.{laid}
 
 store_apart : (w : List ℕ) (i x j : ℕ) (b : List ℕ) → i < j → sets (set w i x) j b ≡ set (sets w j b) i x
 store_apart w i x j [] before = refl
@@ -34,14 +34,14 @@ laid_next k at end p ps w ends apart =
     let rest : List ℕ = pairs_of (at + length p) ps in
     let pair : List ℕ = at ∷ length p ∷ [] in
     let next : header + 2 * (k + 1) ≡ header + 2 * k + 2 = omega arith in
-    let clear : header + 2 * k + length (pair ++ rest) ≤ at = omega (arith, pairs-of-length (at + length p) ps) in
+    let clear : header + 2 * k + length (pair ++ rest) ≤ at = omega (arith, pairs_of_length (at + length p) ps) in
     rw (
       sized,
       ends,
       next,
-      stores-joined (sets w at p) pair rest (header + 2 * k),
+      stores_joined (sets w at p) pair rest (header + 2 * k),
       ← stores_apart w (header + 2 * k) (pair ++ rest) at p clear,
-      stores-joined (sets w (header + 2 * k) (pair ++ rest)) p (flatten ps) at,
+      stores_joined (sets w (header + 2 * k) (pair ++ rest)) p (flatten ps) at,
     )
 
 -- parts that are laid out one after the other, the first of all at pair `first` and word `at`: what is left of them, laid from pair k and word `to` on over the
@@ -51,20 +51,20 @@ module _ (first at : ℕ) (all : List (List ℕ)) (before : List ℕ) where
     pub end : to + length (flatten left) ≡ at + length (flatten all)
     pub written : laid k to left w ≡ laid first at all before
 
-  pub laying-all : Laying all first at before
-  laying-all = record { end = refl; written = refl }
+  pub laying_all : Laying all first at before
+  laying_all = record { end = refl; written = refl }
 
   -- a part is stored, and its pair
-  pub laying-part : (p : List ℕ) (ps : List (List ℕ)) (k to end : ℕ) (w after : List ℕ) → Laying (p ∷ ps) k to w → end ≡ to + length p
+  pub laying_part : (p : List ℕ) (ps : List (List ℕ)) (k to end : ℕ) (w after : List ℕ) → Laying (p ∷ ps) k to w → end ≡ to + length p
       → header + 2 * (k + 1 + length ps) ≤ to → after ≡ sets (sets w to p) (header + 2 * k) (to ∷ (end - to) ∷ []) → Laying ps (k + 1) end after
   unfolding flatten
-  laying-part p ps k to end w after laying ends apart paired =
+  laying_part p ps k to end w after laying ends apart paired =
       record {
         end = omega (arith, length-append p (flatten ps), laying.end);
         written = rw paired (laid_next k to end p ps w ends apart ∙ laying.written);
       }
 
   -- nothing is left
-  pub laying-none : (k to : ℕ) (w : List ℕ) → Laying [] k to w → (to ≡ at + length (flatten all)) × (w ≡ laid first at all before)
+  pub laying_none : (k to : ℕ) (w : List ℕ) → Laying [] k to w → (to ≡ at + length (flatten all)) × (w ≡ laid first at all before)
   unfolding flatten
-  laying-none k to w laying = (omega (arith, laying.end), sym (laid_none k to w) ∙ laying.written)
+  laying_none k to w laying = (omega (arith, laying.end), sym (laid_none k to w) ∙ laying.written)

@@ -2,7 +2,7 @@
 ghost use Rattle.std.specs.Prelude.{◌≡◌, [], ◌∷◌, ◌+◌, ◌-◌, ◌*◌, ◌≤◌, ◌<◌, ◌^◌};
 ghost use Rattle.std.proofs.lemmas.List.Edits.{sets};
 ghost use Rattle.sheet.specs.Layout.{header};
-ghost use Rattle.sheet_writer.specs.between.Laid.{past};
+ghost use Rattle.sheet_writer.specs.Between.Laid.{past};
 
 use access::put;
 use sheet::layout::{ACTIONS_AT, EDITION_AT, LENGTH_AT, PAIR, PAIRS_AT, VARIABLES_AT};

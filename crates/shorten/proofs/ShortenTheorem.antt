@@ -4,27 +4,27 @@ use Prim.Native.Nat.{ℕ}
 use mathlib.Core.Path.{◌≡◌}
 use mathlib.Core.List.{List}
 use lib.ListN.{take}
-use Rattle.plan.specs.Limits.{most-steps}
-use Rattle.minimal.specs.Minimised.{most-unmarked}
-use Rattle.minimal.proofs.DemandThree.{demand-three-of}
+use Rattle.plan.specs.Limits.{most_steps}
+use Rattle.minimal.specs.Minimised.{most_unmarked}
+use Rattle.minimal.proofs.DemandThree.{demand_three_of}
 use Rattle.records.specs.Bytes.{input_of}
-use Rattle.program.specs.Printed.{refusal-line, Has-read, Read_from}
+use Rattle.program.specs.Printed.{refusal_line, HasRead, Read_from}
 use Rattle.program.specs.declared.input.Input.{Input}
-use Rattle.program.specs.Reply.{reply-further}
-use Rattle.program.proofs.RecordTheorem.{record-opened}
-use Rattle.program.proofs.ReplyTheorem.{reply-to-all}
+use Rattle.program.specs.Reply.{reply_further}
+use Rattle.program.proofs.RecordTheorem.{record_opened}
+use Rattle.program.proofs.ReplyTheorem.{reply_to_all}
 use Rattle.report.specs.Report.{reported}
 use Rattle.report.specs.Shortened.{shortened}
 use Rattle.shorten.specs.Shorten.{printed}
-use Rattle.shorten.specs.Statement.{Demand-three-printed}
+use Rattle.shorten.specs.Statement.{DemandThreePrinted}
 
-pub demand-three-printed : (w l : List ℕ) → Demand-three-printed w l
-unfolding reply-further shortened
-demand-three-printed w l readable plan =
-    let for-list : printed (input_of w l) ≡ shortened w l = rw (record-opened w l readable, reply-further) in
-    demand-three-of most-unmarked w l most-steps (λ t m. printed (input_of w l) ≡ reported t w l m) readable plan readable.few for-list
+pub demand_three_printed : (w l : List ℕ) → DemandThreePrinted w l
+unfolding reply_further shortened
+demand_three_printed w l readable plan =
+    let for_list : printed (input_of w l) ≡ shortened w l = rw (record_opened w l readable, reply_further) in
+    demand_three_of most_unmarked w l most_steps (λ t m. printed (input_of w l) ≡ reported t w l m) readable plan readable.few for_list
 
 -- and what is printed for the bytes read is what is printed for the whole input
-pub printed-for-all : (whole bytes : List ℕ) (input : Input) → Has-read 0 1 bytes input → Read_from whole bytes input
+pub printed_for_all : (whole bytes : List ℕ) (input : Input) → HasRead 0 1 bytes input → Read_from whole bytes input
     → printed (take input.count bytes) ≡ printed whole
-printed-for-all whole bytes input has reads = reply-to-all 0 refusal-line _ whole bytes input has reads
+printed_for_all whole bytes input has reads = reply_to_all 0 refusal_line _ whole bytes input has reads

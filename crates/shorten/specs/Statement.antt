@@ -4,14 +4,14 @@ use Rattle.sas.specs.Plan.{Plan}
 use Rattle.sheet.specs.Decode.{task}
 use Rattle.plan.specs.Valid.{steps}
 use Rattle.plan.specs.Readable.{Readable}
-use Rattle.minimal.specs.Minimised.{most-unmarked}
-use Rattle.minimal.specs.Statement.{Demand-three-of}
+use Rattle.minimal.specs.Minimised.{most_unmarked}
+use Rattle.minimal.specs.Statement.{DemandThreeOf}
 use Rattle.records.specs.Bytes.{input_of}
 use Rattle.report.specs.Report.{reported}
 use Rattle.shorten.specs.Shorten.{printed}
 
 -- for every accepted sheet and every valid list: the report of the minimal reduction, or the line of refusal 12
-abbrev pub Demand-three-printed : List ℕ → List ℕ → Type 0
-Demand-three-printed w l =
+abbrev pub DemandThreePrinted : List ℕ → List ℕ → Type 0
+DemandThreePrinted w l =
     Readable w l → Plan (task w) (steps w l)
-    → Demand-three-of w l most-unmarked (λ t m. printed (input_of w l) ≡ reported t w l m)
+    → DemandThreeOf w l most_unmarked (λ t m. printed (input_of w l) ≡ reported t w l m)

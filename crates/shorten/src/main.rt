@@ -1,6 +1,8 @@
 // The program that shortens a plan of a task by the minimal reduction (document 01: exact reduction). It reads both
 // from standard input (document 01, "Worked lists", on the program) and prints what is kept, or the refusal.
 // shortened: what is printed for the bytes of the input.
+#![tactic(auto)]
+
 mod shortened;
 
 use crate::shortened::answer_input;

@@ -1,8 +1,8 @@
 // What the program prints for the bytes of its input, put into lent bytes.
 ghost use Rattle.std.specs.Prelude.{◌≤◌, length};
-ghost use Rattle.program.specs.Printed.{Has-done};
-ghost use Rattle.program.specs.between.Room.{Text-put};
-ghost use Rattle.report.specs.between.Reported.{report-room};
+ghost use Rattle.program.specs.Printed.{HasDone};
+ghost use Rattle.program.specs.Between.Room.{TextPut};
+ghost use Rattle.report.specs.Between.Reported.{report_room};
 ghost use Rattle.shorten.specs.Shorten.{printed};
 
 use access::front;
@@ -15,7 +15,7 @@ use report::shortened::put_shortened;
 
 // Shortens the plan, unless the input is refused before.
 fn shorten_input(bytes: &[u8], out: &mut [u8]) -> usize
-    ensures { Text-put report-room out.old out.new result (printed bytes.now) }
+    ensures { TextPut report_room out.old out.new result (printed bytes.now) }
 {
     let mut words = [0u32; WORDS];
     let opened = open_input(bytes, 0, &mut words);
@@ -31,8 +31,8 @@ fn shorten_input(bytes: &[u8], out: &mut [u8]) -> usize
 
 // Reads the input to the front of `bytes`, and puts what is printed for it to the front of `out`.
 pub(crate) fn answer_input(bytes: &mut [u8], out: &mut [u8]) -> Done
-    requires { report-room ≤ length out.old }
-    ensures { Has-done 0 printed bytes.new result out.old out.new }
+    requires { report_room ≤ length out.old }
+    ensures { HasDone 0 printed bytes.new result out.old out.new }
 {
     let input = read(bytes, 0, ALONE);
     let n = input.count;

@@ -6,10 +6,10 @@ use mathlib.Core.List.{[], ◌∷◌, flatten}
 use Rattle.sas.specs.Task.{Fact, always, Task}
 use Rattle.sas.specs.Plan.{written}
 use Rattle.sheet.specs.Decode.{table, facts, domains, initial, goal, effects, action, task}
-use Rattle.sheet.specs.between.Encode.{effects-part, action-part, parts, pairs_of, body, sheet-of, encode, Encodable}
-use Rattle.sheet.specs.Layout.{first-edition}
-use Rattle.sheet.proofs.EncodeTheorem.{accepted-encodable}
-use Rattle.starred.specs.Sheets.{sheet-p}
+use Rattle.sheet.specs.Between.Encode.{effects_part, action_part, parts, pairs_of, body, sheet_of, encode, Encodable}
+use Rattle.sheet.specs.Layout.{first_edition}
+use Rattle.sheet.proofs.EncodeTheorem.{accepted_encodable}
+use Rattle.starred.specs.Sheets.{sheet_p}
 use Rattle.starred.proofs.Starred.{starred}
 
 -- gate 0 shut, 1 open; basin 0 full, 1 empty; lamp 0 off, 1 on
@@ -22,8 +22,8 @@ basin x = record { variable = 1; value = x }
 abbrev lamp : ℕ → Fact
 lamp x = record { variable = 2; value = x }
 
-abbrev task-p : Task
-task-p =
+abbrev task_p : Task
+task_p =
     record {
       domains = 2 ∷ 2 ∷ 2 ∷ [];
       actions =
@@ -37,13 +37,13 @@ task-p =
       goal = gate 0 ∷ basin 1 ∷ [];
     }
 
-pub encodes : encode first-edition task-p ≡ sheet-p
-unfolding encode sheet-of body pairs_of parts action-part effects-part written flatten
+pub encodes : encode first_edition task_p ≡ sheet_p
+unfolding encode sheet_of body pairs_of parts action_part effects_part written flatten
 encodes = refl
 
-pub decodes : task sheet-p ≡ task-p
+pub decodes : task sheet_p ≡ task_p
 unfolding task domains initial goal action effects facts table
 decodes = refl
 
-pub encodable : Encodable first-edition task-p
-encodable = rw decodes at (accepted-encodable sheet-p starred.0.0)
+pub encodable : Encodable first_edition task_p
+encodable = rw decodes at (accepted_encodable sheet_p starred.0.0)

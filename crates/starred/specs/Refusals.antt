@@ -4,12 +4,12 @@ use Rattle.std.specs.Prelude.{ℕ, ◌+◌, ◌≡◌, List, [], ◌∷◌, ◌+
 use Rattle.std.proofs.Math.Option.{none, some}
 use Rattle.refusal.specs.Refusal.{Told}
 use Rattle.refusal.specs.Check.{Check, answer}
-use Rattle.sheet.specs.Causes.{sheet-checks}
-use Rattle.plan.specs.Checked.{plan-checks}
-use Rattle.reduced.specs.Reduced.{reduction-checks}
+use Rattle.sheet.specs.Causes.{sheet_checks}
+use Rattle.plan.specs.Checked.{plan_checks}
+use Rattle.reduced.specs.Reduced.{reduction_checks}
 use Rattle.landmark.specs.Marks.{unmarked}
-use Rattle.minimal.specs.Minimised.{most-unmarked, minimal-checks}
-use Rattle.starred.specs.Sheets.{sheet-p}
+use Rattle.minimal.specs.Minimised.{most_unmarked, minimal_checks}
+use Rattle.starred.specs.Sheets.{sheet_p}
 
 -- a service's checks of some input, and the refusal
 pub record Cause : Type 0 where
@@ -17,25 +17,25 @@ pub record Cause : Type 0 where
   pub refusal : Told
 
 -- it is what the first check that fires gives
-abbrev pub Cause-met : Cause → Type 0
-Cause-met c = answer c.checks ≡ some c.refusal
+abbrev pub CauseMet : Cause → Type 0
+CauseMet c = answer c.checks ≡ some c.refusal
 
 -- sheet P with another word at this index
 abbrev pub changed : ℕ → ℕ → List ℕ
-changed i x = set sheet-p i x
+changed i x = set sheet_p i x
 
 -- a cause of the sheet check, met by P with one word changed
 abbrev pub by_word : ℕ → ℕ → ℕ → ℕ → Cause
 by_word i x number place =
-    record { checks = sheet-checks (changed i x); refusal = record { number = number; place = place } }
+    record { checks = sheet_checks (changed i x); refusal = record { number = number; place = place } }
 
 -- a cause of the list check, met by a list of P
-abbrev pub by-list : List ℕ → ℕ → ℕ → Cause
-by-list l number place = record { checks = plan-checks sheet-p l; refusal = record { number = number; place = place } }
+abbrev pub by_list : List ℕ → ℕ → ℕ → Cause
+by_list l number place = record { checks = plan_checks sheet_p l; refusal = record { number = number; place = place } }
 
 -- so many lamps then 0 1 2: the worked list 10
-abbrev pub lamps-first : ℕ → List ℕ
-lamps-first n = replicate n 3 ++ (0 ∷ 1 ∷ 2 ∷ [])
+abbrev pub lamps_first : ℕ → List ℕ
+lamps_first n = replicate n 3 ++ (0 ∷ 1 ∷ 2 ∷ [])
 
 -- the causes 1 to 12, in order: of a word changed its index and the new word, then number and place
 abbrev pub causes : List Cause
@@ -55,25 +55,25 @@ causes =
     -- action 2 has a price above 1,000,000
     ∷ by_word 34 1000001 7 2
     -- 256 lamps
-    ∷ by-list (replicate 256 3) 8 255
+    ∷ by_list (replicate 256 3) 8 255
     -- the third step is action 4
-    ∷ by-list (0 ∷ 1 ∷ 4 ∷ 2 ∷ []) 9 3
+    ∷ by_list (0 ∷ 1 ∷ 4 ∷ 2 ∷ []) 9 3
     -- an output of two words for three steps
-    ∷ record { checks = reduction-checks sheet-p (0 ∷ 1 ∷ 2 ∷ []) 2; refusal = record { number = 10; place = 3 } }
+    ∷ record { checks = reduction_checks sheet_p (0 ∷ 1 ∷ 2 ∷ []) 2; refusal = record { number = 10; place = 3 } }
     -- the third step can't be done
-    ∷ by-list (0 ∷ 1 ∷ 0 ∷ 2 ∷ []) 11 3
+    ∷ by_list (0 ∷ 1 ∷ 0 ∷ 2 ∷ []) 11 3
     -- 21 steps are unmarked
     ∷ record {
-      checks = minimal-checks most-unmarked sheet-p (lamps-first 21) 24;
+      checks = minimal_checks most_unmarked sheet_p (lamps_first 21) 24;
       refusal = record { number = 12; place = 21 };
     }
     ∷ []
 
 -- the worked list 10, by document 02: "has 19 and then 20 unmarked, both answered"
-abbrev pub Lamps-answered : ℕ → Type 0
-Lamps-answered n =
-    (unmarked sheet-p (lamps-first n) ≡ n)
-    × (answer (minimal-checks most-unmarked sheet-p (lamps-first n) (n + 3)) ≡ none)
+abbrev pub LampsAnswered : ℕ → Type 0
+LampsAnswered n =
+    (unmarked sheet_p (lamps_first n) ≡ n)
+    × (answer (minimal_checks most_unmarked sheet_p (lamps_first n) (n + 3)) ≡ none)
 
-abbrev pub List-ten : Type 0
-List-ten = Lamps-answered 19 × Lamps-answered 20
+abbrev pub ListTen : Type 0
+ListTen = LampsAnswered 19 × LampsAnswered 20

@@ -3,8 +3,8 @@
 use Rattle.std.specs.Prelude.{ℕ, List, [], ◌∷◌}
 
 -- sheet P, as document 01 prints it: lift, drain, drop, lamp
-abbrev pub sheet-p : List ℕ
-sheet-p =
+abbrev pub sheet_p : List ℕ
+sheet_p =
     1 ∷ 3 ∷ 4 ∷ 41
     ∷ 18 ∷ 3 ∷ 21 ∷ 3 ∷ 24 ∷ 2 ∷ 26 ∷ 4 ∷ 30 ∷ 4 ∷ 34 ∷ 4 ∷ 38 ∷ 3
     ∷ 2 ∷ 2 ∷ 2
@@ -17,8 +17,8 @@ sheet-p =
     ∷ []
 
 -- "P with goal gate 0 alone": one word less, so that all that stands behind the goal stands one word earlier
-abbrev pub gate-alone : List ℕ
-gate-alone =
+abbrev pub gate_alone : List ℕ
+gate_alone =
     1 ∷ 3 ∷ 4 ∷ 40
     ∷ 18 ∷ 3 ∷ 21 ∷ 3 ∷ 24 ∷ 1 ∷ 25 ∷ 4 ∷ 29 ∷ 4 ∷ 33 ∷ 4 ∷ 37 ∷ 3
     ∷ 2 ∷ 2 ∷ 2
@@ -31,8 +31,8 @@ gate-alone =
     ∷ []
 
 -- "One variable starting at 0, goal value 1, two actions without preconditions that each set it to 1, prices 1 and 9"
-abbrev pub two-writers : List ℕ
-two-writers =
+abbrev pub two_writers : List ℕ
+two_writers =
     1 ∷ 1 ∷ 2 ∷ 23
     ∷ 14 ∷ 1 ∷ 15 ∷ 1 ∷ 16 ∷ 1 ∷ 17 ∷ 3 ∷ 20 ∷ 3
     ∷ 2
@@ -44,8 +44,8 @@ two-writers =
 
 -- "Goals u and v, both unmet, and no preconditions. Action 0 gives u, price 4; 1 gives both, price 6; 2 gives v, price
 -- 4": u is variable 0, v is variable 1
-abbrev pub one-for-both : List ℕ
-one-for-both =
+abbrev pub one_for_both : List ℕ
+one_for_both =
     1 ∷ 2 ∷ 3 ∷ 32
     ∷ 16 ∷ 2 ∷ 18 ∷ 2 ∷ 20 ∷ 2 ∷ 22 ∷ 3 ∷ 25 ∷ 4 ∷ 29 ∷ 3
     ∷ 2 ∷ 2

@@ -8,62 +8,62 @@ use mathlib.Core.List.{List, ◌++◌}
 use lib.ListN.{length, take, drop}
 use lib.Seq.{length-take-le, take_all}
 use Rattle.sas.specs.Plan.{satisfies, applicable, assign, acting}
-use Rattle.sas.proofs.ActionLaws.{apply-length, applicable-needed}
+use Rattle.sas.proofs.ActionLaws.{apply_length, applicable_needed}
 use Rattle.sheet.specs.declared.group.Group.{Group}
 use Rattle.sheet.specs.declared.effects.Effects.{Effects}
 use Rattle.sheet.specs.Decode.{goal, action}
-use Rattle.sheet.specs.between.Group.{goal-group, needed-group, facts-in}
-use Rattle.sheet.specs.between.Effects.{effects-of, effects-in}
-use Rattle.sheet.proofs.GroupLaws.{goal-facts, needed-facts}
-use Rattle.sheet.proofs.EffectLaws.{effects-applied}
+use Rattle.sheet.specs.Between.Group.{goal_group, needed_group, facts_in}
+use Rattle.sheet.specs.Between.Effects.{effects_of, effects_in}
+use Rattle.sheet.proofs.GroupLaws.{goal_facts, needed_facts}
+use Rattle.sheet.proofs.EffectLaws.{effects_applied}
 use Rattle.step.specs.declared.facts.Failing.{Failing}
 use Rattle.step.specs.declared.facts.Failing.TheVariants.{Nothing, Fact}
-use Rattle.step.specs.State.{state-size, front}
-use Rattle.step.specs.between.Failing.{passes, Tests}
-use Rattle.step.specs.between.Advance.{Advances}
-use Rattle.step.proofs.StateLaws.{front-laid}
+use Rattle.step.specs.State.{state_size, front}
+use Rattle.step.specs.Between.Failing.{passes, Tests}
+use Rattle.step.specs.Between.Advance.{Advances}
+use Rattle.step.proofs.StateLaws.{front_laid}
 
-module _ (w s : List ℕ) (a : ℕ) (g : Group) (f : Failing) (group : g ≡ needed-group w a) (tested : Tests s (facts-in w g) f) where
+module _ (w s : List ℕ) (a : ℕ) (g : Group) (f : Failing) (group : g ≡ needed_group w a) (tested : Tests s (facts_in w g) f) where
   held : passes f ≡ applicable s (action w a)
-  held = tested.held ∙ ap (satisfies s) (ap (facts-in w) group ∙ needed-facts w a) ∙ sym (applicable-needed s (action w a))
+  held = tested.held ∙ ap (satisfies s) (ap (facts_in w) group ∙ needed_facts w a) ∙ sym (applicable_needed s (action w a))
 
-  pub advances-not : (x : ℕ) → f ≡ Fact x → Advances w s a false s
-  advances-not x e = record { applied = ap passes (sym e) ∙ held; state = refl }
+  pub advances_not : (x : ℕ) → f ≡ Fact x → Advances w s a false s
+  advances_not x e = record { applied = ap passes (sym e) ∙ held; state = refl }
 
-  pub advances-done : (h : Effects) (after : List ℕ) → f ≡ Nothing → h ≡ effects-of w a → after ≡ assign s (acting s (effects-in w h)) → Advances w s a true after
-  advances-done h after e effects writes =
-      record { applied = ap passes (sym e) ∙ held; state = writes ∙ rw effects (sym (effects-applied w a s)) }
+  pub advances_done : (h : Effects) (after : List ℕ) → f ≡ Nothing → h ≡ effects_of w a → after ≡ assign s (acting s (effects_in w h)) → Advances w s a true after
+  advances_done h after e effects writes =
+      record { applied = ap passes (sym e) ∙ held; state = writes ∙ rw effects (sym (effects_applied w a s)) }
 
-module _ (w s : List ℕ) (g : Group) (f : Failing) (group : g ≡ goal-group w) (tested : Tests s (facts-in w g) f) where
-  goal-held : passes f ≡ satisfies s (goal w)
-  goal-held = tested.held ∙ ap (satisfies s) (ap (facts-in w) group ∙ goal-facts w)
+module _ (w s : List ℕ) (g : Group) (f : Failing) (group : g ≡ goal_group w) (tested : Tests s (facts_in w g) f) where
+  goal_held : passes f ≡ satisfies s (goal w)
+  goal_held = tested.held ∙ ap (satisfies s) (ap (facts_in w) group ∙ goal_facts w)
 
-  pub goal-unmet : (x : ℕ) → f ≡ Fact x → false ≡ satisfies s (goal w)
-  goal-unmet x e = ap passes (sym e) ∙ goal-held
+  pub goal_unmet : (x : ℕ) → f ≡ Fact x → false ≡ satisfies s (goal w)
+  goal_unmet x e = ap passes (sym e) ∙ goal_held
 
-  pub goal-met : f ≡ Nothing → true ≡ satisfies s (goal w)
-  goal-met e = ap passes (sym e) ∙ goal-held
+  pub goal_met : f ≡ Nothing → true ≡ satisfies s (goal w)
+  goal_met e = ap passes (sym e) ∙ goal_held
 
 -- an action keeps the number of values, done or not
-advances-length : (w s after : List ℕ) (a : ℕ) (done : Bool) → Advances w s a done after → length after ≡ length s
-advances-length w s after a true advances = ap length advances.state ∙ apply-length s (action w a)
-advances-length w s after a false advances = ap length advances.state
+advances_length : (w s after : List ℕ) (a : ℕ) (done : Bool) → Advances w s a done after → length after ≡ length s
+advances_length w s after a true advances = ap length advances.state ∙ apply_length s (action w a)
+advances_length w s after a false advances = ap length advances.state
 
 pub part_length : (values : List ℕ) (n : ℕ) → n < length values → n ≡ length (take n values)
 part_length values n h = sym (length-take-le n values (omega arith))
 
 -- the state at the front of an array, lent as a part, or as the whole of what is no longer
-module _ (w values : List ℕ) (n : ℕ) (fits : n ≡ state-size w) where
+module _ (w values : List ℕ) (n : ℕ) (fits : n ≡ state_size w) where
   module _ (part : n < length values) where
-    pub advances-part : (a : ℕ) (done : Bool) (after : List ℕ) → Advances w (take n values) a done after
+    pub advances_part : (a : ℕ) (done : Bool) (after : List ℕ) → Advances w (take n values) a done after
         → Advances w (front w values) a done (front w (after ++ drop n values))
-    advances-part a done after advances =
-        let kept : length after ≡ n = advances-length w (take n values) after a done advances ∙ sym (part_length values n part) in
-        rw (front-laid w values after n fits kept, ← fits) advances
+    advances_part a done after advances =
+        let kept : length after ≡ n = advances_length w (take n values) after a done advances ∙ sym (part_length values n part) in
+        rw (front_laid w values after n fits kept, ← fits) advances
 
   module _ (whole : length values ≤ n) where
-    all-front : (s : List ℕ) → length s ≡ length values → front w s ≡ s
-    all-front s same = take_all (state-size w) s (omega arith)
+    all_front : (s : List ℕ) → length s ≡ length values → front w s ≡ s
+    all_front s same = take_all (state_size w) s (omega arith)
 
-    pub advances-whole : (a : ℕ) (done : Bool) (after : List ℕ) → Advances w values a done after → Advances w (front w values) a done (front w after)
-    advances-whole a done after advances = rw (all-front values refl, all-front after (advances-length w values after a done advances)) advances
+    pub advances_whole : (a : ℕ) (done : Bool) (after : List ℕ) → Advances w values a done after → Advances w (front w values) a done (front w after)
+    advances_whole a done after advances = rw (all_front values refl, all_front after (advances_length w values after a done advances)) advances

@@ -12,30 +12,30 @@ use Rattle.sheet.specs.Limits.{limits}
 use Rattle.sheet.specs.Layout.{variables, start}
 use Rattle.sheet.specs.Decode.{table, initial}
 use Rattle.sheet.specs.Causes.{Accepted}
-use Rattle.sheet.proofs.Parts.{accepted-measured}
-use Rattle.sheet.proofs.TableLaws.{table-length, stores-over, stores-next}
-use Rattle.step.specs.State.{state-size, front, in_array}
+use Rattle.sheet.proofs.Parts.{accepted_measured}
+use Rattle.sheet.proofs.TableLaws.{table_length, stores_over, stores_next}
+use Rattle.step.specs.State.{state_size, front, in_array}
 
 -- a state with the starting values of the variables from v up to n stored in it
 unfoldable pub started : List ℕ → List ℕ → ℕ → ℕ → List ℕ
 started w values v n = sets values v (table (start w) v (n - v))
 
-pub started-over : (w values : List ℕ) (v n : ℕ) → n ≤ v → started w values v n ≡ values
+pub started_over : (w values : List ℕ) (v n : ℕ) → n ≤ v → started w values v n ≡ values
 unfolding started
-started-over w values v n h = stores-over (start w) values v n h
+started_over w values v n h = stores_over (start w) values v n h
 
-pub started-more : (w values : List ℕ) (v n : ℕ) → v < n → started w values v n ≡ started w (set values v (start w v)) (v + 1) n
+pub started_more : (w values : List ℕ) (v n : ℕ) → v < n → started w values v n ≡ started w (set values v (start w v)) (v + 1) n
 unfolding started
-started-more w values v n h = stores-next (start w) values v n h
+started_more w values v n h = stores_next (start w) values v n h
 
 -- from the first variable on, all of them are
-pub started-whole : (w values : List ℕ) (n : ℕ) → n ≡ variables w → started w values 0 n ≡ sets values 0 (initial w)
+pub started_whole : (w values : List ℕ) (n : ℕ) → n ≡ variables w → started w values 0 n ≡ sets values 0 (initial w)
 unfolding started initial
-started-whole w values n e = rw (e, sub-zero)
+started_whole w values n e = rw (e, sub-zero)
 
 -- what is left of equal elements
-pub drop-replicate : {A : Type 0} (k n : ℕ) (x : A) → k ≤ n → drop k (replicate n x) ≡ replicate (n - k) x
-drop-replicate k n x h =
+pub drop_replicate : {A : Type 0} (k n : ℕ) (x : A) → k ≤ n → drop k (replicate n x) ≡ replicate (n - k) x
+drop_replicate k n x h =
     let whole : k + (n - k) ≡ n = omega arith in
     let parts : replicate k x ++ replicate (n - k) x ≡ replicate n x = replicate-append-replicate k (n - k) x ∙ rw whole in
     rw (← parts) (drop_at (replicate k x) (replicate (n - k) x) k (length-replicate k x))
@@ -48,8 +48,8 @@ lent_length s values n e h =
     rw length-take (omega arith)
 
 -- what was lent comes back as the state that the array holds
-pub front-laid : (w values after : List ℕ) (n : ℕ) → n ≡ state-size w → length after ≡ n → front w (after ++ drop n values) ≡ after
-front-laid w values after n fits long = take_at after (drop n values) (state-size w) (long ∙ fits)
+pub front_laid : (w values after : List ℕ) (n : ℕ) → n ≡ state_size w → length after ≡ n → front w (after ++ drop n values) ≡ after
+front_laid w values after n fits long = take_at after (drop n values) (state_size w) (long ∙ fits)
 
 -- a state in an array and zeros past it
 pub array_parts : (s : State) → length s ≤ limits.variables → in_array s ≡ s ++ replicate (limits.variables - length s) 0
@@ -58,21 +58,21 @@ array_parts s h =
     let zeros : State = replicate limits.variables 0 in
     let room : 0 + length s ≤ length zeros = rw length-replicate (omega arith) in
     let past : 0 + length s ≡ length s = omega arith in
-    sets-eq s zeros 0 room ∙ rw (past, drop-replicate {A = ℕ} (length s) limits.variables 0 h)
+    sets-eq s zeros 0 room ∙ rw (past, drop_replicate {A = ℕ} (length s) limits.variables 0 h)
 
-pub array-laid : (s t : State) → length s ≤ limits.variables → length t ≡ length s → t ++ drop (length s) (in_array s) ≡ in_array t
-array-laid s t h same = rw (array_parts s h, drop_at s (replicate (limits.variables - length s) 0) (length s), array_parts t (omega arith), same)
+pub array_laid : (s t : State) → length s ≤ limits.variables → length t ≡ length s → t ++ drop (length s) (in_array s) ≡ in_array t
+array_laid s t h same = rw (array_parts s h, drop_at s (replicate (limits.variables - length s) 0) (length s), array_parts t (omega arith), same)
 
-pub initial-length : (w : List ℕ) → length (initial w) ≡ variables w
+pub initial_length : (w : List ℕ) → length (initial w) ≡ variables w
 unfolding initial
-initial-length w = table-length (start w) 0 (variables w)
+initial_length w = table_length (start w) 0 (variables w)
 
 module _ (w : List ℕ) (accepted : Accepted w) where
-  pub sized : state-size w ≡ length (initial w)
-  sized = omega (arith, (accepted-measured w accepted).variables, initial-length w)
+  pub sized : state_size w ≡ length (initial w)
+  sized = omega (arith, (accepted_measured w accepted).variables, initial_length w)
 
-  pub few-variables : length (initial w) ≤ limits.variables
-  few-variables = omega (arith, sized)
+  pub few_variables : length (initial w) ≤ limits.variables
+  few_variables = omega (arith, sized)
 
-  pub front-initial : front w (in_array (initial w)) ≡ initial w
-  front-initial = rw (array_parts (initial w) few-variables) (take_at (initial w) _ (state-size w) (sym sized))
+  pub front_initial : front w (in_array (initial w)) ≡ initial w
+  front_initial = rw (array_parts (initial w) few_variables) (take_at (initial w) _ (state_size w) (sym sized))

@@ -6,12 +6,12 @@ use Rattle.sheet.specs.Limits.{limits}
 use Rattle.sheet.specs.Layout.{variables}
 
 -- how many values of the array are the state
-abbrev pub state-size : List ℕ → ℕ
-state-size w = min (variables w) limits.variables
+abbrev pub state_size : List ℕ → ℕ
+state_size w = min (variables w) limits.variables
 
 -- the state that an array holds
 abbrev pub front : List ℕ → List ℕ → State
-front w values = take (state-size w) values
+front w values = take (state_size w) values
 
 -- a state in an array: 64 values, zero past the state's
 unfoldable pub in_array : State → List ℕ

@@ -10,34 +10,34 @@ use Rattle.sas.specs.Task.{Fact, Action}
 use Rattle.sas.specs.Plan.{applicable, acting, apply}
 use Rattle.sheet.specs.Layout.{variables, actions}
 use Rattle.sheet.specs.Decode.{action}
-use Rattle.sheet.specs.Causes.{sheet-checks}
+use Rattle.sheet.specs.Causes.{sheet_checks}
 
 -- a step's own checks: 9, an unknown action; 11, a step that can't be done; both at place 1
-unfoldable pub own-checks : List ℕ → List ℕ → ℕ → List Check
-own-checks w s a =
+unfoldable pub own_checks : List ℕ → List ℕ → ℕ → List Check
+own_checks w s a =
     record { number = 9; fires = when (leb (actions w) a) 1 }
     ∷ record { number = 11; fires = when (not (applicable s (action w a))) 1 }
     ∷ []
 
 -- the checks of one step: the sheet's, then its own
-unfoldable pub step-checks : List ℕ → List ℕ → ℕ → List Check
-step-checks w s a = sheet-checks w ++ own-checks w s a
+unfoldable pub step_checks : List ℕ → List ℕ → ℕ → List Check
+step_checks w s a = sheet_checks w ++ own_checks w s a
 
 -- the state after a step: each variable of an effect that acts has the value named; after a refusal, the state as it
 -- was
-unfoldable pub state-after : List ℕ → List ℕ → ℕ → List ℕ
-state-after w s a = elim (answer (step-checks w s a)) [ none ↦ apply s (action w a) | some t ↦ s ]
+unfoldable pub state_after : List ℕ → List ℕ → ℕ → List ℕ
+state_after w s a = elim (answer (step_checks w s a)) [ none ↦ apply s (action w a) | some t ↦ s ]
 
 -- one step of action a of the sheet w in the state `before`
 pub record Steps (w before : List ℕ) (a : ℕ) (verdict : Verdict) (after : List ℕ) : Type 0 where
-  pub verdict-told : told verdict ≡ answer (step-checks w before a)
-  pub state : after ≡ state-after w before a
+  pub verdict_told : told verdict ≡ answer (step_checks w before a)
+  pub state : after ≡ state_after w before a
 
 -- a fact of an action acts in a state: an effect has it whose condition holds there
 abbrev pub acts : List ℕ → Action → Fact → Type 0
 acts s a f = Memᴰ f (acting s a.effects)
 
--- what holds of the state after a step, by whether it is refused: `step-theorem` of proofs/StepTheorem
+-- what holds of the state after a step, by whether it is refused: `step_theorem` of proofs/StepTheorem
 pub record After (w before : List ℕ) (a : ℕ) (refusal : Option Told) (after : List ℕ) : Type 0 where
   -- a refused step leaves the state, all its values
   pub refused : (t : Told) → refusal ≡ some t → after ≡ before

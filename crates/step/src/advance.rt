@@ -4,7 +4,7 @@ ghost use Rattle.sas.specs.Plan.{satisfies};
 ghost use Rattle.sheet.specs.Limits.{limits};
 ghost use Rattle.sheet.specs.Decode.{goal as goal-of};
 ghost use Rattle.step.specs.State.{front};
-ghost use Rattle.step.specs.between.Advance.{Advances};
+ghost use Rattle.step.specs.Between.Advance.{Advances};
 
 use crate::facts::{Failing, find_failing, write_effects};
 use crate::state::size;

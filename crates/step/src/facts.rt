@@ -4,9 +4,9 @@ ghost use Rattle.std.specs.Prelude.{◌≡◌, cond, [], ◌∷◌, ◌≤◌, l
 ghost use Rattle.sas.specs.Plan.{holds as holds-in, satisfies, assign, acting};
 ghost use Rattle.sheet.specs.Limits.{limits};
 ghost use Rattle.sheet.specs.Decode.{fact_of};
-ghost use Rattle.sheet.specs.between.Group.{facts-in, last_fact, front_of};
-ghost use Rattle.sheet.specs.between.Effects.{effects-in, first-written, first-condition};
-ghost use Rattle.step.specs.between.Failing.{Tests};
+ghost use Rattle.sheet.specs.Between.Group.{facts_in, last_fact, front_of};
+ghost use Rattle.sheet.specs.Between.Effects.{effects_in, first_written, first_condition};
+ghost use Rattle.step.specs.Between.Failing.{Tests};
 
 use access::{front, put, put_all};
 use sheet::effects::Effects;
@@ -51,7 +51,7 @@ fn after_next(group: Group) -> Group
 
 // Whether a group of facts holds in the state, or the fact at which that was seen to fail.
 pub fn find_failing(words: &[u32], state: &[u32], group: Group) -> Failing
-    ensures { Tests state.now (facts-in words.now group) result }
+    ensures { Tests state.now (facts_in words.now group) result }
 {
     let mut rest = group;
     while rest.at < rest.end {
@@ -79,7 +79,7 @@ fn put_fact(state: &mut [u32], fact: u32)
 
 // Writes the facts of a group into the state.
 fn write_group(words: &[u32], state: &mut [u32], group: Group)
-    ensures { state.new ≡ assign state.old (facts-in words.now group) }
+    ensures { state.new ≡ assign state.old (facts_in words.now group) }
 {
     let mut rest = group;
     while rest.at < rest.end {
@@ -91,8 +91,8 @@ fn write_group(words: &[u32], state: &mut [u32], group: Group)
 // Writes the fact of the first of an action's effects, where its condition holds in the state `before`.
 fn write_first(words: &[u32], before: &[u32], state: &mut [u32], effects: Effects)
     ensures { state.new ≡ assign state.old
-        (cond (satisfies before.now (facts-in words.now (first-condition words.now effects)))
-        (fact_of (first-written words.now effects) ∷ []) []) }
+        (cond (satisfies before.now (facts_in words.now (first_condition words.now effects)))
+        (fact_of (first_written words.now effects) ∷ []) []) }
 {
     let failing = find_failing(words, before, effects.condition(words));
     match failing {
@@ -104,7 +104,7 @@ fn write_first(words: &[u32], before: &[u32], state: &mut [u32], effects: Effect
 // Writes the facts of those effects whose conditions hold in the state `before`.
 fn write_acting(words: &[u32], before: &[u32], state: &mut [u32], effects: Effects)
     ensures { state.new ≡ assign state.old
-        (acting before.now (effects-in words.now effects)) }
+        (acting before.now (effects_in words.now effects)) }
 {
     let mut rest = effects;
     while rest.at < rest.end {
@@ -118,7 +118,7 @@ fn write_acting(words: &[u32], before: &[u32], state: &mut [u32], effects: Effec
 pub fn write_effects(words: &[u32], state: &mut [u32], effects: Effects)
     requires { length state.old ≤ limits.variables }
     ensures { state.new ≡ assign state.old
-        (acting state.old (effects-in words.now effects)) }
+        (acting state.old (effects_in words.now effects)) }
 {
     if effects.conditional {
         let n = state.len();

@@ -1,6 +1,6 @@
 // One step as a service: by value, and on a lent state.
 ghost use Rattle.step.specs.Step.{Steps};
-ghost use Rattle.step.specs.between.Tries.{Tries};
+ghost use Rattle.step.specs.Between.Tries.{Tries};
 
 use crate::advance::advance;
 use crate::state::State;

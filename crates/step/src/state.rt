@@ -3,7 +3,7 @@
 ghost use Rattle.std.specs.Prelude.{◌≡◌, ◌≤◌};
 ghost use Rattle.sheet.specs.Limits.{limits};
 ghost use Rattle.sheet.specs.Decode.{initial as initial-of};
-ghost use Rattle.step.specs.State.{state-size, in_array};
+ghost use Rattle.step.specs.State.{state_size, in_array};
 
 use access::{put, word};
 use sheet::layout::{start_at, variables};
@@ -17,7 +17,7 @@ pub struct State {
 
 // How many values of an array are the state: one for each variable, as far as the array goes.
 pub fn size(words: &[u32]) -> usize
-    ensures { (result ≡ state-size words.now) × (result ≤ limits.variables) }
+    ensures { (result ≡ state_size words.now) × (result ≤ limits.variables) }
 {
     let n = variables(words);
     if n < Sheet::VARIABLES {

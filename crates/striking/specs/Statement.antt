@@ -6,20 +6,20 @@ use Rattle.sas.specs.Plan.{Plan}
 use Rattle.sheet.specs.Decode.{task}
 use Rattle.plan.specs.Valid.{steps}
 use Rattle.plan.specs.Readable.{Readable}
-use Rattle.minimal.specs.Minimised.{most-unmarked}
-use Rattle.minimal.specs.Statement.{Demand-three-of}
-use Rattle.claim.specs.Statement.{Licensed-with}
-use Rattle.striking.specs.Strikes.{Answers-lent, Licence-lent}
+use Rattle.minimal.specs.Minimised.{most_unmarked}
+use Rattle.minimal.specs.Statement.{DemandThreeOf}
+use Rattle.claim.specs.Statement.{LicensedWith}
+use Rattle.striking.specs.Strikes.{AnswersLent, LicenceLent}
 
 module _ (w l output output' mask mask' out out' : List ℕ) where
   -- for every accepted sheet, every valid list and every output that has as many words as the list has steps
-  abbrev pub Demand-three-lent : Type 0
-  Demand-three-lent =
+  abbrev pub DemandThreeLent : Type 0
+  DemandThreeLent =
       Readable w l → Plan (task w) (steps w l) → length l ≤ length output
-      → Demand-three-of w l most-unmarked (λ t m. Answers-lent t w l m output output' mask mask' out out')
+      → DemandThreeOf w l most_unmarked (λ t m. AnswersLent t w l m output output' mask mask' out out')
 
   -- of every such list: the claim and the reduction of a licence
-  abbrev pub May-be-lodged-lent : Type 0
-  May-be-lodged-lent =
+  abbrev pub MayBeLodgedLent : Type 0
+  MayBeLodgedLent =
       Readable w l → Plan (task w) (steps w l) → length l ≤ length output
-      → Licensed-with w l (λ c m. Licence-lent none w l c m output output' mask mask' out out')
+      → LicensedWith w l (λ c m. LicenceLent none w l c m output output' mask mask' out out')

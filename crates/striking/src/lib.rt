@@ -1,9 +1,11 @@
 // The services that strike, over lent words: the list left, its mask and the answer go to lent slices.
+#![tactic(auto)]
+
 ghost use Rattle.std.specs.Prelude.{◌≡◌};
 ghost use Rattle.std.proofs.lemmas.List.Edits.{sets};
-ghost use Rattle.striking.specs.Strikes.{Eliminates-lent, Minimises-lent, claim-words, Licenses-lent};
-ghost use Rattle.striking.specs.Strikes.{Reduces-both-lent, Cheaper-lent};
-ghost use Rattle.striking.specs.Statement.{Demand-three-lent, May-be-lodged-lent};
+ghost use Rattle.striking.specs.Strikes.{EliminatesLent, MinimisesLent, claim_words, LicensesLent};
+ghost use Rattle.striking.specs.Strikes.{ReducesBothLent, CheaperLent};
+ghost use Rattle.striking.specs.Statement.{DemandThreeLent, MayBeLodgedLent};
 
 use cheaper::both::cheaper;
 use cheaper::left::cheaper_left;
@@ -26,7 +28,7 @@ pub fn eliminate(
     out: &mut [u64],
     by: Elimination,
 )
-    ensures { Eliminates-lent by words.now plan.now
+    ensures { EliminatesLent by words.now plan.now
         output.old output.new mask.old mask.new
         out.old out.new }
 {
@@ -43,7 +45,7 @@ pub fn eliminate_cheaper(
     mask: &mut [u64],
     out: &mut [u64],
 )
-    ensures { Cheaper-lent words.now plan.now
+    ensures { CheaperLent words.now plan.now
         output.old output.new mask.old mask.new
         out.old out.new }
 {
@@ -54,10 +56,10 @@ pub fn eliminate_cheaper(
 
 // The minimal reduction, in the same form.
 pub fn minimise(words: &[u32], plan: &[u32], output: &mut [u32], mask: &mut [u64], out: &mut [u64])
-    ensures words { Minimises-lent words.now plan.now
+    ensures words { MinimisesLent words.now plan.now
         output.old output.new mask.old mask.new
         out.old out.new }
-    ensures demand_three { Demand-three-lent words.now plan.now
+    ensures demand_three { DemandThreeLent words.now plan.now
         output.old output.new mask.old mask.new
         out.old out.new }
 {
@@ -69,7 +71,7 @@ pub fn minimise(words: &[u32], plan: &[u32], output: &mut [u32], mask: &mut [u64
 // Writes a claim behind an answer: 0 and how many steps are unmarked where it is open, 1 and 0 where it is irreducible,
 // 2 and 0 where it is least.
 fn write_claim(out: &mut [u64], claim: Claim)
-    ensures { out.new ≡ sets out.old 4 (claim-words claim) }
+    ensures { out.new ≡ sets out.old 4 (claim_words claim) }
 {
     match claim {
         Claim::Open(steps) => write_pair(out, CLAIM_AT, 0, steps as u64),
@@ -87,10 +89,10 @@ pub fn license_plan(
     mask: &mut [u64],
     out: &mut [u64],
 )
-    ensures words { Licenses-lent words.now plan.now
+    ensures words { LicensesLent words.now plan.now
         output.old output.new mask.old mask.new
         out.old out.new }
-    ensures may_be_lodged { May-be-lodged-lent words.now plan.now
+    ensures may_be_lodged { MayBeLodgedLent words.now plan.now
         output.old output.new mask.old mask.new
         out.old out.new }
 {
@@ -111,7 +113,7 @@ pub fn eliminate_both(
     second: &mut [u32],
     out: &mut [u64],
 )
-    ensures { Reduces-both-lent words.now plan.now first.old first.new
+    ensures { ReducesBothLent words.now plan.now first.old first.new
         second.old second.new out.old out.new }
 {
     let both = cheaper(words, plan, first, second);

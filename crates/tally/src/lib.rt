@@ -1,4 +1,6 @@
 // The tally of a plan: its cost (document 01: price) and its number of steps.
+#![tactic(auto)]
+
 ghost use Rattle.std.specs.Prelude.{◌≡◌};
 ghost use Rattle.tally.specs.Tally.{bounds, nothing, one_more, comparison};
 

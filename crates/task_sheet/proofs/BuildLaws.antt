@@ -11,24 +11,24 @@ use lib.Dec.{leb}
 use borrow.Author.Tests.{lt-leb, le-leb}
 use Rattle.sas.specs.Task.{Task}
 use Rattle.sheet.specs.Limits.{limits}
-use Rattle.sheet.specs.Layout.{first-edition}
-use Rattle.sheet.specs.between.Encode.{parts, encode}
+use Rattle.sheet.specs.Layout.{first_edition}
+use Rattle.sheet.specs.Between.Encode.{parts, encode}
 use Rattle.task_sheet.specs.declared.build.Built.{Built}
 use Rattle.task_sheet.specs.declared.action.Written.{Written}
-use Rattle.meaning.specs.between.Sections.{number_at, variables, ranges, state, operators-at, meaning}
-use Rattle.meaning.specs.between.Order.{ordered-action, ordered}
-use Rattle.meaning.specs.between.Writable.{variables-fit, group-fits, actions-fit, writable}
-use Rattle.sheet_writer.specs.between.Laid.{first_word, laid}
-use Rattle.task_sheet.specs.between.Parts.{facts-fit, Lays}
-use Rattle.task_sheet.specs.between.Built.{Builds}
-use Rattle.meaning.proofs.GatherLaws.{and-whole, ranges-length}
+use Rattle.meaning.specs.Between.Sections.{number_at, variables, ranges, state, operators_at, meaning}
+use Rattle.meaning.specs.Between.Order.{ordered_action, ordered}
+use Rattle.meaning.specs.Between.Writable.{variables_fit, group_fits, actions_fit, writable}
+use Rattle.sheet_writer.specs.Between.Laid.{first_word, laid}
+use Rattle.task_sheet.specs.Between.Parts.{facts_fit, Lays}
+use Rattle.task_sheet.specs.Between.Built.{Builds}
+use Rattle.meaning.proofs.GatherLaws.{and_whole, ranges_length}
 use Rattle.task_sheet.proofs.PartLaws.{and_none}
-use Rattle.sheet_writer.proofs.SheetLaws.{words-end, sheet-written}
-use Rattle.task_sheet.proofs.PartsLaws.{actions-length}
+use Rattle.sheet_writer.proofs.SheetLaws.{words_end, sheet_written}
+use Rattle.task_sheet.proofs.PartsLaws.{actions_length}
 
 -- nothing is said of the words of a task that no sheet can say
-pub builds-unfit : {x before after : List ℕ} {r : Built} → writable (meaning x) ≡ false → r.fits ≡ false → Builds x before after r
-builds-unfit none unfit =
+pub builds_unfit : {x before after : List ℕ} {r : Built} → writable (meaning x) ≡ false → r.fits ≡ false → Builds x before after r
+builds_unfit none unfit =
     record {
       fits = unfit ∙ sym none;
       words = λ fits. absurd (let z : ◌≡◌ {A = ℕ} 0 1 = cc in omega arith);
@@ -52,117 +52,117 @@ module _ (T : Task) where
   short = leb (length T.actions) limits.actions
 
   abbrev ranged : Bool
-  ranged = variables-fit T.domains T.initial
+  ranged = variables_fit T.domains T.initial
 
   abbrev aimed : Bool
-  aimed = group-fits T.domains T.goal
+  aimed = group_fits T.domains T.goal
 
   abbrev done : Bool
-  done = actions-fit T.domains T.actions
+  done = actions_fit T.domains T.actions
 
   abbrev sized : Bool
-  sized = leb (length (encode first-edition (ordered T))) limits.words
+  sized = leb (length (encode first_edition (ordered T))) limits.words
 
-  behind-three : ranged && (aimed && (done && sized)) ≡ false → writable T ≡ false
+  behind_three : ranged && (aimed && (done && sized)) ≡ false → writable T ≡ false
   unfolding writable
-  behind-three e =
+  behind_three e =
       and_none some (few && (short && (ranged && (aimed && (done && sized)))))
       (and_none few (short && (ranged && (aimed && (done && sized)))) (and_none short (ranged && (aimed && (done && sized))) e))
 
-  behind-four : aimed && (done && sized) ≡ false → writable T ≡ false
-  behind-four e = behind-three (and_none ranged (aimed && (done && sized)) e)
+  behind_four : aimed && (done && sized) ≡ false → writable T ≡ false
+  behind_four e = behind_three (and_none ranged (aimed && (done && sized)) e)
 
 -- each test that fails
 module _ (x : List ℕ) where
-  many : length (meaning x).actions ≡ number_at x (operators-at x)
+  many : length (meaning x).actions ≡ number_at x (operators_at x)
   unfolding meaning
-  many = actions-length x (operators-at x + 1) (number_at x (operators-at x))
+  many = actions_length x (operators_at x + 1) (number_at x (operators_at x))
 
-  sized-ranges : length (meaning x).domains ≡ variables x
+  sized_ranges : length (meaning x).domains ≡ variables x
   unfolding meaning
-  sized-ranges = ranges-length x
+  sized_ranges = ranges_length x
 
-  pub no-variables : variables x < 1 → writable (meaning x) ≡ false
+  pub no_variables : variables x < 1 → writable (meaning x) ≡ false
   unfolding writable
-  no-variables none = rw (sized-ranges, lt-leb 1 (variables x) none)
+  no_variables none = rw (sized_ranges, lt-leb 1 (variables x) none)
 
-  pub many-variables : limits.variables < variables x → writable (meaning x) ≡ false
+  pub many_variables : limits.variables < variables x → writable (meaning x) ≡ false
   unfolding writable
-  many-variables more =
-      let over : few (meaning x) ≡ false = rw sized-ranges (lt-leb (variables x) limits.variables more) in
+  many_variables more =
+      let over : few (meaning x) ≡ false = rw sized_ranges (lt-leb (variables x) limits.variables more) in
       rw over (and_none (some (meaning x)) false refl)
 
-  pub many-actions : limits.actions < number_at x (operators-at x) → writable (meaning x) ≡ false
+  pub many_actions : limits.actions < number_at x (operators_at x) → writable (meaning x) ≡ false
   unfolding writable
-  many-actions more =
-      let over : short (meaning x) ≡ false = rw many (lt-leb (number_at x (operators-at x)) limits.actions more) in
+  many_actions more =
+      let over : short (meaning x) ≡ false = rw many (lt-leb (number_at x (operators_at x)) limits.actions more) in
       rw over (and_none (some (meaning x)) (few (meaning x) && false) (and_none (few (meaning x)) false refl))
 
-  pub variables-unfit : variables-fit (ranges x) (state x) ≡ false → writable (meaning x) ≡ false
+  pub variables_unfit : variables_fit (ranges x) (state x) ≡ false → writable (meaning x) ≡ false
   unfolding meaning
-  variables-unfit unfit = behind-three (meaning x) (rw unfit)
+  variables_unfit unfit = behind_three (meaning x) (rw unfit)
 
-  pub facts-unfit : facts-fit (meaning x) ≡ false → writable (meaning x) ≡ false
-  facts-unfit unfit = behind-four (meaning x) (both_first (aimed (meaning x)) (done (meaning x)) (sized (meaning x)) unfit)
+  pub facts_unfit : facts_fit (meaning x) ≡ false → writable (meaning x) ≡ false
+  facts_unfit unfit = behind_four (meaning x) (both_first (aimed (meaning x)) (done (meaning x)) (sized (meaning x)) unfit)
 
-  pub words-unfit : limits.words < length (encode first-edition (ordered (meaning x))) → writable (meaning x) ≡ false
-  words-unfit more =
-      let long : sized (meaning x) ≡ false = lt-leb (length (encode first-edition (ordered (meaning x)))) limits.words more in
-      behind-four (meaning x) (and_none (aimed (meaning x)) (done (meaning x) && sized (meaning x)) (and_none (done (meaning x)) (sized (meaning x)) long))
+  pub words_unfit : limits.words < length (encode first_edition (ordered (meaning x))) → writable (meaning x) ≡ false
+  words_unfit more =
+      let long : sized (meaning x) ≡ false = lt-leb (length (encode first_edition (ordered (meaning x)))) limits.words more in
+      behind_four (meaning x) (and_none (aimed (meaning x)) (done (meaning x) && sized (meaning x)) (and_none (done (meaning x)) (sized (meaning x)) long))
 
-  ranged-same : ranged (meaning x) ≡ variables-fit (ranges x) (state x)
+  ranged_same : ranged (meaning x) ≡ variables_fit (ranges x) (state x)
   unfolding meaning
-  ranged-same = refl
+  ranged_same = refl
 
   -- all tests passed
-  all_pass : 1 ≤ variables x → variables x ≤ limits.variables → number_at x (operators-at x) ≤ limits.actions
-      → variables-fit (ranges x) (state x) ≡ true → facts-fit (meaning x) ≡ true → length (encode first-edition (ordered (meaning x))) ≤ limits.words
+  all_pass : 1 ≤ variables x → variables x ≤ limits.variables → number_at x (operators_at x) ≤ limits.actions
+      → variables_fit (ranges x) (state x) ≡ true → facts_fit (meaning x) ≡ true → length (encode first_edition (ordered (meaning x))) ≤ limits.words
       → writable (meaning x) ≡ true
   unfolding writable
   all_pass one low brief fits facts long =
-      let first : some (meaning x) ≡ true = rw sized-ranges (le-leb 1 (variables x) one) in
-      let second : few (meaning x) ≡ true = rw sized-ranges (le-leb (variables x) limits.variables low) in
-      let third : short (meaning x) ≡ true = rw many (le-leb (number_at x (operators-at x)) limits.actions brief) in
-      let fourth : ranged (meaning x) ≡ true = ranged-same ∙ fits in
-      let last : sized (meaning x) ≡ true = le-leb (length (encode first-edition (ordered (meaning x)))) limits.words long in
-      rw (first, second, third, fourth, last, and-whole (done (meaning x))) facts
+      let first : some (meaning x) ≡ true = rw sized_ranges (le-leb 1 (variables x) one) in
+      let second : few (meaning x) ≡ true = rw sized_ranges (le-leb (variables x) limits.variables low) in
+      let third : short (meaning x) ≡ true = rw many (le-leb (number_at x (operators_at x)) limits.actions brief) in
+      let fourth : ranged (meaning x) ≡ true = ranged_same ∙ fits in
+      let last : sized (meaning x) ≡ true = le-leb (length (encode first_edition (ordered (meaning x)))) limits.words long in
+      rw (first, second, third, fourth, last, and_whole (done (meaning x))) facts
 
   -- how many variables and actions the task in order has
-  domains-counted : variables x ≡ length (ordered (meaning x)).domains
+  domains_counted : variables x ≡ length (ordered (meaning x)).domains
   unfolding ordered
-  domains-counted = sym sized-ranges
+  domains_counted = sym sized_ranges
 
-  actions-counted : number_at x (operators-at x) ≡ length (ordered (meaning x)).actions
+  actions_counted : number_at x (operators_at x) ≡ length (ordered (meaning x)).actions
   unfolding ordered
-  actions-counted = sym (length-map (meaning x).actions ordered-action ∙ many)
+  actions_counted = sym (length-map (meaning x).actions ordered_action ∙ many)
 
-  module _ (n : ℕ) (number : n ≡ number_at x (operators-at x)) (before middle : List ℕ) (r : Written)
-      (lays : Lays (facts-fit (meaning x)) 0 (parts first-edition (ordered (meaning x))) before middle (first_word n) r) where
-    counted-actions : n ≡ length (ordered (meaning x)).actions
-    counted-actions = number ∙ actions-counted
+  module _ (n : ℕ) (number : n ≡ number_at x (operators_at x)) (before middle : List ℕ) (r : Written)
+      (lays : Lays (facts_fit (meaning x)) 0 (parts first_edition (ordered (meaning x))) before middle (first_word n) r) where
+    counted_actions : n ≡ length (ordered (meaning x)).actions
+    counted_actions = number ∙ actions_counted
 
-    pub parts-end : r.fits ≡ true → r.end ≡ length (encode first-edition (ordered (meaning x)))
-    parts-end fits = lays.end fits ∙ rw counted-actions (words-end first-edition (ordered (meaning x)))
+    pub parts_end : r.fits ≡ true → r.end ≡ length (encode first_edition (ordered (meaning x)))
+    parts_end fits = lays.end fits ∙ rw counted_actions (words_end first_edition (ordered (meaning x)))
 
-    pub parts-unfit : r.fits ≡ false → writable (meaning x) ≡ false
-    parts-unfit unfit = facts-unfit (sym lays.fits ∙ unfit)
+    pub parts_unfit : r.fits ≡ false → writable (meaning x) ≡ false
+    parts_unfit unfit = facts_unfit (sym lays.fits ∙ unfit)
 
-    pub words-over : r.fits ≡ true → limits.words < r.end → writable (meaning x) ≡ false
-    words-over fits more = words-unfit (rw (parts-end fits) at more)
+    pub words_over : r.fits ≡ true → limits.words < r.end → writable (meaning x) ≡ false
+    words_over fits more = words_unfit (rw (parts_end fits) at more)
 
     -- the first four words before the parts make the sheet
-    pub sheet-built : r.fits ≡ true → (v : ℕ) → v ≡ variables x → (after : List ℕ) → after ≡ sets middle 0 (first-edition ∷ v ∷ n ∷ r.end ∷ [])
-        → 1 ≤ v → v ≤ limits.variables → n ≤ limits.actions → variables-fit (ranges x) (state x) ≡ true → r.end ≤ limits.words
+    pub sheet_built : r.fits ≡ true → (v : ℕ) → v ≡ variables x → (after : List ℕ) → after ≡ sets middle 0 (first_edition ∷ v ∷ n ∷ r.end ∷ [])
+        → 1 ≤ v → v ≤ limits.variables → n ≤ limits.actions → variables_fit (ranges x) (state x) ≡ true → r.end ≤ limits.words
         → Builds x before after (record { fits = true; words = r.end })
-    sheet-built fits v counted after headed one low brief fit-ranges short-words =
+    sheet_built fits v counted after headed one low brief fit_ranges short_words =
         let T : Task = ordered (meaning x) in
-        let laying : middle ≡ laid 0 (first_word (length T.actions)) (parts first-edition T) before = lays.written fits ∙ rw (← counted-actions) in
-        let front : after ≡ sets middle 0 (first-edition ∷ length T.domains ∷ length T.actions ∷ length (encode first-edition T) ∷ []) =
-        headed ∙ rw (counted, domains-counted, counted-actions, parts-end fits) in
+        let laying : middle ≡ laid 0 (first_word (length T.actions)) (parts first_edition T) before = lays.written fits ∙ rw (← counted_actions) in
+        let front : after ≡ sets middle 0 (first_edition ∷ length T.domains ∷ length T.actions ∷ length (encode first_edition T) ∷ []) =
+        headed ∙ rw (counted, domains_counted, counted_actions, parts_end fits) in
         record {
           fits =
-              sym (all_pass (rw counted at one) (rw counted at low) (rw number at brief) fit-ranges (sym lays.fits ∙ fits) (rw (parts-end fits) at short-words));
-          words = λ _. parts-end fits;
+              sym (all_pass (rw counted at one) (rw counted at low) (rw number at brief) fit_ranges (sym lays.fits ∙ fits) (rw (parts_end fits) at short_words));
+          words = λ _. parts_end fits;
           written = λ _ room.
-              ap (λ k. take k after) (parts-end fits) ∙ sheet-written first-edition T before middle after laying front (rw (parts-end fits) at room);
+              ap (λ k. take k after) (parts_end fits) ∙ sheet_written first_edition T before middle after laying front (rw (parts_end fits) at room);
         }

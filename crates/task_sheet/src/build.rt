@@ -1,8 +1,8 @@
 // The sheet of the task that numbers mean.
 ghost use Rattle.std.specs.Prelude.{◌≡◌, false};
-ghost use Rattle.meaning.specs.between.Sections.{ranges, state};
-ghost use Rattle.meaning.specs.between.Writable.{variables-fit};
-ghost use Rattle.task_sheet.specs.between.Built.{Builds};
+ghost use Rattle.meaning.specs.Between.Sections.{ranges, state};
+ghost use Rattle.meaning.specs.Between.Writable.{variables_fit};
+ghost use Rattle.task_sheet.specs.Between.Built.{Builds};
 
 use crate::parts::write_parts;
 use meaning::numbers::{RANGES_AT, number, operators_at, variables};
@@ -29,7 +29,7 @@ fn unwritable() -> Built
 
 // Whether a sheet can say each range and starting value.
 fn variables_fit(x: &[u32]) -> bool
-    ensures { result ≡ variables-fit (ranges x.now) (state x.now) }
+    ensures { result ≡ variables_fit (ranges x.now) (state x.now) }
 {
     let v = variables(x);
     let mut k = 0;

@@ -1,14 +1,14 @@
 // All parts of a sheet, one behind the other, and the pairs that say where each stands.
 ghost use Rattle.std.specs.Prelude.{◌≡◌, ◌+◌, ◌*◌, ◌≤◌, ◌^◌, length};
 ghost use Rattle.sheet.specs.Limits.{limits};
-ghost use Rattle.sheet.specs.Layout.{first-edition};
-ghost use Rattle.sheet.specs.between.Encode.{parts};
-ghost use Rattle.meaning.specs.between.Sections.{number_at, ranges, goal, operators-at, actions-from, meaning};
-ghost use Rattle.meaning.specs.between.Order.{ordered};
-ghost use Rattle.meaning.specs.between.Writable.{actions-fit};
-ghost use Rattle.meaning.specs.between.Gathered.{Small};
-ghost use Rattle.sheet_writer.specs.between.Laid.{first_word};
-ghost use Rattle.task_sheet.specs.between.Parts.{action-parts, facts-fit, Lays};
+ghost use Rattle.sheet.specs.Layout.{first_edition};
+ghost use Rattle.sheet.specs.Between.Encode.{parts};
+ghost use Rattle.meaning.specs.Between.Sections.{number_at, ranges, goal, operators_at, actions_from, meaning};
+ghost use Rattle.meaning.specs.Between.Order.{ordered};
+ghost use Rattle.meaning.specs.Between.Writable.{actions_fit};
+ghost use Rattle.meaning.specs.Between.Gathered.{Small};
+ghost use Rattle.sheet_writer.specs.Between.Laid.{first_word};
+ghost use Rattle.task_sheet.specs.Between.Parts.{action_parts, facts_fit, Lays};
 
 use crate::action::{Written, write_action, write_goal};
 use meaning::numbers::{RANGES_AT, cost_at};
@@ -28,8 +28,8 @@ fn write_actions(
 ) -> Written
     requires { Small x.now × (from ≤ 2 ^ 36) × (n ≤ limits.actions) × (limits.variables ≤ length slots.old)
         × (first_word n ≤ at) × (at ≤ first_word n + 3 * limits.variables) }
-    ensures { Lays (actions-fit (ranges x.now) (actions-from x.now from n))
-        3 (action-parts (actions-from x.now from n)) sheet.old sheet.new at result }
+    ensures { Lays (actions_fit (ranges x.now) (actions_from x.now from n))
+        3 (action_parts (actions_from x.now from n)) sheet.old sheet.new at result }
 {
     let mut i = from;
     let mut to = at;
@@ -53,9 +53,9 @@ fn write_actions(
 // Writes all parts and their pairs, of v variables and of the n operators whose numbers begin at index `from`.
 pub(crate) fn write_parts(x: &[u32], v: usize, from: usize, n: usize, sheet: &mut [u32]) -> Written
     requires { Small x.now × (v ≡ length (ranges x.now)) × (n ≤ limits.actions)
-        × (from ≡ operators-at x.now + 1) × (n ≡ number_at x.now (operators-at x.now)) × (from ≤ 2 ^ 36) }
-    ensures { Lays (facts-fit (meaning x.now)) 0
-        (parts first-edition (ordered (meaning x.now)))
+        × (from ≡ operators_at x.now + 1) × (n ≡ number_at x.now (operators_at x.now)) × (from ≤ 2 ^ 36) }
+    ensures { Lays (facts_fit (meaning x.now)) 0
+        (parts first_edition (ordered (meaning x.now)))
         sheet.old sheet.new (first_word n) result }
 {
     let initial = PAIRS_AT + PAIR * (FIRST_ACTION + n) + v;

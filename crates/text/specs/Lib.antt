@@ -2,4 +2,4 @@
 pub mod Text
 pub mod Limits
 -- between: what functions hand to each other, which need not be believed.
-pub mod between
+pub mod Between

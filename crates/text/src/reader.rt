@@ -1,8 +1,8 @@
 // The reading of a text, byte by byte.
 ghost use Rattle.std.specs.Prelude.{◌≡◌, false, List, [], ◌∷◌, ℕ, ◌+◌, ◌<◌, ◌^◌, length};
-ghost use Rattle.text.specs.Text.{blank as is-blank, found_in, reading-of};
-ghost use Rattle.text.specs.between.Reading.{ends-field, still, at-blank, at-comment, at-word};
-ghost use Rattle.text.specs.between.Reading.{Reads, Starts, Stores};
+ghost use Rattle.text.specs.Text.{blank as is-blank, found_in, reading_of};
+ghost use Rattle.text.specs.Between.Reading.{ends_field, still, at_blank, at_comment, at_word};
+ghost use Rattle.text.specs.Between.Reading.{Reads, Starts, Stores};
 
 use crate::limits::TEXT;
 use access::put;
@@ -57,7 +57,7 @@ fn blank(byte: u8) -> bool
 
 // Whether a field is over before this byte.
 fn ends_field(byte: u8) -> bool
-    ensures { result ≡ ends-field byte }
+    ensures { result ≡ ends_field byte }
 {
     if byte == LINE_END {
         return true;
@@ -70,8 +70,8 @@ fn ends_field(byte: u8) -> bool
 
 // Takes one more byte of a field whose digits so far have this value.
 fn grow(line: u64, count: usize, value: u32, byte: u8) -> Reader
-    requires { ends-field byte ≡ false }
-    ensures { (ws : List ℕ) → Reads (at-word value line count) ws (byte ∷ []) result ws }
+    requires { ends_field byte ≡ false }
+    ensures { (ws : List ℕ) → Reads (at_word value line count) ws (byte ∷ []) result ws }
 {
     if byte < b'0' {
         return Reader {
@@ -105,7 +105,7 @@ fn grow(line: u64, count: usize, value: u32, byte: u8) -> Reader
 // Takes one more byte in white space.
 fn skip(line: u64, count: usize, byte: u8) -> Reader
     requires { line + 1 < 2 ^ 64 }
-    ensures { (ws : List ℕ) → Reads (at-blank line count) ws (byte ∷ []) result ws }
+    ensures { (ws : List ℕ) → Reads (at_blank line count) ws (byte ∷ []) result ws }
 {
     if byte == LINE_END {
         return Reader {
@@ -134,7 +134,7 @@ fn skip(line: u64, count: usize, byte: u8) -> Reader
 // Takes one more byte in a comment.
 fn pass(line: u64, count: usize, byte: u8) -> Reader
     requires { line + 1 < 2 ^ 64 }
-    ensures { (ws : List ℕ) → Reads (at-comment line count) ws (byte ∷ []) result ws }
+    ensures { (ws : List ℕ) → Reads (at_comment line count) ws (byte ∷ []) result ws }
 {
     if byte == LINE_END {
         return Reader {
@@ -215,7 +215,7 @@ fn feed_all(reader: Reader, bytes: &[u8], words: &mut [u32]) -> Reader
 
 // Ends the reading, at the end of the text.
 fn finish(reader: Reader, words: &mut [u32]) -> Ending
-    ensures { reading-of result words.new ≡ still reader words.old [] }
+    ensures { reading_of result words.new ≡ still reader words.old [] }
 {
     let mode = reader.mode;
     let line = reader.line;
@@ -236,7 +236,7 @@ fn finish(reader: Reader, words: &mut [u32]) -> Ending
 
 // Reads a whole text.
 pub fn read_whole(text: &[u8], words: &mut [u32]) -> Ending
-    ensures { reading-of result words.new ≡ found_in (length words.old) text.now }
+    ensures { reading_of result words.new ≡ found_in (length words.old) text.now }
 {
     if TEXT < text.len() {
         return Ending::Long;

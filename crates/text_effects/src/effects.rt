@@ -1,8 +1,8 @@
 // Effects, and the heads of axioms, which are like effects without conditions.
 ghost use Rattle.std.specs.Prelude.{◌≡◌, [], ◌∷◌, ◌≤◌, ◌<◌, ◌^◌, length};
-ghost use Rattle.form.specs.between.Form.{Effect, Head, numbers, times};
-ghost use Rattle.form.specs.between.Reading.{Within, Room, Reads};
-ghost use Rattle.text_effects.specs.between.Runs.{Reads-run, Reads-change};
+ghost use Rattle.form.specs.Between.Form.{Effect, Head, numbers, times};
+ghost use Rattle.form.specs.Between.Reading.{Within, Room, Reads};
+ghost use Rattle.text_effects.specs.Between.Runs.{ReadsRun, ReadsChange};
 
 use access::put;
 use fields::word::{Behind, read_number, read_word};
@@ -19,7 +19,7 @@ pub struct Run {
 // Reads n numbers, each with a space behind it, to the tape from index `from` on.
 fn read_run(text: &[u8], at: usize, tape: &mut [u32], from: usize, n: usize) -> Run
     requires { (at ≤ length text.now) × (from ≤ length text.now) × (n < 2 ^ 40) }
-    ensures { Reads-run text.now at tape.old from n result tape.new }
+    ensures { ReadsRun text.now at tape.old from n result tape.new }
 {
     let mut to = at;
     let mut k = 0;
@@ -46,7 +46,7 @@ fn read_run(text: &[u8], at: usize, tape: &mut [u32], from: usize, n: usize) -> 
 // Reads what ends such a line, `variable old new`, to the tape from index `from` on.
 fn read_change(text: &[u8], at: usize, tape: &mut [u32], from: usize) -> Run
     requires { (at ≤ length text.now) × (from < 2 ^ 63) }
-    ensures { Reads-change text.now at tape.old from result tape.new }
+    ensures { ReadsChange text.now at tape.old from result tape.new }
 {
     let variable = read_number(text, at);
     let first = variable.behind;

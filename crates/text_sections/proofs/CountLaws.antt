@@ -5,68 +5,68 @@ use mathlib.Core.Bool.{Bool, true, false}
 use mathlib.Core.List.{List, [], ◌∷◌}
 use Rattle.text_sections.specs.declared.sections.Block.TheVariants as block
 use Rattle.form.specs.declared.reader.Reader.{Reader}
-use Rattle.form.specs.between.Form.{Row, Value, Count, Counted, Variables, Values, Groups, GroupFacts, Facts, Operators, Effects, Axioms, Conditions}
-use Rattle.form.specs.between.Form.{name, numbers, Effect, numbers_fit, row_keeps, row-bars, times, axiom-lines, after-variables, after-count}
-use Rattle.form.specs.between.Reading.{Within, Reads-row}
-use Rattle.number_rows.specs.between.Rows.{Plain-row}
+use Rattle.form.specs.Between.Form.{Row, Value, Count, Counted, Variables, Values, Groups, GroupFacts, Facts, Operators, Effects, Axioms, Conditions}
+use Rattle.form.specs.Between.Form.{name, numbers, Effect, numbers_fit, row_keeps, row_bars, times, axiom_lines, after_variables, after_count}
+use Rattle.form.specs.Between.Reading.{Within, ReadsRow}
+use Rattle.number_rows.specs.Between.Rows.{PlainRow}
 use Rattle.number_rows.proofs.RowLaws.{plain_value}
-use Rattle.text_sections.specs.between.Sections.{Counts-facts, Counts-blocks}
+use Rattle.text_sections.specs.Between.Sections.{CountsFacts, CountsBlocks}
 
-plain-count : (keeps : Bool) (what : Counted) → row_keeps (Count what) ≡ keeps → ((xs : List ℕ) → row-bars (Count what) xs ≡ false) → Plain-row keeps (Count what)
+plain_count : (keeps : Bool) (what : Counted) → row_keeps (Count what) ≡ keeps → ((xs : List ℕ) → row_bars (Count what) xs ≡ false) → PlainRow keeps (Count what)
 unfolding numbers_fit
-plain-count keeps what kept passes = record { fits = λ xs. refl; kept = kept; passes = passes; adds = λ x. refl }
+plain_count keeps what kept passes = record { fits = λ xs. refl; kept = kept; passes = passes; adds = λ x. refl }
 
-pub plain-variables : Plain-row true (Count Variables)
-plain-variables = plain-count true Variables refl (λ xs. refl)
+pub plain_variables : PlainRow true (Count Variables)
+plain_variables = plain_count true Variables refl (λ xs. refl)
 
-pub plain-values : Plain-row true (Count Values)
-plain-values = plain-count true Values refl (λ xs. refl)
+pub plain_values : PlainRow true (Count Values)
+plain_values = plain_count true Values refl (λ xs. refl)
 
-pub plain-effects : Plain-row true (Count Effects)
-plain-effects = plain-count true Effects refl (λ xs. refl)
+pub plain_effects : PlainRow true (Count Effects)
+plain_effects = plain_count true Effects refl (λ xs. refl)
 
 -- facts that are counted: of the goal and of prevail conditions, of mutex groups, and the conditions of axioms
-pub counted-facts : Counts-facts true Facts
-unfolding after-count
-counted-facts = record { plain-count = plain-count true Facts refl (λ xs. refl); lines = λ n. refl }
+pub counted_facts : CountsFacts true Facts
+unfolding after_count
+counted_facts = record { plain_count = plain_count true Facts refl (λ xs. refl); lines = λ n. refl }
 
-pub counted-group-facts : Counts-facts false GroupFacts
-unfolding after-count
-counted-group-facts = record { plain-count = plain-count false GroupFacts refl (λ xs. refl); lines = λ n. refl }
+pub counted_group_facts : CountsFacts false GroupFacts
+unfolding after_count
+counted_group_facts = record { plain_count = plain_count false GroupFacts refl (λ xs. refl); lines = λ n. refl }
 
-pub counted-conditions : Counts-facts false Conditions
-unfolding after-count
-counted-conditions = record { plain-count = plain-count false Conditions refl (λ xs. refl); lines = λ n. refl }
+pub counted_conditions : CountsFacts false Conditions
+unfolding after_count
+counted_conditions = record { plain_count = plain_count false Conditions refl (λ xs. refl); lines = λ n. refl }
 
 -- blocks that are counted
-pub counted-groups : Counts-blocks false block.Group Groups
-unfolding after-count
-counted-groups = record { plain-count = plain-count false Groups refl (λ xs. refl); lines = λ n. refl }
+pub counted_groups : CountsBlocks false block.Group Groups
+unfolding after_count
+counted_groups = record { plain_count = plain_count false Groups refl (λ xs. refl); lines = λ n. refl }
 
-pub counted-operators : Counts-blocks true block.Operator Operators
-unfolding after-count
-counted-operators = record { plain-count = plain-count true Operators refl (λ xs. refl); lines = λ n. refl }
+pub counted_operators : CountsBlocks true block.Operator Operators
+unfolding after_count
+counted_operators = record { plain_count = plain_count true Operators refl (λ xs. refl); lines = λ n. refl }
 
 -- what follows the other numbers that count
 module _ (n : ℕ) where
-  pub values-follow : after-count Values n ≡ times n (name ∷ [])
-  unfolding after-count
-  values-follow = refl
+  pub values_follow : after_count Values n ≡ times n (name ∷ [])
+  unfolding after_count
+  values_follow = refl
 
-  pub effects-follow : after-count Effects n ≡ times n (numbers Effect ∷ [])
-  unfolding after-count
-  effects-follow = refl
+  pub effects_follow : after_count Effects n ≡ times n (numbers Effect ∷ [])
+  unfolding after_count
+  effects_follow = refl
 
-  pub axioms-follow : after-count Axioms n ≡ times n axiom-lines
-  unfolding after-count
-  axioms-follow = refl
+  pub axioms_follow : after_count Axioms n ≡ times n axiom_lines
+  unfolding after_count
+  axioms_follow = refl
 
-  pub variables-follow : after-count Variables n ≡ after-variables n
-  unfolding after-count
-  variables-follow = refl
+  pub variables_follow : after_count Variables n ≡ after_variables n
+  unfolding after_count
+  variables_follow = refl
 
 -- what reads every line of one number, kept or not, stays in the text
-pub plain-within : (keeps : Bool) {text : List ℕ} {r s : Reader} {tape tape' : List ℕ}
-    → ((row : Row) → Plain-row keeps row → Reads-row row text r tape s tape') → Within text s
-plain-within true read = (read Value plain_value).within
-plain-within false read = (read (Count GroupFacts) counted-group-facts.plain-count).within
+pub plain_within : (keeps : Bool) {text : List ℕ} {r s : Reader} {tape tape' : List ℕ}
+    → ((row : Row) → PlainRow keeps row → ReadsRow row text r tape s tape') → Within text s
+plain_within true read = (read Value plain_value).within
+plain_within false read = (read (Count GroupFacts) counted_group_facts.plain_count).within

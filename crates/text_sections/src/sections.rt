@@ -1,10 +1,10 @@
 // The sections of a text.
 ghost use Rattle.std.specs.Prelude.{[], ◌∷◌};
-ghost use Rattle.form.specs.between.Form.{Counted, Values, Effects, Axioms, counts, times, variable-lines, group_lines};
-ghost use Rattle.form.specs.between.Form.{operator-lines, axiom-lines, state-lines, goal-lines, front-lines};
-ghost use Rattle.form.specs.between.Form.{after-variables};
-ghost use Rattle.form.specs.between.Reading.{Within, Room, Reads};
-ghost use Rattle.text_sections.specs.between.Sections.{Counts-facts, Counts-blocks, block-lines};
+ghost use Rattle.form.specs.Between.Form.{Counted, Values, Effects, Axioms, counts, times, variable_lines, group_lines};
+ghost use Rattle.form.specs.Between.Form.{operator_lines, axiom_lines, state_lines, goal_lines, front_lines};
+ghost use Rattle.form.specs.Between.Form.{after_variables};
+ghost use Rattle.form.specs.Between.Reading.{Within, Room, Reads};
+ghost use Rattle.text_sections.specs.Between.Sections.{CountsFacts, CountsBlocks, block_lines};
 
 use access::word;
 use form::lines::{keyword, name, names};
@@ -34,7 +34,7 @@ fn count_names(text: &[u8], r: Reader, tape: &mut [u32]) -> Reader
 // Reads how many facts there are, and those facts, which are kept or not.
 fn count_facts(text: &[u8], r: Reader, tape: &mut [u32], keeps: bool) -> Reader
     requires { Within text.now r × Room text.now tape.old }
-    ensures { (what : Counted) → Counts-facts keeps what
+    ensures { (what : Counted) → CountsFacts keeps what
         → Reads (counts what ∷ []) text.now r tape.old result tape.new }
 {
     let counted = read_plain(text, r, tape, keeps);
@@ -52,7 +52,7 @@ fn count_effects(text: &[u8], r: Reader, tape: &mut [u32]) -> Reader
 
 fn read_variable(text: &[u8], r: Reader, tape: &mut [u32]) -> Reader
     requires { Within text.now r × Room text.now tape.old }
-    ensures { Reads variable-lines text.now r tape.old result tape.new }
+    ensures { Reads variable_lines text.now r tape.old result tape.new }
 {
     let begun = keyword(text, r, b"begin_variable");
     let named = name(text, begun);
@@ -72,7 +72,7 @@ fn read_group(text: &[u8], r: Reader, tape: &mut [u32]) -> Reader
 
 fn read_operator(text: &[u8], r: Reader, tape: &mut [u32]) -> Reader
     requires { Within text.now r × Room text.now tape.old }
-    ensures { Reads operator-lines text.now r tape.old result tape.new }
+    ensures { Reads operator_lines text.now r tape.old result tape.new }
 {
     let begun = keyword(text, r, b"begin_operator");
     let named = name(text, begun);
@@ -84,7 +84,7 @@ fn read_operator(text: &[u8], r: Reader, tape: &mut [u32]) -> Reader
 
 fn read_axiom(text: &[u8], r: Reader, tape: &mut [u32]) -> Reader
     requires { Within text.now r × Room text.now tape.old }
-    ensures { Reads axiom-lines text.now r tape.old result tape.new }
+    ensures { Reads axiom_lines text.now r tape.old result tape.new }
 {
     let begun = keyword(text, r, b"begin_rule");
     let needed = count_facts(text, begun, tape, false);
@@ -94,7 +94,7 @@ fn read_axiom(text: &[u8], r: Reader, tape: &mut [u32]) -> Reader
 
 fn read_block(text: &[u8], r: Reader, tape: &mut [u32], block: Block) -> Reader
     requires { Within text.now r × Room text.now tape.old }
-    ensures { Reads (block-lines block) text.now r tape.old result tape.new }
+    ensures { Reads (block_lines block) text.now r tape.old result tape.new }
 {
     match block {
         Block::Variable => read_variable(text, r, tape),
@@ -107,7 +107,7 @@ fn read_block(text: &[u8], r: Reader, tape: &mut [u32], block: Block) -> Reader
 // Reads n blocks.
 fn read_blocks(text: &[u8], r: Reader, tape: &mut [u32], block: Block, n: usize) -> Reader
     requires { Within text.now r × Room text.now tape.old }
-    ensures { Reads (times n (block-lines block)) text.now r tape.old
+    ensures { Reads (times n (block_lines block)) text.now r tape.old
         result tape.new }
 {
     let mut current = r;
@@ -125,7 +125,7 @@ fn read_blocks(text: &[u8], r: Reader, tape: &mut [u32], block: Block, n: usize)
 // Reads how many blocks there are, a number that is kept or not, and those blocks.
 fn count_blocks(text: &[u8], r: Reader, tape: &mut [u32], keeps: bool, block: Block) -> Reader
     requires { Within text.now r × Room text.now tape.old }
-    ensures { (what : Counted) → Counts-blocks keeps block what
+    ensures { (what : Counted) → CountsBlocks keeps block what
         → Reads (counts what ∷ []) text.now r tape.old result tape.new }
 {
     let counted = read_plain(text, r, tape, keeps);
@@ -149,7 +149,7 @@ fn count_axioms(text: &[u8], r: Reader, tape: &mut [u32]) -> Reader
 
 fn read_state(text: &[u8], r: Reader, tape: &mut [u32], n: usize) -> Reader
     requires { Within text.now r × Room text.now tape.old }
-    ensures { Reads (state-lines n) text.now r tape.old result tape.new }
+    ensures { Reads (state_lines n) text.now r tape.old result tape.new }
 {
     let begun = keyword(text, r, b"begin_state");
     let valued = read_values(text, begun, tape, n);
@@ -158,7 +158,7 @@ fn read_state(text: &[u8], r: Reader, tape: &mut [u32], n: usize) -> Reader
 
 fn read_goal(text: &[u8], r: Reader, tape: &mut [u32]) -> Reader
     requires { Within text.now r × Room text.now tape.old }
-    ensures { Reads goal-lines text.now r tape.old result tape.new }
+    ensures { Reads goal_lines text.now r tape.old result tape.new }
 {
     let begun = keyword(text, r, b"begin_goal");
     let listed = count_facts(text, begun, tape, true);
@@ -168,7 +168,7 @@ fn read_goal(text: &[u8], r: Reader, tape: &mut [u32]) -> Reader
 // Reads the version and the metric.
 pub(crate) fn read_front(text: &[u8], r: Reader, tape: &mut [u32]) -> Reader
     requires { Within text.now r × Room text.now tape.old }
-    ensures { Reads front-lines text.now r tape.old result tape.new }
+    ensures { Reads front_lines text.now r tape.old result tape.new }
 {
     let begun = keyword(text, r, b"begin_version");
     let third = keyword(text, begun, b"3");
@@ -181,7 +181,7 @@ pub(crate) fn read_front(text: &[u8], r: Reader, tape: &mut [u32]) -> Reader
 // Reads what follows the number of variables.
 pub(crate) fn read_rest(text: &[u8], r: Reader, tape: &mut [u32], n: usize) -> Reader
     requires { Within text.now r × Room text.now tape.old }
-    ensures { Reads (after-variables n) text.now r tape.old result tape.new }
+    ensures { Reads (after_variables n) text.now r tape.old result tape.new }
 {
     let variables = read_blocks(text, r, tape, Block::Variable, n);
     let groups = count_blocks(text, variables, tape, false, Block::Group);

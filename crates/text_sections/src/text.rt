@@ -1,8 +1,8 @@
 // The reading of a whole text.
 ghost use Rattle.std.specs.Prelude.{◌≡◌, length};
-ghost use Rattle.form.specs.between.Form.{text-lines};
-ghost use Rattle.form.specs.between.Reading.{Within, Room, Reads};
-ghost use Rattle.text_sections.specs.between.Outcome.{outcome-of, found_in};
+ghost use Rattle.form.specs.Between.Form.{text_lines};
+ghost use Rattle.form.specs.Between.Reading.{Within, Room, Reads};
+ghost use Rattle.text_sections.specs.Between.Outcome.{outcome_of, found_in};
 
 use crate::sections::{read_front, read_rest};
 use access::word;
@@ -20,7 +20,7 @@ pub enum Form {
 // Reads all lines that a text must have.
 fn read_all(text: &[u8], r: Reader, tape: &mut [u32]) -> Reader
     requires { Within text.now r × Room text.now tape.old }
-    ensures { Reads text-lines text.now r tape.old result tape.new }
+    ensures { Reads text_lines text.now r tape.old result tape.new }
 {
     let front = read_front(text, r, tape);
     let counted = read_plain(text, front, tape, true);
@@ -30,7 +30,7 @@ fn read_all(text: &[u8], r: Reader, tape: &mut [u32]) -> Reader
 // Reads a text, and puts its numbers to the front of the tape. A text of more than two bytes for each number that the
 // tape has room for is too long.
 pub fn read_text(text: &[u8], tape: &mut [u32]) -> Form
-    ensures { outcome-of result tape.new ≡ found_in (length tape.old) text.now }
+    ensures { outcome_of result tape.new ≡ found_in (length tape.old) text.now }
 {
     if 2 * tape.len() < text.len() {
         return Form::Broken(0);

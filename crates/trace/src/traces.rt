@@ -2,10 +2,10 @@
 ghost use Rattle.std.specs.Prelude.{◌≡◌};
 ghost use Rattle.sheet.specs.Limits.{limits};
 ghost use Rattle.sheet.specs.Decode.{initial as initial-of};
-ghost use Rattle.sheet.specs.between.Effects.{written_in, always-in, first-always};
+ghost use Rattle.sheet.specs.Between.Effects.{written_in, always_in, first_always};
 ghost use Rattle.step.specs.State.{in_array};
-ghost use Rattle.trace.specs.between.Traces.{until-at, supporting, trace-wrote, traces-wrote};
-ghost use Rattle.trace.specs.between.Traces.{latest-wrote, latest-each, tables, wrote-each, started};
+ghost use Rattle.trace.specs.Between.Traces.{until_at, supporting, trace_wrote, traces_wrote};
+ghost use Rattle.trace.specs.Between.Traces.{latest_wrote, latest_each, tables, wrote_each, started};
 
 use access::{byte, put, put8, word};
 use fact_table::FACTS;
@@ -32,7 +32,7 @@ pub const LATEST: usize = VARIABLE * Sheet::VARIABLES;
 
 // One more than the position of the last marked step that wrote another value to a fact's variable; 0 for none.
 fn until(latest: &[u32], fact: u32) -> u32
-    ensures { result ≡ until-at latest.now fact }
+    ensures { result ≡ until_at latest.now fact }
 {
     let v = VARIABLE * (fact as usize / Sheet::VALUES);
     if word(latest, v) == fact {
@@ -52,7 +52,7 @@ fn support(last: u8, until: u32, at: u8) -> u8
 // The step at this position writes a fact: its support, told by what earlier steps wrote, and the step as its last
 // writer. A fact that the step has written already stays as it is.
 fn note_fact(traces: &mut [u8], latest: &[u32], at: u8, fact: u32)
-    ensures { traces.new ≡ trace-wrote at latest.now fact traces.old }
+    ensures { traces.new ≡ trace_wrote at latest.now fact traces.old }
 {
     let here = TRACE * fact as usize;
     let last = byte(traces, here);
@@ -66,7 +66,7 @@ fn note_fact(traces: &mut [u8], latest: &[u32], at: u8, fact: u32)
 
 // The same of all facts that its effects may write.
 fn note_effects(words: &[u32], traces: &mut [u8], latest: &[u32], at: u8, effects: Effects)
-    ensures { traces.new ≡ traces-wrote at latest.now
+    ensures { traces.new ≡ traces_wrote at latest.now
         (written_in words.now effects) traces.old }
 {
     let mut rest = effects;
@@ -78,7 +78,7 @@ fn note_effects(words: &[u32], traces: &mut [u8], latest: &[u32], at: u8, effect
 
 // The marked step at this position writes a fact, as the last one that wrote its variable.
 fn mark_fact(latest: &mut [u32], at: u8, fact: u32)
-    ensures { latest.new ≡ latest-wrote at fact latest.old }
+    ensures { latest.new ≡ latest_wrote at fact latest.old }
 {
     let seen = until(latest, fact);
     let v = VARIABLE * (fact as usize / Sheet::VALUES);
@@ -90,8 +90,8 @@ fn mark_fact(latest: &mut [u32], at: u8, fact: u32)
 // The same of the fact of its first effect, where that has no condition: another value counts only where it is always
 // written.
 fn mark_first(words: &[u32], latest: &mut [u32], at: u8, effects: Effects)
-    ensures { latest.new ≡ latest-each at
-        (first-always words.now effects) latest.old }
+    ensures { latest.new ≡ latest_each at
+        (first_always words.now effects) latest.old }
 {
     let condition = effects.condition(words);
     if condition.at < condition.end {
@@ -102,8 +102,8 @@ fn mark_first(words: &[u32], latest: &mut [u32], at: u8, effects: Effects)
 
 // The same of all its effects.
 fn mark_effects(words: &[u32], latest: &mut [u32], at: u8, effects: Effects)
-    ensures { latest.new ≡ latest-each at
-        (always-in words.now effects) latest.old }
+    ensures { latest.new ≡ latest_each at
+        (always_in words.now effects) latest.old }
 {
     let mut rest = effects;
     while rest.at < rest.end {
@@ -123,7 +123,7 @@ pub fn write_effects(
     effects: Effects,
 )
     ensures { tables traces.new latest.new
-        ≡ wrote-each at marked (written_in words.now effects) (always-in words.now effects)
+        ≡ wrote_each at marked (written_in words.now effects) (always_in words.now effects)
         (tables traces.old latest.old) }
 {
     note_effects(words, traces, latest, at, effects);

@@ -8,23 +8,23 @@ use lib.ListN.{length}
 use lib.Seq.{length-take-le}
 use lib.IntN.{ℤ, pos}
 use Rattle.io.specs.Counts.{IsPrefixLen, clamp_len}
-use Rattle.translate.specs.Input.{Has-read-text}
+use Rattle.translate.specs.Input.{HasReadText}
 
 module _ (bytes : List ℕ) (have : ℕ) (last : ℤ) where
-  counted-front : have ≤ length bytes → IsPrefixLen have bytes
-  counted-front low = (low, sym (length-take-le have bytes low))
+  counted_front : have ≤ length bytes → IsPrefixLen have bytes
+  counted_front low = (low, sym (length-take-le have bytes low))
 
   -- a read that had room gave no byte, or failed
-  pub read-no-more : (more room : ℕ) → have ≤ length bytes → 0 < room → more ≡ clamp_len last room → more ≡ 0
-      → Has-read-text bytes (record { count = have; last = last })
-  read-no-more more room low some is none =
+  pub read_no_more : (more room : ℕ) → have ≤ length bytes → 0 < room → more ≡ clamp_len last room → more ≡ 0
+      → HasReadText bytes (record { count = have; last = last })
+  read_no_more more room low some is none =
       record {
-        counted = counted-front low;
+        counted = counted_front low;
         to_the_end = λ k gave.
             let least : min k room ≡ 0 = sym (ap (λ z. clamp_len z room) gave) ∙ sym is ∙ none in
             inl (omega arith);
       }
 
   -- the bytes lent are full
-  pub read-full : have ≡ length bytes → Has-read-text bytes (record { count = have; last = last })
-  read-full all = record { counted = counted-front (omega arith); to_the_end = λ k gave. inr all }
+  pub read_full : have ≡ length bytes → HasReadText bytes (record { count = have; last = last })
+  read_full all = record { counted = counted_front (omega arith); to_the_end = λ k gave. inr all }

@@ -1,6 +1,6 @@
 -- What the program answers: what it writes to standard output, and what it says on standard error. Assumes nothing.
 use Rattle.std.specs.Prelude.{ℕ, List, [], ◌∷◌, ◌++◌}
-use Rattle.ascii.specs.Bytes.{line-end}
+use Rattle.ascii.specs.Bytes.{line_end}
 use Rattle.lines.specs.Prints.{Prints}
 use Rattle.translate.specs.declared.answer.Answered.{Answered}
 
@@ -9,12 +9,12 @@ pub record Answer : Type 0 where
   pub said : List ℕ
 
 -- a text is written, and nothing is said
-abbrev pub only-writes : List ℕ → Answer
-only-writes text = record { written = text; said = [] }
+abbrev pub only_writes : List ℕ → Answer
+only_writes text = record { written = text; said = [] }
 
 -- nothing is written, and a line is said
-abbrev pub only-says : List ℕ → Answer
-only-says what = record { written = []; said = what ++ (line-end ∷ []) }
+abbrev pub only_says : List ℕ → Answer
+only_says what = record { written = []; said = what ++ (line_end ∷ []) }
 
 -- an answer at the front of lent bytes: they hold it as far as there is room, and every other byte is as it was
 pub record Gives (a : Answer) (out out' errors errors' : List ℕ) (r : Answered) : Type 0 where

@@ -6,34 +6,34 @@ use Rattle.ascii.specs.Bytes.{ascii}
 use Rattle.refusal.specs.Refusal.{Told}
 use Rattle.refusal.specs.Check.{answer}
 use Rattle.sheet.specs.Limits.{limits}
-use Rattle.records.specs.Bytes.{all-bytes}
-use Rattle.program.specs.Printed.{refusal-line}
+use Rattle.records.specs.Bytes.{all_bytes}
+use Rattle.program.specs.Printed.{refusal_line}
 use Rattle.translate.specs.declared.translate.Translating.{Translating}
-use Rattle.translate.specs.Input.{Has-read-text}
-use Rattle.translate.specs.Answer.{Answer, only-writes, only-says, Gives}
-use Rattle.translation.specs.between.Checks.{text-sheet, translation-checks}
+use Rattle.translate.specs.Input.{HasReadText}
+use Rattle.translate.specs.Answer.{Answer, only_writes, only_says, Gives}
+use Rattle.translation.specs.Between.Checks.{text_sheet, translation_checks}
 
 -- a refusal: nothing is written, and its line is said
-abbrev pub only-refuses : Told → Answer
-only-refuses t = record { written = []; said = refusal-line t }
+abbrev pub only_refuses : Told → Answer
+only_refuses t = record { written = []; said = refusal_line t }
 
 -- with room for as many words as a sheet may have: the first check that fires is answered; where none does, the bytes
 -- of the sheet's words are written
 unfoldable pub translated : List ℕ → Answer
 translated text =
-    elim (answer (translation-checks text limits.words)) [
-      | none ↦ only-writes (all-bytes (text-sheet text))
-      | some t ↦ only-refuses t
+    elim (answer (translation_checks text limits.words)) [
+      | none ↦ only_writes (all_bytes (text_sheet text))
+      | some t ↦ only_refuses t
     ]
 
 -- and to input of which these bytes were read, where the last call of `read` gave this: a negative number says that it
 -- failed
-abbrev pub translated-input : ℤ → List ℕ → Answer
-translated-input (pos k) text = translated text
-translated-input (negsuc k) text = only-says (ascii "the text can't be read")
+abbrev pub translated_input : ℤ → List ℕ → Answer
+translated_input (pos k) text = translated text
+translated_input (negsuc k) text = only_says (ascii "the text can't be read")
 
 -- what the program has done: what it has read, and its answer, which is that to the bytes read and the last call
-pub record Has-translated (bytes : List ℕ) (done : Translating) (out out' errors errors' : List ℕ) : Type 0 where
-  pub read : Has-read-text bytes done.input
-  pub gives : Gives (translated-input done.input.last (take done.input.count bytes)) out out' errors errors'
+pub record HasTranslated (bytes : List ℕ) (done : Translating) (out out' errors errors' : List ℕ) : Type 0 where
+  pub read : HasReadText bytes done.input
+  pub gives : Gives (translated_input done.input.last (take done.input.count bytes)) out out' errors errors'
       done.answer

@@ -1,6 +1,6 @@
 // What the program answers, in lent bytes: what it writes to standard output, and what it says on standard error.
 ghost use Rattle.std.specs.Prelude.{List, ℕ};
-ghost use Rattle.translate.specs.Answer.{only-says, Gives};
+ghost use Rattle.translate.specs.Answer.{only_says, Gives};
 
 use libc::{STDERR_FILENO, STDOUT_FILENO};
 use lines::put_text;
@@ -14,7 +14,7 @@ pub(crate) struct Answered {
 
 // Says a line and writes nothing.
 pub(crate) fn refuse(errors: &mut [u8], what: &[u8]) -> Answered
-    ensures { (out : List ℕ) → Gives (only-says what.now) out out
+    ensures { (out : List ℕ) → Gives (only_says what.now) out out
         errors.old errors.new result }
 {
     let end = put_text(errors, 0, what);

@@ -1,5 +1,5 @@
 // The reading of standard input.
-ghost use Rattle.translate.specs.Input.{Has-read-text};
+ghost use Rattle.translate.specs.Input.{HasReadText};
 
 use libc::STDIN_FILENO;
 
@@ -13,7 +13,7 @@ pub(crate) struct Input {
 
 // Reads the input to its end, or until the bytes lent are full, or a read fails.
 pub(crate) fn read_input(bytes: &mut [u8]) -> Input
-    ensures { Has-read-text bytes.new result }
+    ensures { HasReadText bytes.new result }
 {
     let mut have = 0;
     let mut last = 0;

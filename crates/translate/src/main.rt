@@ -1,6 +1,8 @@
 // The program that turns a planner's text (document 02, C-11) into the words of its sheet, in the form in which the
 // programs read one. A text that is refused gets the line of its refusal on standard error, and no word is written.
 // input: the reading of standard input. answer: what is written and said. translate: what is answered to a text.
+#![tactic(auto)]
+
 mod answer;
 mod input;
 mod translate;

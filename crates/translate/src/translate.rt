@@ -2,9 +2,9 @@
 ghost use Rattle.std.specs.Prelude.{◌*◌, ◌≤◌, length, take};
 ghost use Rattle.sheet.specs.Limits.{limits};
 ghost use Rattle.records.specs.RecordForm.{word_bytes};
-ghost use Rattle.program.specs.between.Room.{line-room};
+ghost use Rattle.program.specs.Between.Room.{line_room};
 ghost use Rattle.translate.specs.Answer.{Gives};
-ghost use Rattle.translate.specs.Translate.{translated, translated-input, Has-translated};
+ghost use Rattle.translate.specs.Translate.{translated, translated_input, HasTranslated};
 
 use crate::answer::{Answered, refuse};
 use crate::input::{Input, read_input};
@@ -18,7 +18,7 @@ use translation::translate::{Translated, translate};
 fn translate_text(text: &[u8], out: &mut [u8], errors: &mut [u8]) -> Answered
     ensures gives { Gives (translated text.now) out.old out.new
         errors.old errors.new result }
-    ensures text_len_bound { length (translated text.now).said ≤ line-room }
+    ensures text_len_bound { length (translated text.now).said ≤ line_room }
 {
     let mut words = [0u32; Sheet::WORDS];
     let sheet = translate(text, &mut words);
@@ -42,13 +42,13 @@ pub(crate) struct Translating {
 }
 
 // Reads a text from standard input, and translates it. What is written fits into as many bytes as are asked for
-// (`sheet-bytes-fit`), and what is said into a line.
+// (`sheet_bytes_fit`), and what is said into a line.
 pub(crate) fn translate_input(bytes: &mut [u8], out: &mut [u8], errors: &mut [u8]) -> Translating
-    requires { (word_bytes * limits.words ≤ length out.old) × (line-room ≤ length errors.old) }
-    ensures has_translated { Has-translated bytes.new result
+    requires { (word_bytes * limits.words ≤ length out.old) × (line_room ≤ length errors.old) }
+    ensures has_translated { HasTranslated bytes.new result
         out.old out.new errors.old errors.new }
-    ensures bytes_len_bound { length (translated-input result.input.last (take result.input.count bytes.new)).said
-        ≤ line-room }
+    ensures bytes_len_bound { length (translated_input result.input.last (take result.input.count bytes.new)).said
+        ≤ line_room }
 {
     let input = read_input(bytes);
     let read = input.count;

@@ -10,149 +10,149 @@ use lib.Dec.{eqb, ltb}
 use Rattle.sas.specs.Task.{Assignment, always, Action, Task}
 use Rattle.sas.specs.Task as sas
 use Rattle.sheet.specs.Decode.{table}
-use Rattle.fields.specs.between.Numbers.{most-number}
-use Rattle.meaning.specs.between.Sections.{number_at, facts_at, fact-wide, effect-wide, metric, variables, range-of, ranges, state, goal-at, goal, operators-at, effects-at, cost-at, operator-end, prevail, old-values, new-values, action-at, actions-from, meaning}
+use Rattle.fields.specs.Between.Numbers.{most_number}
+use Rattle.meaning.specs.Between.Sections.{number_at, facts_at, fact_wide, effect_wide, metric, variables, range_of, ranges, state, goal_at, goal, operators_at, effects_at, cost_at, operator_end, prevail, old_values, new_values, action_at, actions_from, meaning}
 use Rattle.planner.specs.Text.{Change, Effect, Operator, Text}
-use Rattle.planner.specs.Printed.{Line, said, keyword, numbers, number-line, fact-numbers, effect-numbers, lines, counted, variable-lines, group_lines, value-lines, fact-lines, effect-lines, operator-lines, axiom-lines, axioms-line}
-use Rattle.planner.specs.Meant.{old-fact, new-fact, meant-effect, meant-action, meant}
-use Rattle.printed_form.specs.between.Datum.{sat}
-use Rattle.printed_form.proofs.DatumLaws.{sat-small}
-use Rattle.printed_form.proofs.BlockLaws.{fact-tape, value-tape, effect-tape, counted-tape, variable-tape, operator-tape}
-use Rattle.printed_form.proofs.TextTheorem.{text-tape}
-use Rattle.translation.proofs.TapeLaws.{number-here, behind, behind-one, sat_fact, facts-told, sat-change, All-sayable, sayable-parts, unconditional, plain-effect, olds-told, news-told}
+use Rattle.planner.specs.Printed.{Line, said, keyword, numbers, number_line, fact_numbers, effect_numbers, lines, counted, variable_lines, group_lines, value_lines, fact_lines, effect_lines, operator_lines, axiom_lines, axioms_line}
+use Rattle.planner.specs.Meant.{old_fact, new_fact, meant_effect, meant_action, meant}
+use Rattle.printed_form.specs.Between.Datum.{sat}
+use Rattle.printed_form.proofs.DatumLaws.{sat_small}
+use Rattle.printed_form.proofs.BlockLaws.{fact_tape, value_tape, effect_tape, counted_tape, variable_tape, operator_tape}
+use Rattle.printed_form.proofs.TextTheorem.{text_tape}
+use Rattle.translation.proofs.TapeLaws.{number_here, behind, behind_one, sat_fact, facts_told, sat_change, AllSayable, sayable_parts, unconditional, plain_effect, olds_told, news_told}
 
 -- a task with each number as it is read
-abbrev pub sat-number : ℕ → ℕ
-sat-number n = sat (some n)
+abbrev pub sat_number : ℕ → ℕ
+sat_number n = sat (some n)
 
-abbrev pub sat-effect : sas.Effect → sas.Effect
-sat-effect e = record { condition = map sat_fact e.condition; fact = sat_fact e.fact }
+abbrev pub sat_effect : sas.Effect → sas.Effect
+sat_effect e = record { condition = map sat_fact e.condition; fact = sat_fact e.fact }
 
-abbrev pub sat-action : Action → Action
-sat-action a = record { precondition = map sat_fact a.precondition; effects = map sat-effect a.effects; cost = sat-number a.cost }
+abbrev pub sat_action : Action → Action
+sat_action a = record { precondition = map sat_fact a.precondition; effects = map sat_effect a.effects; cost = sat_number a.cost }
 
-abbrev pub sat-task : Task → Task
-sat-task T =
+abbrev pub sat_task : Task → Task
+sat_task T =
     record {
-      domains = map sat-number T.domains;
-      actions = map sat-action T.actions;
-      initial = map sat-number T.initial;
+      domains = map sat_number T.domains;
+      actions = map sat_action T.actions;
+      initial = map sat_number T.initial;
       goal = map sat_fact T.goal;
     }
 
 -- the facts of changes, as they are read
-sat-old-fact : (c : Change) → old-fact (sat-change c) ≡ map sat_fact (old-fact c)
-sat-old-fact c = by-case c.old c.new
+sat_old_fact : (c : Change) → old_fact (sat_change c) ≡ map sat_fact (old_fact c)
+sat_old_fact c = by_case c.old c.new
   where
-    by-case : (o : Option ℕ) (n : ℕ) → old-fact (sat-change (record { variable = c.variable; old = o; new = n })) ≡ map sat_fact (old-fact (record { variable = c.variable; old = o; new = n }))
-    by-case none n = refl
-    by-case (some v) n = refl
+    by_case : (o : Option ℕ) (n : ℕ) → old_fact (sat_change (record { variable = c.variable; old = o; new = n })) ≡ map sat_fact (old_fact (record { variable = c.variable; old = o; new = n }))
+    by_case none n = refl
+    by_case (some v) n = refl
 
-sat-olds : (es : List Effect) → flatten (map (λ e. old-fact (sat-change e.change)) es) ≡ map sat_fact (flatten (map (λ e. old-fact e.change) es))
+sat_olds : (es : List Effect) → flatten (map (λ e. old_fact (sat_change e.change)) es) ≡ map sat_fact (flatten (map (λ e. old_fact e.change) es))
 unfolding flatten
-sat-olds [] = refl
-sat-olds (e ∷ es) =
-    ap (λ gs. gs ++ flatten (map (λ d. old-fact (sat-change d.change)) es)) (sat-old-fact e.change)
-    ∙ ap (λ gs. map sat_fact (old-fact e.change) ++ gs) (sat-olds es)
-    ∙ sym (map-append sat_fact (old-fact e.change) (flatten (map (λ d. old-fact d.change) es)))
+sat_olds [] = refl
+sat_olds (e ∷ es) =
+    ap (λ gs. gs ++ flatten (map (λ d. old_fact (sat_change d.change)) es)) (sat_old_fact e.change)
+    ∙ ap (λ gs. map sat_fact (old_fact e.change) ++ gs) (sat_olds es)
+    ∙ sym (map-append sat_fact (old_fact e.change) (flatten (map (λ d. old_fact d.change) es)))
 
-sat-news : (es : List Effect) → All-sayable (flatten (map effect-lines es))
-    → map always (map (λ e. new-fact (sat-change e.change)) es) ≡ map sat-effect (map meant-effect es)
+sat_news : (es : List Effect) → AllSayable (flatten (map effect_lines es))
+    → map always (map (λ e. new_fact (sat_change e.change)) es) ≡ map sat_effect (map meant_effect es)
 unfolding flatten
-sat-news [] all = refl
-sat-news (e ∷ es) (says, others) =
-    ap (λ d. d ∷ map always (map (λ c. new-fact (sat-change c.change)) es)) (ap (λ cs. record { condition = map sat_fact cs; fact = new-fact (sat-change e.change) }) (sym (unconditional e.conditions says)))
-    ∙ ap (λ ds. sat-effect (meant-effect e) ∷ ds) (sat-news es others)
+sat_news [] all = refl
+sat_news (e ∷ es) (says, others) =
+    ap (λ d. d ∷ map always (map (λ c. new_fact (sat_change c.change)) es)) (ap (λ cs. record { condition = map sat_fact cs; fact = new_fact (sat_change e.change) }) (sym (unconditional e.conditions says)))
+    ∙ ap (λ ds. sat_effect (meant_effect e) ∷ ds) (sat_news es others)
 
 -- how many numbers there are
-facts-long : (fs : Assignment) → length (flatten (map fact-tape fs)) ≡ 2 * length fs
+facts_long : (fs : Assignment) → length (flatten (map fact_tape fs)) ≡ 2 * length fs
 unfolding flatten
-facts-long [] = refl
-facts-long (f ∷ fs) = let rest = facts-long fs in omega arith
+facts_long [] = refl
+facts_long (f ∷ fs) = let rest = facts_long fs in omega arith
 
-effects-long : (es : List Effect) → All-sayable (flatten (map effect-lines es)) → length (flatten (map effect-tape es)) ≡ 4 * length es
+effects_long : (es : List Effect) → AllSayable (flatten (map effect_lines es)) → length (flatten (map effect_tape es)) ≡ 4 * length es
 unfolding flatten
-effects-long [] all = refl
-effects-long (e ∷ es) (says, others) =
-    let rest = effects-long es others in
-    let here : length (effect-tape e) ≡ 4 = ap length (plain-effect e says) in
-    length-append (effect-tape e) (flatten (map effect-tape es)) ∙ omega arith
+effects_long [] all = refl
+effects_long (e ∷ es) (says, others) =
+    let rest = effects_long es others in
+    let here : length (effect_tape e) ≡ 4 = ap length (plain_effect e says) in
+    length-append (effect_tape e) (flatten (map effect_tape es)) ∙ omega arith
 
 -- one operator, whose numbers begin at place i
-module _ (x : List ℕ) (b : Bool) (scale : metric x ≡ cond b 1 0) (o : Operator) (i : ℕ) (rest : List ℕ) (is : drop i x ≡ operator-tape o ++ rest)
-    (few-prevail : length o.prevail ≤ most-number) (few-effects : length o.effects ≤ most-number)
-    (says : All-sayable (flatten (map effect-lines o.effects))) where
-  abbrev effects-tape : List ℕ
-  effects-tape = counted-tape effect-tape o.effects ++ (sat (some o.cost) ∷ rest)
+module _ (x : List ℕ) (b : Bool) (scale : metric x ≡ cond b 1 0) (o : Operator) (i : ℕ) (rest : List ℕ) (is : drop i x ≡ operator_tape o ++ rest)
+    (few_prevail : length o.prevail ≤ most_number) (few_effects : length o.effects ≤ most_number)
+    (says : AllSayable (flatten (map effect_lines o.effects))) where
+  abbrev effects_tape : List ℕ
+  effects_tape = counted_tape effect_tape o.effects ++ (sat (some o.cost) ∷ rest)
 
-  all-numbers : drop i x ≡ counted-tape fact-tape o.prevail ++ effects-tape
-  all-numbers =
-      is ∙ append_assoc (counted-tape fact-tape o.prevail) (counted-tape effect-tape o.effects ++ (sat (some o.cost) ∷ [])) rest
-      ∙ ap (λ ys. counted-tape fact-tape o.prevail ++ ys) (append_assoc (counted-tape effect-tape o.effects) (sat (some o.cost) ∷ []) rest)
+  all_numbers : drop i x ≡ counted_tape fact_tape o.prevail ++ effects_tape
+  all_numbers =
+      is ∙ append_assoc (counted_tape fact_tape o.prevail) (counted_tape effect_tape o.effects ++ (sat (some o.cost) ∷ [])) rest
+      ∙ ap (λ ys. counted_tape fact_tape o.prevail ++ ys) (append_assoc (counted_tape effect_tape o.effects) (sat (some o.cost) ∷ []) rest)
 
-  prevail-many : number_at x i ≡ length o.prevail
-  prevail-many = number-here x i _ _ all-numbers ∙ sat-small (length o.prevail) few-prevail
+  prevail_many : number_at x i ≡ length o.prevail
+  prevail_many = number_here x i _ _ all_numbers ∙ sat_small (length o.prevail) few_prevail
 
-  prevail-told : prevail x i ≡ map sat_fact o.prevail
-  prevail-told =
-      ap (facts_at x fact-wide 1 (i + 1)) prevail-many ∙ facts-told x o.prevail (i + 1) effects-tape (behind-one x i _ _ all-numbers)
+  prevail_told : prevail x i ≡ map sat_fact o.prevail
+  prevail_told =
+      ap (facts_at x fact_wide 1 (i + 1)) prevail_many ∙ facts_told x o.prevail (i + 1) effects_tape (behind_one x i _ _ all_numbers)
 
-  effects-place : effects-at x i ≡ i + length (counted-tape fact-tape o.prevail)
-  effects-place = let long = facts-long o.prevail in let many = prevail-many in omega arith
+  effects_place : effects_at x i ≡ i + length (counted_tape fact_tape o.prevail)
+  effects_place = let long = facts_long o.prevail in let many = prevail_many in omega arith
 
-  effects-here : drop (effects-at x i) x ≡ effects-tape
-  effects-here = ap (λ k. drop k x) effects-place ∙ behind x i (counted-tape fact-tape o.prevail) effects-tape all-numbers
+  effects_here : drop (effects_at x i) x ≡ effects_tape
+  effects_here = ap (λ k. drop k x) effects_place ∙ behind x i (counted_tape fact_tape o.prevail) effects_tape all_numbers
 
-  effects-many : number_at x (effects-at x i) ≡ length o.effects
-  effects-many = number-here x (effects-at x i) _ _ effects-here ∙ sat-small (length o.effects) few-effects
+  effects_many : number_at x (effects_at x i) ≡ length o.effects
+  effects_many = number_here x (effects_at x i) _ _ effects_here ∙ sat_small (length o.effects) few_effects
 
-  effects-behind : drop (effects-at x i + 1) x ≡ flatten (map effect-tape o.effects) ++ (sat (some o.cost) ∷ rest)
-  effects-behind = behind-one x (effects-at x i) _ _ effects-here
+  effects_behind : drop (effects_at x i + 1) x ≡ flatten (map effect_tape o.effects) ++ (sat (some o.cost) ∷ rest)
+  effects_behind = behind_one x (effects_at x i) _ _ effects_here
 
-  first-effect : effects-at x i + 2 ≡ effects-at x i + 1 + 1
-  first-effect = omega arith
+  first_effect : effects_at x i + 2 ≡ effects_at x i + 1 + 1
+  first_effect = omega arith
 
-  olds : old-values x i ≡ map sat_fact (flatten (map (λ e. old-fact e.change) o.effects))
+  olds : old_values x i ≡ map sat_fact (flatten (map (λ e. old_fact e.change) o.effects))
   olds =
-      ap (λ k. facts_at x effect-wide 1 k (number_at x (effects-at x i))) first-effect
-      ∙ ap (facts_at x effect-wide 1 (effects-at x i + 1 + 1)) effects-many
-      ∙ olds-told x o.effects (effects-at x i + 1) (sat (some o.cost) ∷ rest) says effects-behind ∙ sat-olds o.effects
+      ap (λ k. facts_at x effect_wide 1 k (number_at x (effects_at x i))) first_effect
+      ∙ ap (facts_at x effect_wide 1 (effects_at x i + 1 + 1)) effects_many
+      ∙ olds_told x o.effects (effects_at x i + 1) (sat (some o.cost) ∷ rest) says effects_behind ∙ sat_olds o.effects
 
-  news : map always (new-values x i) ≡ map sat-effect (map meant-effect o.effects)
+  news : map always (new_values x i) ≡ map sat_effect (map meant_effect o.effects)
   news =
-      ap (λ k. map always (facts_at x effect-wide 2 k (number_at x (effects-at x i)))) first-effect
-      ∙ ap (λ n. map always (facts_at x effect-wide 2 (effects-at x i + 1 + 1) n)) effects-many
-      ∙ ap (map always) (news-told x o.effects (effects-at x i + 1) (sat (some o.cost) ∷ rest) says effects-behind) ∙ sat-news o.effects says
+      ap (λ k. map always (facts_at x effect_wide 2 k (number_at x (effects_at x i)))) first_effect
+      ∙ ap (λ n. map always (facts_at x effect_wide 2 (effects_at x i + 1 + 1) n)) effects_many
+      ∙ ap (map always) (news_told x o.effects (effects_at x i + 1) (sat (some o.cost) ∷ rest) says effects_behind) ∙ sat_news o.effects says
 
-  cost-place : cost-at x i ≡ effects-at x i + 1 + length (flatten (map effect-tape o.effects))
-  cost-place = let long = effects-long o.effects says in let many = effects-many in omega arith
+  cost_place : cost_at x i ≡ effects_at x i + 1 + length (flatten (map effect_tape o.effects))
+  cost_place = let long = effects_long o.effects says in let many = effects_many in omega arith
 
-  cost-here : drop (cost-at x i) x ≡ sat (some o.cost) ∷ rest
-  cost-here =
-      ap (λ k. drop k x) cost-place
-      ∙ behind x (effects-at x i + 1) (flatten (map effect-tape o.effects)) (sat (some o.cost) ∷ rest) effects-behind
+  cost_here : drop (cost_at x i) x ≡ sat (some o.cost) ∷ rest
+  cost_here =
+      ap (λ k. drop k x) cost_place
+      ∙ behind x (effects_at x i + 1) (flatten (map effect_tape o.effects)) (sat (some o.cost) ∷ rest) effects_behind
 
-  cost-number : number_at x (cost-at x i) ≡ sat-number o.cost
-  cost-number = number-here x (cost-at x i) _ _ cost-here
+  cost_number : number_at x (cost_at x i) ≡ sat_number o.cost
+  cost_number = number_here x (cost_at x i) _ _ cost_here
 
-  costs : cond (eqb (metric x) 0) 1 (number_at x (cost-at x i)) ≡ sat-number (cond b o.cost 1)
-  costs = by-case b scale
+  costs : cond (eqb (metric x) 0) 1 (number_at x (cost_at x i)) ≡ sat_number (cond b o.cost 1)
+  costs = by_case b scale
     where
-      by-case : (c : Bool) → metric x ≡ cond c 1 0 → cond (eqb (metric x) 0) 1 (number_at x (cost-at x i)) ≡ sat-number (cond c o.cost 1)
-      by-case true is_one = rw is_one cost-number
-      by-case false is_zero = rw is_zero
+      by_case : (c : Bool) → metric x ≡ cond c 1 0 → cond (eqb (metric x) 0) 1 (number_at x (cost_at x i)) ≡ sat_number (cond c o.cost 1)
+      by_case true is_one = rw is_one cost_number
+      by_case false is_zero = rw is_zero
 
-  pub action-told : action-at x i ≡ sat-action (meant-action b o)
-  unfolding action-at
-  action-told =
-      ap (λ ps. record { precondition = ps; effects = map always (new-values x i); cost = cond (eqb (metric x) 0) 1 (number_at x (cost-at x i)) })
-      (ap (λ ps. ps ++ old-values x i) prevail-told ∙ ap (λ qs. map sat_fact o.prevail ++ qs) olds
-      ∙ sym (map-append sat_fact o.prevail (flatten (map (λ e. old-fact e.change) o.effects))))
-      ∙ ap (λ es. record { precondition = map sat_fact (meant-action b o).precondition; effects = es; cost = cond (eqb (metric x) 0) 1 (number_at x (cost-at x i)) }) news
-      ∙ ap (λ c. record { precondition = map sat_fact (meant-action b o).precondition; effects = map sat-effect (meant-action b o).effects; cost = c }) costs
+  pub action_told : action_at x i ≡ sat_action (meant_action b o)
+  unfolding action_at
+  action_told =
+      ap (λ ps. record { precondition = ps; effects = map always (new_values x i); cost = cond (eqb (metric x) 0) 1 (number_at x (cost_at x i)) })
+      (ap (λ ps. ps ++ old_values x i) prevail_told ∙ ap (λ qs. map sat_fact o.prevail ++ qs) olds
+      ∙ sym (map-append sat_fact o.prevail (flatten (map (λ e. old_fact e.change) o.effects))))
+      ∙ ap (λ es. record { precondition = map sat_fact (meant_action b o).precondition; effects = es; cost = cond (eqb (metric x) 0) 1 (number_at x (cost_at x i)) }) news
+      ∙ ap (λ c. record { precondition = map sat_fact (meant_action b o).precondition; effects = map sat_effect (meant_action b o).effects; cost = c }) costs
 
-  pub operator-over : drop (operator-end x i) x ≡ rest
-  operator-over = behind-one x (cost-at x i) _ _ cost-here
+  pub operator_over : drop (operator_end x i) x ≡ rest
+  operator_over = behind_one x (cost_at x i) _ _ cost_here
 
 -- lists whose elements have a line each
 one_each : {A : Type 0} (f : A → Line) (cs : List A) → length (flatten (map (λ c. f c ∷ []) cs)) ≡ length cs
@@ -161,56 +161,56 @@ one_each f [] = refl
 one_each f (c ∷ cs) = ap suc (one_each f cs)
 
 module _ (o : Operator) where
-  prevail-few : length o.prevail ≤ length (operator-lines o)
+  prevail_few : length o.prevail ≤ length (operator_lines o)
   unfolding counted
-  prevail-few =
-      let here = one_each (λ f. said (numbers (fact-numbers f))) o.prevail in
-      let parts = length-append (counted fact-lines o.prevail) (counted effect-lines o.effects ++ (number-line o.cost ∷ keyword "end_operator" ∷ [])) in
+  prevail_few =
+      let here = one_each (λ f. said (numbers (fact_numbers f))) o.prevail in
+      let parts = length-append (counted fact_lines o.prevail) (counted effect_lines o.effects ++ (number_line o.cost ∷ keyword "end_operator" ∷ [])) in
       omega arith
 
-  effects-few : length o.effects ≤ length (operator-lines o)
+  effects_few : length o.effects ≤ length (operator_lines o)
   unfolding counted
-  effects-few =
-      let here = one_each (λ e. record { bytes = numbers (effect-numbers e); barred = ltb 0 (length e.conditions) }) o.effects in
-      let parts = length-append (counted fact-lines o.prevail) (counted effect-lines o.effects ++ (number-line o.cost ∷ keyword "end_operator" ∷ [])) in
-      let more = length-append (counted effect-lines o.effects) (number-line o.cost ∷ keyword "end_operator" ∷ []) in
+  effects_few =
+      let here = one_each (λ e. record { bytes = numbers (effect_numbers e); barred = ltb 0 (length e.conditions) }) o.effects in
+      let parts = length-append (counted fact_lines o.prevail) (counted effect_lines o.effects ++ (number_line o.cost ∷ keyword "end_operator" ∷ [])) in
+      let more = length-append (counted effect_lines o.effects) (number_line o.cost ∷ keyword "end_operator" ∷ []) in
       omega arith
 
-  effects-sayable : All-sayable (operator-lines o) → All-sayable (flatten (map effect-lines o.effects))
+  effects_sayable : AllSayable (operator_lines o) → AllSayable (flatten (map effect_lines o.effects))
   unfolding counted
-  effects-sayable says =
-      let rest = (sayable-parts (counted fact-lines o.prevail) (counted effect-lines o.effects ++ (number-line o.cost ∷ keyword "end_operator" ∷ [])) says.1.1).1 in
-      (sayable-parts (counted effect-lines o.effects) (number-line o.cost ∷ keyword "end_operator" ∷ []) rest).0.1
+  effects_sayable says =
+      let rest = (sayable_parts (counted fact_lines o.prevail) (counted effect_lines o.effects ++ (number_line o.cost ∷ keyword "end_operator" ∷ [])) says.1.1).1 in
+      (sayable_parts (counted effect_lines o.effects) (number_line o.cost ∷ keyword "end_operator" ∷ []) rest).0.1
 
 module _ (x : List ℕ) (b : Bool) (scale : metric x ≡ cond b 1 0) where
-  actions-told : (os : List Operator) (i : ℕ) (rest : List ℕ) → drop i x ≡ flatten (map operator-tape os) ++ rest
-      → length (flatten (map operator-lines os)) ≤ most-number → All-sayable (flatten (map operator-lines os))
-      → actions-from x i (length os) ≡ map sat-action (map (meant-action b) os)
-  unfolding actions-from flatten
-  actions-told [] i rest is few says = refl
-  actions-told (o ∷ os) i rest is few says =
-      let (here, others) = sayable-parts (operator-lines o) (flatten (map operator-lines os)) says in
-      let lengths : length (operator-lines o ++ flatten (map operator-lines os)) ≡ length (operator-lines o) + length (flatten (map operator-lines os)) =
-      length-append (operator-lines o) (flatten (map operator-lines os)) in
-      let first : drop i x ≡ operator-tape o ++ (flatten (map operator-tape os) ++ rest) =
-      is ∙ append_assoc (operator-tape o) (flatten (map operator-tape os)) rest in
-      let few-prevail : length o.prevail ≤ most-number = omega (arith, prevail-few o) in
-      let few-effects : length o.effects ≤ most-number = omega (arith, effects-few o) in
-      ap (λ a. a ∷ actions-from x (operator-end x i) (length os))
-      (action-told x b scale o i (flatten (map operator-tape os) ++ rest) first few-prevail few-effects (effects-sayable o here))
-      ∙ ap (λ r. sat-action (meant-action b o) ∷ r)
-      (actions-told os (operator-end x i) rest
-      (operator-over x b scale o i (flatten (map operator-tape os) ++ rest) first few-prevail few-effects (effects-sayable o here)) (omega arith) others)
+  actions_told : (os : List Operator) (i : ℕ) (rest : List ℕ) → drop i x ≡ flatten (map operator_tape os) ++ rest
+      → length (flatten (map operator_lines os)) ≤ most_number → AllSayable (flatten (map operator_lines os))
+      → actions_from x i (length os) ≡ map sat_action (map (meant_action b) os)
+  unfolding actions_from flatten
+  actions_told [] i rest is few says = refl
+  actions_told (o ∷ os) i rest is few says =
+      let (here, others) = sayable_parts (operator_lines o) (flatten (map operator_lines os)) says in
+      let lengths : length (operator_lines o ++ flatten (map operator_lines os)) ≡ length (operator_lines o) + length (flatten (map operator_lines os)) =
+      length-append (operator_lines o) (flatten (map operator_lines os)) in
+      let first : drop i x ≡ operator_tape o ++ (flatten (map operator_tape os) ++ rest) =
+      is ∙ append_assoc (operator_tape o) (flatten (map operator_tape os)) rest in
+      let few_prevail : length o.prevail ≤ most_number = omega (arith, prevail_few o) in
+      let few_effects : length o.effects ≤ most_number = omega (arith, effects_few o) in
+      ap (λ a. a ∷ actions_from x (operator_end x i) (length os))
+      (action_told x b scale o i (flatten (map operator_tape os) ++ rest) first few_prevail few_effects (effects_sayable o here))
+      ∙ ap (λ r. sat_action (meant_action b o) ∷ r)
+      (actions_told os (operator_end x i) rest
+      (operator_over x b scale o i (flatten (map operator_tape os) ++ rest) first few_prevail few_effects (effects_sayable o here)) (omega arith) others)
 
 -- numbers one behind the other
-table-told : (x : List ℕ) (i k : ℕ) (ys rest : List ℕ) → drop (i + k) x ≡ ys ++ rest → table (λ v. number_at x (i + v)) k (length ys) ≡ ys
+table_told : (x : List ℕ) (i k : ℕ) (ys rest : List ℕ) → drop (i + k) x ≡ ys ++ rest → table (λ v. number_at x (i + v)) k (length ys) ≡ ys
 unfolding table
-table-told x i k [] rest is = refl
-table-told x i k (y ∷ ys) rest is =
+table_told x i k [] rest is = refl
+table_told x i k (y ∷ ys) rest is =
     let next : i + k + 1 ≡ i + (k + 1) = omega arith in
-    let here : number_at x (i + k) ≡ y = number-here x (i + k) _ _ is in
+    let here : number_at x (i + k) ≡ y = number_here x (i + k) _ _ is in
     ap (λ v. v ∷ table (λ w. number_at x (i + w)) (k + 1) (length ys)) here
-    ∙ ap (λ r. y ∷ r) (table-told x i (k + 1) ys rest (ap (λ j. drop j x) (sym next) ∙ behind-one x (i + k) _ _ is))
+    ∙ ap (λ r. y ∷ r) (table_told x i (k + 1) ys rest (ap (λ j. drop j x) (sym next) ∙ behind_one x (i + k) _ _ is))
 
 singles : {A : Type 0} (f : A → ℕ) (cs : List A) → flatten (map (λ c. f c ∷ []) cs) ≡ map f cs
 unfolding flatten
@@ -218,156 +218,156 @@ singles f [] = refl
 singles f (c ∷ cs) = ap (λ r. f c ∷ r) (singles f cs)
 
 -- a text that a sheet can say, part by part
-many-few : {A : Type 0} (f : A → List Line) → ((a : A) → 1 ≤ length (f a)) → (cs : List A) → length cs ≤ length (flatten (map f cs))
+many_few : {A : Type 0} (f : A → List Line) → ((a : A) → 1 ≤ length (f a)) → (cs : List A) → length cs ≤ length (flatten (map f cs))
 unfolding flatten
-many-few f some-line [] = omega arith
-many-few f some-line (c ∷ cs) = omega (arith, length-append (f c) (flatten (map f cs)), some-line c, many-few f some-line cs)
+many_few f some_line [] = omega arith
+many_few f some_line (c ∷ cs) = omega (arith, length-append (f c) (flatten (map f cs)), some_line c, many_few f some_line cs)
 
 module _ (t : Text) where
-  abbrev from-operators : List Line
-  from-operators = counted operator-lines t.operators ++ (axioms-line (length t.axioms) ∷ flatten (map axiom-lines t.axioms))
+  abbrev from_operators : List Line
+  from_operators = counted operator_lines t.operators ++ (axioms_line (length t.axioms) ∷ flatten (map axiom_lines t.axioms))
 
-  abbrev from-goal : List Line
-  from-goal = counted fact-lines t.goal ++ (keyword "end_goal" ∷ from-operators)
+  abbrev from_goal : List Line
+  from_goal = counted fact_lines t.goal ++ (keyword "end_goal" ∷ from_operators)
 
-  abbrev from-state : List Line
-  from-state = flatten (map value-lines t.state) ++ (keyword "end_state" ∷ keyword "begin_goal" ∷ from-goal)
+  abbrev from_state : List Line
+  from_state = flatten (map value_lines t.state) ++ (keyword "end_state" ∷ keyword "begin_goal" ∷ from_goal)
 
-  abbrev from-groups : List Line
-  from-groups = counted group_lines t.groups ++ (keyword "begin_state" ∷ from-state)
+  abbrev from_groups : List Line
+  from_groups = counted group_lines t.groups ++ (keyword "begin_state" ∷ from_state)
 
-  abbrev from-variables : List Line
-  from-variables = counted variable-lines t.variables ++ from-groups
+  abbrev from_variables : List Line
+  from_variables = counted variable_lines t.variables ++ from_groups
 
-  record Sayable-parts : Type 0 where
-    pub variables : length t.variables ≤ most-number
-    pub goal : length t.goal ≤ most-number
-    pub operators : length t.operators ≤ most-number
-    pub operator-lines-few : length (flatten (map operator-lines t.operators)) ≤ most-number
-    pub operators-sayable : All-sayable (flatten (map operator-lines t.operators))
+  record SayableParts : Type 0 where
+    pub variables : length t.variables ≤ most_number
+    pub goal : length t.goal ≤ most_number
+    pub operators : length t.operators ≤ most_number
+    pub operator_lines_few : length (flatten (map operator_lines t.operators)) ≤ most_number
+    pub operators_sayable : AllSayable (flatten (map operator_lines t.operators))
 
-  sayable-text : length (lines t) ≤ most-number → All-sayable (lines t) → Sayable-parts
+  sayable_text : length (lines t) ≤ most_number → AllSayable (lines t) → SayableParts
   unfolding counted lines
-  sayable-text few says =
-      let groups = (sayable-parts (counted variable-lines t.variables) from-groups says.1.1.1.1.1.1).1 in
-      let state = (sayable-parts (counted group_lines t.groups) (keyword "begin_state" ∷ from-state) groups).1.1 in
-      let goals = (sayable-parts (flatten (map value-lines t.state)) (keyword "end_state" ∷ keyword "begin_goal" ∷ from-goal) state).1.1.1 in
-      let operators = (sayable-parts (counted fact-lines t.goal) (keyword "end_goal" ∷ from-operators) goals).1.1 in
-      let os = (sayable-parts (counted operator-lines t.operators) (axioms-line (length t.axioms) ∷ flatten (map axiom-lines t.axioms)) operators).0 in
-      let l1 = length-append (counted variable-lines t.variables) from-groups in
-      let l2 = length-append (counted group_lines t.groups) (keyword "begin_state" ∷ from-state) in
-      let l3 = length-append (flatten (map value-lines t.state)) (keyword "end_state" ∷ keyword "begin_goal" ∷ from-goal) in
-      let l4 = length-append (counted fact-lines t.goal) (keyword "end_goal" ∷ from-operators) in
-      let l5 = length-append (counted operator-lines t.operators) (axioms-line (length t.axioms) ∷ flatten (map axiom-lines t.axioms)) in
-      let variables-many = many-few variable-lines (λ v. omega arith) t.variables in
-      let operators-many = many-few operator-lines (λ o. omega arith) t.operators in
-      let goals-many = many-few fact-lines (λ f. omega arith) t.goal in
+  sayable_text few says =
+      let groups = (sayable_parts (counted variable_lines t.variables) from_groups says.1.1.1.1.1.1).1 in
+      let state = (sayable_parts (counted group_lines t.groups) (keyword "begin_state" ∷ from_state) groups).1.1 in
+      let goals = (sayable_parts (flatten (map value_lines t.state)) (keyword "end_state" ∷ keyword "begin_goal" ∷ from_goal) state).1.1.1 in
+      let operators = (sayable_parts (counted fact_lines t.goal) (keyword "end_goal" ∷ from_operators) goals).1.1 in
+      let os = (sayable_parts (counted operator_lines t.operators) (axioms_line (length t.axioms) ∷ flatten (map axiom_lines t.axioms)) operators).0 in
+      let l1 = length-append (counted variable_lines t.variables) from_groups in
+      let l2 = length-append (counted group_lines t.groups) (keyword "begin_state" ∷ from_state) in
+      let l3 = length-append (flatten (map value_lines t.state)) (keyword "end_state" ∷ keyword "begin_goal" ∷ from_goal) in
+      let l4 = length-append (counted fact_lines t.goal) (keyword "end_goal" ∷ from_operators) in
+      let l5 = length-append (counted operator_lines t.operators) (axioms_line (length t.axioms) ∷ flatten (map axiom_lines t.axioms)) in
+      let variables_many = many_few variable_lines (λ v. omega arith) t.variables in
+      let operators_many = many_few operator_lines (λ o. omega arith) t.operators in
+      let goals_many = many_few fact_lines (λ f. omega arith) t.goal in
       record {
         variables = omega arith;
         goal = omega arith;
         operators = omega arith;
-        operator-lines-few = omega arith;
-        operators-sayable = os.1;
+        operator_lines_few = omega arith;
+        operators_sayable = os.1;
       }
 
 -- the numbers kept of a text, place by place
-module _ (t : Text) (values : length t.state ≡ length t.variables) (parts : Sayable-parts t) where
+module _ (t : Text) (values : length t.state ≡ length t.variables) (parts : SayableParts t) where
   abbrev x : List ℕ
-  x = text-tape t
+  x = text_tape t
 
   abbrev n : ℕ
   n = length t.variables
 
-  abbrev range-numbers : List ℕ
-  range-numbers = map sat-number (map (λ v. length v.values) t.variables)
+  abbrev range_numbers : List ℕ
+  range_numbers = map sat_number (map (λ v. length v.values) t.variables)
 
-  abbrev start-numbers : List ℕ
-  start-numbers = map sat-number t.state
+  abbrev start_numbers : List ℕ
+  start_numbers = map sat_number t.state
 
-  abbrev operator-numbers : List ℕ
-  operator-numbers = counted-tape operator-tape t.operators ++ []
+  abbrev operator_numbers : List ℕ
+  operator_numbers = counted_tape operator_tape t.operators ++ []
 
-  abbrev goal-numbers : List ℕ
-  goal-numbers = counted-tape fact-tape t.goal ++ operator-numbers
+  abbrev goal_numbers : List ℕ
+  goal_numbers = counted_tape fact_tape t.goal ++ operator_numbers
 
   scale : metric x ≡ cond t.metric 1 0
-  scale = by-case t.metric
+  scale = by_case t.metric
     where
-      by-case : (b : Bool) → sat (some (cond b 1 0)) ≡ cond b 1 0
-      by-case true = refl
-      by-case false = refl
+      by_case : (b : Bool) → sat (some (cond b 1 0)) ≡ cond b 1 0
+      by_case true = refl
+      by_case false = refl
 
   count : variables x ≡ n
-  count = sat-small n parts.variables
+  count = sat_small n parts.variables
 
-  ranges-are : flatten (map variable-tape t.variables) ≡ range-numbers
-  ranges-are = singles (λ v. sat-number (length v.values)) t.variables ∙ sym (map-map sat-number (λ v. length v.values) t.variables)
+  ranges_are : flatten (map variable_tape t.variables) ≡ range_numbers
+  ranges_are = singles (λ v. sat_number (length v.values)) t.variables ∙ sym (map-map sat_number (λ v. length v.values) t.variables)
 
-  starts-are : flatten (map value-tape t.state) ≡ start-numbers
-  starts-are = singles sat-number t.state
+  starts_are : flatten (map value_tape t.state) ≡ start_numbers
+  starts_are = singles sat_number t.state
 
-  from-ranges : drop 2 x ≡ range-numbers ++ (start-numbers ++ goal-numbers)
-  from-ranges =
-      ap (λ ys. ys ++ (flatten (map value-tape t.state) ++ goal-numbers)) ranges-are ∙ ap (λ ys. range-numbers ++ (ys ++ goal-numbers)) starts-are
+  from_ranges : drop 2 x ≡ range_numbers ++ (start_numbers ++ goal_numbers)
+  from_ranges =
+      ap (λ ys. ys ++ (flatten (map value_tape t.state) ++ goal_numbers)) ranges_are ∙ ap (λ ys. range_numbers ++ (ys ++ goal_numbers)) starts_are
 
-  ranges-long : length range-numbers ≡ n
-  ranges-long = length-map (map (λ v. length v.values) t.variables) sat-number ∙ length-map t.variables (λ v. length v.values)
+  ranges_long : length range_numbers ≡ n
+  ranges_long = length-map (map (λ v. length v.values) t.variables) sat_number ∙ length-map t.variables (λ v. length v.values)
 
-  starts-long : length start-numbers ≡ n
-  starts-long = length-map t.state sat-number ∙ values
+  starts_long : length start_numbers ≡ n
+  starts_long = length-map t.state sat_number ∙ values
 
-  from-starts : drop (2 + n) x ≡ start-numbers ++ goal-numbers
-  from-starts = ap (λ k. drop (2 + k) x) (sym ranges-long) ∙ behind x 2 range-numbers (start-numbers ++ goal-numbers) from-ranges
+  from_starts : drop (2 + n) x ≡ start_numbers ++ goal_numbers
+  from_starts = ap (λ k. drop (2 + k) x) (sym ranges_long) ∙ behind x 2 range_numbers (start_numbers ++ goal_numbers) from_ranges
 
-  from-goals : drop (goal-at x) x ≡ goal-numbers
-  from-goals =
-      let place : goal-at x ≡ 2 + n + length start-numbers = let many = count in let long = starts-long in omega arith in
-      ap (λ k. drop k x) place ∙ behind x (2 + n) start-numbers goal-numbers from-starts
+  from_goals : drop (goal_at x) x ≡ goal_numbers
+  from_goals =
+      let place : goal_at x ≡ 2 + n + length start_numbers = let many = count in let long = starts_long in omega arith in
+      ap (λ k. drop k x) place ∙ behind x (2 + n) start_numbers goal_numbers from_starts
 
-  goals-many : number_at x (goal-at x) ≡ length t.goal
-  goals-many = number-here x (goal-at x) _ _ from-goals ∙ sat-small (length t.goal) parts.goal
+  goals_many : number_at x (goal_at x) ≡ length t.goal
+  goals_many = number_here x (goal_at x) _ _ from_goals ∙ sat_small (length t.goal) parts.goal
 
-  from-ops : drop (operators-at x) x ≡ operator-numbers
-  from-ops =
-      let place : operators-at x ≡ goal-at x + length (counted-tape fact-tape t.goal) =
-      let many = goals-many in let long = facts-long t.goal in omega arith in
-      ap (λ k. drop k x) place ∙ behind x (goal-at x) (counted-tape fact-tape t.goal) operator-numbers from-goals
+  from_ops : drop (operators_at x) x ≡ operator_numbers
+  from_ops =
+      let place : operators_at x ≡ goal_at x + length (counted_tape fact_tape t.goal) =
+      let many = goals_many in let long = facts_long t.goal in omega arith in
+      ap (λ k. drop k x) place ∙ behind x (goal_at x) (counted_tape fact_tape t.goal) operator_numbers from_goals
 
-  ops-many : number_at x (operators-at x) ≡ length t.operators
-  ops-many = number-here x (operators-at x) _ _ from-ops ∙ sat-small (length t.operators) parts.operators
+  ops_many : number_at x (operators_at x) ≡ length t.operators
+  ops_many = number_here x (operators_at x) _ _ from_ops ∙ sat_small (length t.operators) parts.operators
 
-  ranges-told : ranges x ≡ range-numbers
+  ranges_told : ranges x ≡ range_numbers
   unfolding ranges
-  ranges-told = ap (table (range-of x) 0) (count ∙ sym ranges-long) ∙ table-told x 2 0 range-numbers (start-numbers ++ goal-numbers) from-ranges
+  ranges_told = ap (table (range_of x) 0) (count ∙ sym ranges_long) ∙ table_told x 2 0 range_numbers (start_numbers ++ goal_numbers) from_ranges
 
-  starts-told : state x ≡ start-numbers
+  starts_told : state x ≡ start_numbers
   unfolding state
-  starts-told =
+  starts_told =
       let place : 2 + n + 0 ≡ 2 + n = omega arith in
       ap (λ m. table (λ v. number_at x (2 + m + v)) 0 (variables x)) count
-      ∙ ap (table (λ v. number_at x (2 + n + v)) 0) (count ∙ sym starts-long)
-      ∙ table-told x (2 + n) 0 start-numbers goal-numbers (ap (λ k. drop k x) place ∙ from-starts)
+      ∙ ap (table (λ v. number_at x (2 + n + v)) 0) (count ∙ sym starts_long)
+      ∙ table_told x (2 + n) 0 start_numbers goal_numbers (ap (λ k. drop k x) place ∙ from_starts)
 
-  goals-told : goal x ≡ map sat_fact t.goal
+  goals_told : goal x ≡ map sat_fact t.goal
   unfolding goal
-  goals-told =
-      ap (facts_at x fact-wide 1 (goal-at x + 1)) goals-many
-      ∙ facts-told x t.goal (goal-at x + 1) operator-numbers (behind-one x (goal-at x) _ _ from-goals)
+  goals_told =
+      ap (facts_at x fact_wide 1 (goal_at x + 1)) goals_many
+      ∙ facts_told x t.goal (goal_at x + 1) operator_numbers (behind_one x (goal_at x) _ _ from_goals)
 
-  ops-told : actions-from x (operators-at x + 1) (number_at x (operators-at x)) ≡ map sat-action (map (meant-action t.metric) t.operators)
-  ops-told =
-      ap (actions-from x (operators-at x + 1)) ops-many
-      ∙ actions-told x t.metric scale t.operators (operators-at x + 1) [] (behind-one x (operators-at x) _ _ from-ops)
-      parts.operator-lines-few parts.operators-sayable
+  ops_told : actions_from x (operators_at x + 1) (number_at x (operators_at x)) ≡ map sat_action (map (meant_action t.metric) t.operators)
+  ops_told =
+      ap (actions_from x (operators_at x + 1)) ops_many
+      ∙ actions_told x t.metric scale t.operators (operators_at x + 1) [] (behind_one x (operators_at x) _ _ from_ops)
+      parts.operator_lines_few parts.operators_sayable
 
-  task-parts : meaning x ≡ sat-task (meant t)
+  task_parts : meaning x ≡ sat_task (meant t)
   unfolding meaning meant
-  task-parts =
-      ap (λ ds. record { domains = ds; actions = actions-from x (operators-at x + 1) (number_at x (operators-at x)); initial = state x; goal = goal x }) ranges-told
-      ∙ ap (λ p. record { domains = range-numbers; actions = p; initial = state x; goal = goal x }) ops-told
-      ∙ ap (λ s. record { domains = range-numbers; actions = map sat-action (map (meant-action t.metric) t.operators); initial = s; goal = goal x }) starts-told
-      ∙ ap (λ g. record { domains = range-numbers; actions = map sat-action (map (meant-action t.metric) t.operators); initial = start-numbers; goal = g }) goals-told
+  task_parts =
+      ap (λ ds. record { domains = ds; actions = actions_from x (operators_at x + 1) (number_at x (operators_at x)); initial = state x; goal = goal x }) ranges_told
+      ∙ ap (λ p. record { domains = range_numbers; actions = p; initial = state x; goal = goal x }) ops_told
+      ∙ ap (λ s. record { domains = range_numbers; actions = map sat_action (map (meant_action t.metric) t.operators); initial = s; goal = goal x }) starts_told
+      ∙ ap (λ g. record { domains = range_numbers; actions = map sat_action (map (meant_action t.metric) t.operators); initial = start_numbers; goal = g }) goals_told
 
-pub task-told : (t : Text) → length t.state ≡ length t.variables → length (lines t) ≤ most-number → All-sayable (lines t)
-    → meaning (text-tape t) ≡ sat-task (meant t)
-task-told t values few says = task-parts t values (sayable-text t few says)
+pub task_told : (t : Text) → length t.state ≡ length t.variables → length (lines t) ≤ most_number → AllSayable (lines t)
+    → meaning (text_tape t) ≡ sat_task (meant t)
+task_told t values few says = task_parts t values (sayable_text t few says)

@@ -8,30 +8,30 @@ use mathlib.Core.List.{List, [], ◌∷◌, ◌++◌, flatten}
 use lib.ListN.{length}
 use lib.Dec.{lit≤}
 use borrow.Author.Tests.{lt-ltb}
-use Rattle.ascii.specs.Bytes.{ascii, split, all_digits, decimal-from}
+use Rattle.ascii.specs.Bytes.{ascii, split, all_digits, decimal_from}
 use Rattle.refusal.specs.Refusal.{Told}
 use Rattle.refusal.specs.Check.{answer}
 use Rattle.sheet.specs.Decode.{table}
-use Rattle.sheet.specs.between.Encode.{effects-part, action-part, parts, pairs_of, body, sheet-of, encode}
-use Rattle.fields.specs.between.Fields.{same, is_number, number, word-reads, word_number, all_read, all_plain, plain-but-old}
-use Rattle.form.specs.between.Form.{numbers_fit, fits, times, after-count, further, walk, nothing_left, whole, walked, broken-line, bars}
-use Rattle.form.specs.between.Form.{first-barred as first-barred-entry}
+use Rattle.sheet.specs.Between.Encode.{effects_part, action_part, parts, pairs_of, body, sheet_of, encode}
+use Rattle.fields.specs.Between.Fields.{same, is_number, number, word_reads, word_number, all_read, all_plain, plain_but_old}
+use Rattle.form.specs.Between.Form.{numbers_fit, fits, times, after_count, further, walk, nothing_left, whole, walked, broken_line, bars}
+use Rattle.form.specs.Between.Form.{first_barred as first-barred-entry}
 use Rattle.planner.specs.Text.{most_bytes}
-use Rattle.form.specs.between.Form.{unsupported-line, kept, kept_of, numbers_of}
-use Rattle.meaning.specs.between.Sections.{fact-at, facts_at, ranges, state, goal, action-at, actions-from, meaning}
-use Rattle.meaning.specs.between.Order.{insert, put_in, ordered-action, ordered}
-use Rattle.meaning.specs.between.Writable.{known, has, fit-in, variables-fit, no-condition, action-fits, actions-fit, writable}
-use Rattle.lines.specs.Lines.{numeral, numeral-within}
+use Rattle.form.specs.Between.Form.{unsupported_line, kept, kept_of, numbers_of}
+use Rattle.meaning.specs.Between.Sections.{fact_at, facts_at, ranges, state, goal, action_at, actions_from, meaning}
+use Rattle.meaning.specs.Between.Order.{insert, put_in, ordered_action, ordered}
+use Rattle.meaning.specs.Between.Writable.{known, has, fit_in, variables_fit, no_condition, action_fits, actions_fit, writable}
+use Rattle.lines.specs.Lines.{numeral, numeral_within}
 use Rattle.sas.specs.Task.{Assignment, always}
 use Rattle.sas.specs.Plan.{written}
 use Rattle.refusal.specs.declared.place.Place.TheVariants.{Nowhere, At}
 use Rattle.planner.specs.Text.{Text}
 use Rattle.planner.specs.Printed.{joined, counted, ended, printed}
 use Rattle.planner.specs.Printed.{lines as printed-lines}
-use Rattle.planner.specs.Meant.{meant, first-barred, unsayable}
+use Rattle.planner.specs.Meant.{meant, first_barred, unsayable}
 use Rattle.planner.specs.Broken.{Breaks}
-use Rattle.printed_form.proofs.PrintedTheorem.{broken-breaks}
-use Rattle.translation.specs.between.Checks.{text-sheet, task-checks, translation-checks}
+use Rattle.printed_form.proofs.PrintedTheorem.{broken_breaks}
+use Rattle.translation.specs.Between.Checks.{text_sheet, task_checks, translation_checks}
 
 -- a lock with one gate, up to the line of its one effect, that line, and the rest
 abbrev before : List ℕ
@@ -40,40 +40,40 @@ before = ascii "begin_version\n3\nend_version\nbegin_metric\n1\nend_metric\n1\nb
 abbrev after : List ℕ
 after = ascii "\n5\nend_operator\n0\n"
 
-abbrev with-effect : List ℕ → List ℕ
-with-effect line = before ++ (line ++ after)
+abbrev with_effect : List ℕ → List ℕ
+with_effect line = before ++ (line ++ after)
 
 abbrev refused : ℕ → ℕ → Told
 refused n place = record { number = n; place = place }
 
-pub good-text : (text-sheet (with-effect (ascii "0 0 0 1")) ≡ 1 ∷ 1 ∷ 1 ∷ 19 ∷ 12 ∷ 1 ∷ 13 ∷ 1 ∷ 14 ∷ 1 ∷ 15 ∷ 4 ∷ 2 ∷ 0 ∷ 1 ∷ 5 ∷ 1 ∷ 0 ∷ 1 ∷ [])
-    × (answer (translation-checks (with-effect (ascii "0 0 0 1")) 19) ≡ none)
-unfolding answer translation-checks task-checks split all_digits decimal-from table effects-part action-part parts pairs_of body sheet-of encode same is_number number word-reads word_number all_read all_plain plain-but-old numbers_fit fits times after-count further walk nothing_left whole walked broken-line bars first-barred-entry unsupported-line kept kept_of numbers_of fact-at facts_at ranges state goal action-at actions-from meaning insert put_in written ordered-action ordered known has fit-in variables-fit no-condition action-fits actions-fit writable flatten
-good-text = (refl, refl)
+pub good_text : (text_sheet (with_effect (ascii "0 0 0 1")) ≡ 1 ∷ 1 ∷ 1 ∷ 19 ∷ 12 ∷ 1 ∷ 13 ∷ 1 ∷ 14 ∷ 1 ∷ 15 ∷ 4 ∷ 2 ∷ 0 ∷ 1 ∷ 5 ∷ 1 ∷ 0 ∷ 1 ∷ [])
+    × (answer (translation_checks (with_effect (ascii "0 0 0 1")) 19) ≡ none)
+unfolding answer translation_checks task_checks split all_digits decimal_from table effects_part action_part parts pairs_of body sheet_of encode same is_number number word_reads word_number all_read all_plain plain_but_old numbers_fit fits times after_count further walk nothing_left whole walked broken_line bars first-barred-entry unsupported_line kept kept_of numbers_of fact_at facts_at ranges state goal action_at actions_from meaning insert put_in written ordered_action ordered known has fit_in variables_fit no_condition action_fits actions_fit writable flatten
+good_text = (refl, refl)
 
 -- by the line of the effect, in a buffer of so many words: a needless zero, a sign where none stands, an old value that may be −1, a condition, a value and a
 -- variable that are not there, and a buffer that is too short
-pub texts-refused : (answer (translation-checks (with-effect (ascii "0 0 00 1")) 19) ≡ some (refused 13 32))
-    × (answer (translation-checks (with-effect (ascii "0 -0 0 1")) 19) ≡ some (refused 13 32))
-    × (answer (translation-checks (with-effect (ascii "0 0 -1 1")) 19) ≡ none)
-    × (answer (translation-checks (with-effect (ascii "1 0 0 0 0 1")) 19) ≡ some (refused 14 32))
-    × (answer (translation-checks (with-effect (ascii "0 0 0 2")) 19) ≡ some (refused 15 0))
-    × (answer (translation-checks (with-effect (ascii "0 1 -1 0")) 19) ≡ some (refused 15 0))
-    × (answer (translation-checks (with-effect (ascii "0 0 0 1")) 18) ≡ some (refused 10 19))
-unfolding answer translation-checks task-checks split all_digits decimal-from table effects-part action-part parts pairs_of body sheet-of encode same is_number number word-reads word_number all_read all_plain plain-but-old numbers_fit fits times after-count further walk nothing_left whole walked broken-line bars first-barred-entry unsupported-line kept kept_of numbers_of fact-at facts_at ranges state goal action-at actions-from meaning insert put_in written ordered-action ordered known has fit-in variables-fit no-condition action-fits actions-fit writable flatten
-texts-refused = (refl, refl, refl, refl, refl, refl, refl)
+pub texts_refused : (answer (translation_checks (with_effect (ascii "0 0 00 1")) 19) ≡ some (refused 13 32))
+    × (answer (translation_checks (with_effect (ascii "0 -0 0 1")) 19) ≡ some (refused 13 32))
+    × (answer (translation_checks (with_effect (ascii "0 0 -1 1")) 19) ≡ none)
+    × (answer (translation_checks (with_effect (ascii "1 0 0 0 0 1")) 19) ≡ some (refused 14 32))
+    × (answer (translation_checks (with_effect (ascii "0 0 0 2")) 19) ≡ some (refused 15 0))
+    × (answer (translation_checks (with_effect (ascii "0 1 -1 0")) 19) ≡ some (refused 15 0))
+    × (answer (translation_checks (with_effect (ascii "0 0 0 1")) 18) ≡ some (refused 10 19))
+unfolding answer translation_checks task_checks split all_digits decimal_from table effects_part action_part parts pairs_of body sheet_of encode same is_number number word_reads word_number all_read all_plain plain_but_old numbers_fit fits times after_count further walk nothing_left whole walked broken_line bars first-barred-entry unsupported_line kept kept_of numbers_of fact_at facts_at ranges state goal action_at actions_from meaning insert put_in written ordered_action ordered known has fit_in variables_fit no_condition action_fits actions_fit writable flatten
+texts_refused = (refl, refl, refl, refl, refl, refl, refl)
 
 -- a line that is missing, and one too many
-pub texts-cut : (answer (translation-checks before 19) ≡ some (refused 13 32))
-    × (answer (translation-checks (with-effect (ascii "0 0 0 1\n0 0 0 1")) 19) ≡ some (refused 13 33))
-    × (answer (translation-checks [] 19) ≡ some (refused 13 1))
-unfolding answer translation-checks task-checks split all_digits decimal-from table effects-part action-part parts pairs_of body sheet-of encode same is_number number word-reads word_number all_read all_plain plain-but-old numbers_fit fits times after-count further walk nothing_left whole walked broken-line bars first-barred-entry unsupported-line kept kept_of numbers_of fact-at facts_at ranges state goal action-at actions-from meaning insert put_in written ordered-action ordered known has fit-in variables-fit no-condition action-fits actions-fit writable flatten
-texts-cut = (refl, refl, refl)
+pub texts_cut : (answer (translation_checks before 19) ≡ some (refused 13 32))
+    × (answer (translation_checks (with_effect (ascii "0 0 0 1\n0 0 0 1")) 19) ≡ some (refused 13 33))
+    × (answer (translation_checks [] 19) ≡ some (refused 13 1))
+unfolding answer translation_checks task_checks split all_digits decimal_from table effects_part action_part parts pairs_of body sheet_of encode same is_number number word_reads word_number all_read all_plain plain_but_old numbers_fit fits times after_count further walk nothing_left whole walked broken_line bars first-barred-entry unsupported_line kept kept_of numbers_of fact_at facts_at ranges state goal action_at actions_from meaning insert put_in written ordered_action ordered known has fit_in variables_fit no_condition action_fits actions_fit writable flatten
+texts_cut = (refl, refl, refl)
 
 -- a text of more than 65,536 bytes
-pub text-long : (text : List ℕ) (room : ℕ) → most_bytes < length text → answer (translation-checks text room) ≡ some (refused 13 0)
-unfolding answer translation-checks
-text-long text room long = rw (lt-ltb most_bytes (length text) long)
+pub text_long : (text : List ℕ) (room : ℕ) → most_bytes < length text → answer (translation_checks text room) ≡ some (refused 13 0)
+unfolding answer translation_checks
+text_long text room long = rw (lt-ltb most_bytes (length text) long)
 
 -- the same text as data, where its one effect has these conditions
 abbrev lock : Assignment → Text
@@ -95,29 +95,29 @@ lock conditions =
       axioms = [];
     }
 
-abbrev open-gate : Assignment
-open-gate = record { variable = 0; value = 0 } ∷ []
+abbrev open_gate : Assignment
+open_gate = record { variable = 0; value = 0 } ∷ []
 
 -- how it is printed, which of its lines no sheet can say, and what it means
-pub lock-printed : (printed (lock []) ≡ with-effect (ascii "0 0 0 1")) × (printed (lock open-gate) ≡ with-effect (ascii "1 0 0 0 0 1"))
-unfolding printed-lines counted joined ended numeral numeral-within flatten
-lock-printed = (refl, refl)
+pub lock_printed : (printed (lock []) ≡ with_effect (ascii "0 0 0 1")) × (printed (lock open_gate) ≡ with_effect (ascii "1 0 0 0 0 1"))
+unfolding printed-lines counted joined ended numeral numeral_within flatten
+lock_printed = (refl, refl)
 
-pub lock-barred : (unsayable (lock []) ≡ Nowhere) × (unsayable (lock open-gate) ≡ At 32)
-unfolding printed-lines counted first-barred flatten
-lock-barred = (refl, refl)
+pub lock_barred : (unsayable (lock []) ≡ Nowhere) × (unsayable (lock open_gate) ≡ At 32)
+unfolding printed-lines counted first_barred flatten
+lock_barred = (refl, refl)
 
-pub lock-meant : meant (lock [])
+pub lock_meant : meant (lock [])
     ≡ record {
       domains = 2 ∷ [];
-      actions = record { precondition = open-gate; effects = always (record { variable = 0; value = 1 }) ∷ []; cost = 5 } ∷ [];
+      actions = record { precondition = open_gate; effects = always (record { variable = 0; value = 1 }) ∷ []; cost = 5 } ∷ [];
       initial = 0 ∷ [];
       goal = record { variable = 0; value = 1 } ∷ [];
     }
 unfolding meant flatten
-lock-meant = refl
+lock_meant = refl
 
 -- a line with a needless zero breaks the form, and so does one that is missing
-pub line-breaks : Breaks (with-effect (ascii "0 0 00 1")) 32 × Breaks before 32
-unfolding split all_digits same is_number number decimal-from word-reads word_number all_read all_plain plain-but-old numbers_fit fits times after-count further walk nothing_left whole walked
-line-breaks = (broken-breaks (with-effect (ascii "0 0 00 1")) (lit≤ tt) refl, broken-breaks before (lit≤ tt) refl)
+pub line_breaks : Breaks (with_effect (ascii "0 0 00 1")) 32 × Breaks before 32
+unfolding split all_digits same is_number number decimal_from word_reads word_number all_read all_plain plain_but_old numbers_fit fits times after_count further walk nothing_left whole walked
+line_breaks = (broken_breaks (with_effect (ascii "0 0 00 1")) (lit≤ tt) refl, broken_breaks before (lit≤ tt) refl)

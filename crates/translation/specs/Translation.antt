@@ -1,10 +1,10 @@
 -- What is answered to a planner's text, read into a sheet (document 02, C-11). Which of these cases it is, and which
--- text, line or sheet they speak of, is told by the text alone (`text-or-break`, `prints-once`, `breaks-once`,
--- `no-text-breaks`, `sheet-once`, `sheet-or-none`). Assumes nothing.
+-- text, line or sheet they speak of, is told by the text alone (`text_or_break`, `prints_once`, `breaks_once`,
+-- `no_text_breaks`, `sheet_once`, `sheet_or_none`). Assumes nothing.
 use Rattle.std.specs.Prelude.{ℕ, ◌+◌, ◌≤◌, ◌<◌, ◌≡◌, Bool, cond, ◌&&◌, List, [], ◌∷◌, ◌++◌, length, drop, eqb}
 use Rattle.std.proofs.Math.Option.{Option, none, some}
 use Rattle.refusal.specs.declared.place.Place.TheVariants.{Nowhere, At}
-use Rattle.refusal.specs.Refusal.{Told, told-refusal}
+use Rattle.refusal.specs.Refusal.{Told, told_refusal}
 use Rattle.sas.specs.Task.{Fact, Assignment, Effect, Action, Task}
 use Rattle.sheet.specs.Decode.{task}
 use Rattle.sheet.specs.Causes.{Accepted}
@@ -24,65 +24,65 @@ copies f [] = 0
 copies f (g ∷ q) = cond (alike f g) 1 0 + copies f q
 
 -- the same facts, in any order
-abbrev pub Same-facts : Assignment → Assignment → Type 0
-Same-facts fs gs = (f : Fact) → copies f fs ≡ copies f gs
+abbrev pub SameFacts : Assignment → Assignment → Type 0
+SameFacts fs gs = (f : Fact) → copies f fs ≡ copies f gs
 
 -- the conditions of the effects with this fact, in their order
-unfoldable pub conditions-of : Fact → List Effect → List Assignment
-conditions-of f [] = []
-conditions-of f (e ∷ es) = cond (alike f e.fact) (e.condition ∷ conditions-of f es) (conditions-of f es)
+unfoldable pub conditions_of : Fact → List Effect → List Assignment
+conditions_of f [] = []
+conditions_of f (e ∷ es) = cond (alike f e.fact) (e.condition ∷ conditions_of f es) (conditions_of f es)
 
 -- the same conditions in the same order, but for the order of the facts in each
-pub data Same-conditions : List Assignment → List Assignment → Type 0 where
-  no-effect : Same-conditions [] []
-  effect : {q r : Assignment} {qs rs : List Assignment} → Same-facts q r → Same-conditions qs rs
-      → Same-conditions (q ∷ qs) (r ∷ rs)
+pub data SameConditions : List Assignment → List Assignment → Type 0 where
+  no_effect : SameConditions [] []
+  effect : {q r : Assignment} {qs rs : List Assignment} → SameFacts q r → SameConditions qs rs
+      → SameConditions (q ∷ qs) (r ∷ rs)
 
 -- the same effects, in any order, but those of one fact in the same order
-abbrev pub Same-effects : List Effect → List Effect → Type 0
-Same-effects es ds = (f : Fact) → Same-conditions (conditions-of f es) (conditions-of f ds)
+abbrev pub SameEffects : List Effect → List Effect → Type 0
+SameEffects es ds = (f : Fact) → SameConditions (conditions_of f es) (conditions_of f ds)
 
 -- the same actions in the same order, but for the order of the facts in a group, and of effects
-pub data Same-actions : List Action → List Action → Type 0 where
-  no-action : Same-actions [] []
-  action : {a b : Action} {p q : List Action} → Same-facts a.precondition b.precondition
-      → Same-effects a.effects b.effects → a.cost ≡ b.cost → Same-actions p q → Same-actions (a ∷ p) (b ∷ q)
+pub data SameActions : List Action → List Action → Type 0 where
+  no_action : SameActions [] []
+  action : {a b : Action} {p q : List Action} → SameFacts a.precondition b.precondition
+      → SameEffects a.effects b.effects → a.cost ≡ b.cost → SameActions p q → SameActions (a ∷ p) (b ∷ q)
 
 -- the same task, but for that order
-pub record Same-task (T U : Task) : Type 0 where
+pub record SameTask (T U : Task) : Type 0 where
   pub domains : T.domains ≡ U.domains
   pub initial : T.initial ≡ U.initial
-  pub goal : Same-facts T.goal U.goal
-  pub actions : Same-actions T.actions U.actions
+  pub goal : SameFacts T.goal U.goal
+  pub actions : SameActions T.actions U.actions
 
 -- the sheet of a text: it is accepted, so that the facts of each of its groups rise, and means the text's task
-pub record Sheet-of (t : Text) (w : List ℕ) : Type 0 where
+pub record SheetOf (t : Text) (w : List ℕ) : Type 0 where
   pub accepted : Accepted w
-  pub means : Same-task (meant t) (task w)
+  pub means : SameTask (meant t) (task w)
 
 -- what is answered to a text, with room for so many words: a refusal or none, and then its sheet
-pub record Told-of (t : Text) (room : ℕ) (refusal : Option Told) (sheet : List ℕ) : Type 0 where
+pub record ToldOf (t : Text) (room : ℕ) (refusal : Option Told) (sheet : List ℕ) : Type 0 where
   -- 14: a line that no sheet can say
   pub unsaid : (n : ℕ) → unsayable t ≡ At n → refusal ≡ some (record { number = 14; place = n })
   -- 15: "the sheet would break a limit or a rule of document 01"
-  pub no-sheet : unsayable t ≡ Nowhere → ((w : List ℕ) → Sheet-of t w → ⊥)
+  pub no_sheet : unsayable t ≡ Nowhere → ((w : List ℕ) → SheetOf t w → ⊥)
       → refusal ≡ some (record { number = 15; place = 0 })
   -- then 10: its sheet has more words than there is room for
-  pub no_room : unsayable t ≡ Nowhere → (w : List ℕ) → Sheet-of t w → room < length w
+  pub no_room : unsayable t ≡ Nowhere → (w : List ℕ) → SheetOf t w → room < length w
       → refusal ≡ some (record { number = 10; place = length w })
-  pub answered : unsayable t ≡ Nowhere → (w : List ℕ) → Sheet-of t w → length w ≤ room → (refusal ≡ none) × (sheet ≡ w)
+  pub answered : unsayable t ≡ Nowhere → (w : List ℕ) → SheetOf t w → length w ≤ room → (refusal ≡ none) × (sheet ≡ w)
 
 -- what is answered to bytes
-pub record Told-of-bytes (bytes : List ℕ) (room : ℕ) (refusal : Option Told) (sheet : List ℕ) : Type 0 where
+pub record ToldOfBytes (bytes : List ℕ) (room : ℕ) (refusal : Option Told) (sheet : List ℕ) : Type 0 where
   -- 13: more bytes than a text may have, or a line that breaks the form
   pub long : most_bytes < length bytes → refusal ≡ some (record { number = 13; place = 0 })
   pub breaks : length bytes ≤ most_bytes → (n : ℕ) → Breaks bytes n → refusal ≡ some (record { number = 13; place = n })
-  pub reads : length bytes ≤ most_bytes → (t : Text) → Prints t bytes → Told-of t room refusal sheet
+  pub reads : length bytes ≤ most_bytes → (t : Text) → Prints t bytes → ToldOf t room refusal sheet
 
 -- what the service answers: a refusal, if it is one
-abbrev pub told-translated : Translated → Option Told
-told-translated (Refused r) = some (told-refusal r)
-told-translated (Written n) = none
+abbrev pub told_translated : Translated → Option Told
+told_translated (Refused r) = some (told_refusal r)
+told_translated (Written n) = none
 
 -- the lent words behind a refusal, and with a sheet at their front
 abbrev pub Leaves : List ℕ → List ℕ → Translated → List ℕ → Type 0
@@ -92,5 +92,5 @@ Leaves sheet before (Written n) after = (n ≡ length sheet) × (after ≡ sheet
 -- the service, for every text and every lent output
 pub record Translates (bytes before : List ℕ) (r : Translated) (after : List ℕ) : Type 0 where
   pub sheet : List ℕ
-  pub told : Told-of-bytes bytes (length before) (told-translated r) sheet
+  pub told : ToldOfBytes bytes (length before) (told_translated r) sheet
   pub leaves : Leaves sheet before r after

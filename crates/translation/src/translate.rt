@@ -2,8 +2,8 @@
 ghost use Rattle.std.specs.Prelude.{◌≡◌, ◌*◌, length};
 ghost use Rattle.planner.specs.Text.{most_bytes};
 ghost use Rattle.translation.specs.Translation.{Translates};
-ghost use Rattle.translation.specs.between.Checks.{Answers-checks};
-ghost use Rattle.translation.specs.between.Written.{Writes-task};
+ghost use Rattle.translation.specs.Between.Checks.{AnswersChecks};
+ghost use Rattle.translation.specs.Between.Written.{WritesTask};
 
 use access::{front, put_all};
 use form::limits::NUMBERS;
@@ -29,7 +29,7 @@ fn number_room() -> [u32; NUMBERS]
 // Writes the sheet of the task that numbers mean to the front of `out`. The sheet is made elsewhere first, so that a
 // refusal leaves every word of `out`.
 fn write_task(x: &[u32], out: &mut [u32]) -> Translated
-    ensures { Writes-task x.now out.old result out.new }
+    ensures { WritesTask x.now out.old result out.new }
 {
     let mut sheet = [0u32; Sheet::WORDS];
     let built = build(x, &mut sheet);
@@ -46,7 +46,7 @@ fn write_task(x: &[u32], out: &mut [u32]) -> Translated
 
 // Answers by the checks of a text, in the order in which they run.
 fn run_checks(text: &[u8], out: &mut [u32]) -> Translated
-    ensures { Answers-checks text.now out.old result out.new }
+    ensures { AnswersChecks text.now out.old result out.new }
 {
     let mut tape = number_room();
     let read = read_text(text, &mut tape);
@@ -63,7 +63,7 @@ fn run_checks(text: &[u8], out: &mut [u32]) -> Translated
 
 // Reads a planner's text into a sheet at the front of `out`.
 pub fn translate(text: &[u8], out: &mut [u32]) -> Translated
-    ensures checks { Answers-checks text.now out.old result out.new }
+    ensures checks { AnswersChecks text.now out.old result out.new }
     ensures answer { Translates text.now out.old result out.new }
 {
     run_checks(text, out)

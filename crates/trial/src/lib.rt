@@ -1,11 +1,13 @@
 // A trial of document 01, from the state before its step: the step is struck, and of the rest each that can't be done.
 // walk: the rest of the current list, with steps that can't be done struck and counted.
+#![tactic(auto)]
+
 mod walk;
 
 ghost use Rattle.std.specs.Prelude.{◌<◌, length};
 ghost use Rattle.step.specs.State.{front};
 ghost use Rattle.plan.specs.Readable.{Readable};
-ghost use Rattle.trial.specs.between.Trial.{Makes-trial};
+ghost use Rattle.trial.specs.Between.Trial.{MakesTrial};
 
 use crate::walk::walk_rest;
 use access::strike;
@@ -35,7 +37,7 @@ pub fn trial(
 ) -> Tried
     requires readable { Readable words.now plan.now }
     requires i_in_bounds { i < length plan.now }
-    ensures { Makes-trial words.now plan.now i flags (front words.now values)
+    ensures { MakesTrial words.now plan.now i flags (front words.now values)
         result.succeeds result.flags result.struck }
 {
     let mut left = flags;

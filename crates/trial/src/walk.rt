@@ -1,7 +1,7 @@
 // The walk of a trial along the rest of the current list.
 ghost use Rattle.std.specs.Prelude.{◌≡◌, true, false, ◌≤◌, length, get_or};
 ghost use Rattle.sheet.specs.Limits.{limits};
-ghost use Rattle.trial.specs.between.Walk.{Walks-rest, Does-or-strikes};
+ghost use Rattle.trial.specs.Between.Walk.{WalksRest, DoesOrStrikes};
 
 use access::strike;
 use sheet::layout::cost;
@@ -19,7 +19,7 @@ pub(crate) fn walk_rest(
     struck: Tally,
 ) -> Tally
     requires { (length plan.now ≤ length flags.old) × (length state.old ≤ limits.variables) }
-    ensures { Walks-rest words.now plan.now i
+    ensures { WalksRest words.now plan.now i
         flags.old state.old struck
         flags.new state.new result }
 {
@@ -46,7 +46,7 @@ fn do_or_strike(
     struck: Tally,
 ) -> Tally
     requires { (get_or flags.old j false ≡ true) × (length state.old ≤ limits.variables) }
-    ensures { Does-or-strikes words.now a j
+    ensures { DoesOrStrikes words.now a j
         flags.old state.old struck
         flags.new state.new result }
 {

@@ -2,8 +2,8 @@
 ghost use Rattle.std.specs.Prelude.{◌≡◌, get_or};
 ghost use Rattle.std.specs.Int.Bits.{bit_or};
 ghost use Rattle.tally.specs.Tally.{one_more, comparison};
-ghost use Rattle.reduced.specs.between.Tallied.{is-less};
-ghost use Rattle.turns.specs.between.Unpacked.{bit-of};
+ghost use Rattle.reduced.specs.Between.Tallied.{is_less};
+ghost use Rattle.turns.specs.Between.Unpacked.{bit_of};
 
 use access::word;
 use mask::Mask;
@@ -18,7 +18,7 @@ pub struct Chosen {
 
 // Whether the first of two tallies is the lower.
 pub fn is_lower(tally: Tally, other: Tally) -> bool
-    ensures { result ≡ is-less (comparison tally other) }
+    ensures { result ≡ is_less (comparison tally other) }
 {
     let order = tally.compare(other);
     match order {
@@ -33,7 +33,7 @@ pub const BITS: usize = Mask::BITS - 1;
 
 // The bit of unflagged step d, none past the last bit.
 fn bit(d: usize) -> u64
-    ensures { result ≡ bit-of d }
+    ensures { result ≡ bit_of d }
 {
     if d < BITS { 1 << (d + 1) } else { 0 }
 }
@@ -41,7 +41,7 @@ fn bit(d: usize) -> u64
 // Keeps unflagged step d too, at its cost.
 pub fn keep_step(costs: &[u32], d: usize, held: Chosen) -> Chosen
     ensures { (result.tally ≡ one_more held.tally (get_or costs.now d 0))
-        × (result.bits ≡ bit_or held.bits (bit-of d)) }
+        × (result.bits ≡ bit_or held.bits (bit_of d)) }
 {
     let tally = held.tally;
     Chosen {

@@ -3,9 +3,9 @@
 // turn, and it needs no test: what it needs, and what the goal needs, is asked for where a step that could supply it is
 // struck. So what the flagged steps write on the way to the next unflagged one is written at once.
 ghost use Rattle.std.specs.Prelude.{◌≤◌, length};
-ghost use Rattle.reduction.specs.between.Search.Turn.{strike as striking, keep as keeping};
-ghost use Rattle.packed_state.specs.between.Chosen.{most-choices};
-ghost use Rattle.turns.specs.between.Told.{Turn-told};
+ghost use Rattle.reduction.specs.Between.Search.Turn.{strike as striking, keep as keeping};
+ghost use Rattle.packed_state.specs.Between.Chosen.{most_choices};
+ghost use Rattle.turns.specs.Between.Told.{TurnTold};
 
 use crate::chosen::{Chosen, is_lower, keep_step};
 use choice_rows::rows::{KEEP, KEPT, STRIKE, STRUCK, USE};
@@ -22,8 +22,8 @@ pub fn strike(
     held: Chosen,
     best: Chosen,
 ) -> Chosen
-    requires { length costs.now ≤ most-choices }
-    ensures { Turn-told costs.now rows.now striking d state.now held best result }
+    requires { length costs.now ≤ most_choices }
+    ensures { TurnTold costs.now rows.now striking d state.now held best result }
 {
     if d < costs.len() {
         let block = KINDS * (d + 1);
@@ -51,8 +51,8 @@ pub fn keep(
     held: Chosen,
     best: Chosen,
 ) -> Chosen
-    requires { length costs.now ≤ most-choices }
-    ensures { Turn-told costs.now rows.now keeping d state.now held best result }
+    requires { length costs.now ≤ most_choices }
+    ensures { TurnTold costs.now rows.now keeping d state.now held best result }
 {
     if d < costs.len() {
         let with = keep_step(costs, d, held);

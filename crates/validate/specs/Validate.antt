@@ -3,18 +3,18 @@ use Rattle.std.specs.Prelude.{ℕ, List}
 use Rattle.std.proofs.Math.Option.{none, some}
 use Rattle.ascii.specs.Bytes.{ascii}
 use Rattle.refusal.specs.Check.{answer}
-use Rattle.plan.specs.Checked.{plan-checks, lodged-tally}
-use Rattle.program.specs.Printed.{tally-line, refusal-line}
+use Rattle.plan.specs.Checked.{plan_checks, lodged_tally}
+use Rattle.program.specs.Printed.{tally_line, refusal_line}
 use Rattle.program.specs.Reply.{reply}
 
 -- of the list l of the sheet w: its steps and its price, or the refusal
 unfoldable pub checked : List ℕ → List ℕ → List ℕ
 checked w l =
-    elim (answer (plan-checks w l)) [
-      | none ↦ tally-line (ascii "lodged") (lodged-tally w l)
-      | some t ↦ refusal-line t
+    elim (answer (plan_checks w l)) [
+      | none ↦ tally_line (ascii "lodged") (lodged_tally w l)
+      | some t ↦ refusal_line t
     ]
 
 -- what is printed for the bytes of an input
 abbrev pub printed : List ℕ → List ℕ
-printed bytes = reply refusal-line checked bytes
+printed bytes = reply refusal_line checked bytes

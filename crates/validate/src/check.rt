@@ -1,7 +1,7 @@
 // What the program prints for the bytes of its input, put into lent bytes.
 ghost use Rattle.std.specs.Prelude.{◌≤◌, length};
-ghost use Rattle.program.specs.between.Room.{line-room, Text-put};
-ghost use Rattle.program.specs.Printed.{Has-done};
+ghost use Rattle.program.specs.Between.Room.{line_room, TextPut};
+ghost use Rattle.program.specs.Printed.{HasDone};
 ghost use Rattle.validate.specs.Validate.{checked, printed};
 
 use access::front;
@@ -14,7 +14,7 @@ use records::framing::{ALONE, WORDS};
 
 // Checks a plan.
 fn check(words: &[u32], plan: &[u32], out: &mut [u8]) -> usize
-    ensures { Text-put line-room out.old out.new result
+    ensures { TextPut line_room out.old out.new result
         (checked words.now plan.now) }
 {
     let checked = check_plan(words, plan);
@@ -27,7 +27,7 @@ fn check(words: &[u32], plan: &[u32], out: &mut [u8]) -> usize
 
 // Checks the plan, unless the input is refused before it.
 fn check_input(bytes: &[u8], out: &mut [u8]) -> usize
-    ensures { Text-put line-room out.old out.new result (printed bytes.now) }
+    ensures { TextPut line_room out.old out.new result (printed bytes.now) }
 {
     let mut words = [0u32; WORDS];
     let opened = open_input(bytes, 0, &mut words);
@@ -43,8 +43,8 @@ fn check_input(bytes: &[u8], out: &mut [u8]) -> usize
 
 // Reads the input to the front of `bytes`, and puts what is printed for it to the front of `out`.
 pub(crate) fn answer_input(bytes: &mut [u8], out: &mut [u8]) -> Done
-    requires { line-room ≤ length out.old }
-    ensures { Has-done 0 printed bytes.new result out.old out.new }
+    requires { line_room ≤ length out.old }
+    ensures { HasDone 0 printed bytes.new result out.old out.new }
 {
     let input = read(bytes, 0, ALONE);
     let n = input.count;

@@ -1,6 +1,8 @@
 // The program that checks a plan of a task. It reads both from standard input (document 01, "Worked lists", on the
 // program) and prints the steps and the cost of a valid plan, or the refusal.
 // check: what is printed for the bytes of the input.
+#![tactic(auto)]
+
 mod check;
 
 use crate::check::answer_input;

@@ -1,4 +1,6 @@
 // Words as a text for people, in lines of ten, and parts of words.
+#![tactic(auto)]
+
 ghost use Rattle.std.specs.Prelude.{◌≡◌, [], ◌-◌, min, take, drop};
 ghost use Rattle.lines.specs.Lines.{spaced, line};
 ghost use Rattle.lines.specs.Prints.{Prints};

@@ -1,5 +1,7 @@
 // The words of the forms that programs read, a text of words and an input, written to lent words, with what was found.
-ghost use Rattle.words.specs.Found.{Reads-lent, Opens-lent};
+#![tactic(auto)]
+
+ghost use Rattle.words.specs.Found.{ReadsLent, OpensLent};
 
 use access::{front, put_all};
 use lent::write_pair;
@@ -14,9 +16,9 @@ const LENGTHS_AT: usize = 2;
 
 // Reads a text of words: they go to the front of `words`; 0 and how many they are go to `out`, or what is wrong: 1 and
 // the line of a field that is no word, 2 and the line of a word for which no text has room, 3 and 0 where the text is
-// too long to be read. 8,449 words have room for those of any text (`few-found`).
+// too long to be read. 8,449 words have room for those of any text (`few_found`).
 pub fn read_text(text: &[u8], words: &mut [u32], out: &mut [u64])
-    ensures { Reads-lent text.now words.old words.new
+    ensures { ReadsLent text.now words.old words.new
         out.old out.new }
 {
     let mut found = [0u32; MOST];
@@ -37,7 +39,7 @@ pub fn read_text(text: &[u8], words: &mut [u32], out: &mut [u64])
 // list go to the front of `words`; the number and the place of its refusal, or 0 and 0, then how many words the sheet
 // has and how many the list, go to `out`.
 pub fn open_record(bytes: &[u8], words: &mut [u32], out: &mut [u64])
-    ensures { Opens-lent bytes.now words.old words.new
+    ensures { OpensLent bytes.now words.old words.new
         out.old out.new }
 {
     let mut found = [0u32; WORDS];

@@ -1,6 +1,8 @@
 // The program that runs those of document 01's worked lists that show its limits, 10 and 11, with the marks of document
 // 02, and prints a line for each. Every one is sheet P with some lamps, then lift, drain and drop.
 // lists: the sheet and the lists. found: what the services find of a list.
+#![tactic(auto)]
+
 mod found;
 mod lists;
 

@@ -6,7 +6,7 @@ use mathlib.Core.Path.{◌≡◌, refl, sym, ◌∙◌}
 use borrow.Author.Rules.{rules}
 use lib.ListN.{length, drop}
 use lib.Seq.{sets}
-use Rattle.access.proofs.StoreLaws.{rest-or-room-over, rest-next}
+use Rattle.access.proofs.StoreLaws.{rest_or_room_over, rest_next}
 use Rattle.access.proofs.put_all.Statement.{statement}
 use Rattle.access.proofs.put_all.Tie as tie
 
@@ -46,7 +46,7 @@ loop-again c =
     let start = turn.before.before in
     let loop = turn.before.loop in
     let values = start.before.before.before.args.values.now in
-    (sym (rest-next loop.words values loop.v (omega (arith, turn.loop-test.true, start.smaller.ensures))) ∙ loop.invariant.0, search rules)
+    (sym (rest_next loop.words values loop.v (omega (arith, turn.loop-test.true, start.smaller.ensures))) ∙ loop.invariant.0, search rules)
 
 same_length : tie.Need-same-length invariant-loop decreases-loop
 same_length c = search rules
@@ -57,7 +57,7 @@ returns c =
     let start = c.before.before in
     let values = start.before.before.before.args.values.now in
     let over : min (length loop.words) (length values) ≤ loop.v = omega (arith, c.loop-test.false, start.smaller.ensures, loop.invariant.1) in
-    sym (rest-or-room-over loop.words values loop.v over) ∙ loop.invariant.0
+    sym (rest_or_room_over loop.words values loop.v over) ∙ loop.invariant.0
 
 pub put-all-spec : {M : Type 1} → statement M
 put-all-spec =

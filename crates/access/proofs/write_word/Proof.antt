@@ -7,17 +7,17 @@ use lib.Seq.{sets}
 use native.Mathlib.Omega.{arith}
 use borrow.Author.Rules.{rules}
 use lib.Count.{trailing_le}
-use Rattle.access.proofs.OnesLaws.{ones-at-few, Turn, turn, all-stored, all-passed}
-use Rattle.access.specs.Bits.{word-bits}
-use Rattle.access.specs.between.Places.{ones-at, at_places}
+use Rattle.access.proofs.OnesLaws.{ones_at_few, Turn, turn, all_stored, all_passed}
+use Rattle.access.specs.Bits.{word_bits}
+use Rattle.access.specs.Between.Places.{ones_at, at_places}
 use Rattle.access.proofs.write_word.Statement.{statement}
 use Rattle.access.proofs.write_word.Tie as tie
 
 abbrev invariant-loop : tie.invariant-loop
 invariant-loop bits from words out₀ at rest₀ to₀ out rest to =
-    (sets out to (at_places words (ones-at from word-bits rest)) ≡ sets out₀ at (at_places words (ones-at from word-bits bits)))
-    × (to + length (ones-at from word-bits rest) ≡ at + length (ones-at from word-bits bits))
-    × (rest < 2 ^ word-bits)
+    (sets out to (at_places words (ones_at from word_bits rest)) ≡ sets out₀ at (at_places words (ones_at from word_bits bits)))
+    × (to + length (ones_at from word_bits rest) ≡ at + length (ones_at from word_bits bits))
+    × (rest < 2 ^ word_bits)
     × (length out ≡ length out₀)
 
 abbrev decreases-loop : tie.decreases-loop
@@ -31,10 +31,10 @@ loop-holds : tie.Need-loop-init invariant-loop decreases-loop
 loop-holds c = (refl, refl, search rules, refl)
 
 cast-word : tie.Need-overflow-cast-word invariant-loop decreases-loop
-cast-word c = omega (arith, trailing_le word-bits c.before.before.loop.rest)
+cast-word c = omega (arith, trailing_le word_bits c.before.before.loop.rest)
 
 add-word : tie.Need-overflow-add-word invariant-loop decreases-loop
-add-word c = omega (arith, trailing_le word-bits c.before.before.loop.rest)
+add-word c = omega (arith, trailing_le word_bits c.before.before.loop.rest)
 
 word-requires : tie.Need-word-requires invariant-loop decreases-loop
 word-requires c κs = search rules
@@ -43,7 +43,7 @@ put-requires : tie.Need-put-requires invariant-loop decreases-loop
 put-requires c κs = search rules
 
 cast-rest : tie.Need-overflow-cast-rest invariant-loop decreases-loop
-cast-rest c = omega (arith, trailing_le word-bits c.before.before.before.before.before.before.loop.rest)
+cast-rest c = omega (arith, trailing_le word_bits c.before.before.before.before.before.before.loop.rest)
 
 shl-rest : tie.Need-overflow-shl-rest invariant-loop decreases-loop
 shl-rest c = (turn-of c).low
@@ -54,7 +54,7 @@ sub-rest c = (turn-of c).within
 add-to : tie.Need-overflow-add-to invariant-loop decreases-loop
 add-to c =
     let args = c.before.before.before.before.before.before.before.before.before.args in
-    omega (arith, c.before.before.before.before.before.before.loop.invariant.1, ones-at-few args.from word-bits args.bits)
+    omega (arith, c.before.before.before.before.before.before.loop.invariant.1, ones_at_few args.from word_bits args.bits)
 
 loop-less : tie.Need-loop-smaller invariant-loop decreases-loop
 loop-less c = (turn-of c).falls
@@ -76,8 +76,8 @@ returns : tie.Need-returns invariant-loop decreases-loop
 returns c =
     let start = c.before.before.before.before.args in
     let here = c.before.loop in (
-      sym (all-stored start.from here.rest c.loop-test.false start.words.now here.out here.to) ∙ here.invariant.0,
-      sym (all-passed start.from here.rest c.loop-test.false here.to) ∙ here.invariant.1,
+      sym (all_stored start.from here.rest c.loop-test.false start.words.now here.out here.to) ∙ here.invariant.0,
+      sym (all_passed start.from here.rest c.loop-test.false here.to) ∙ here.invariant.1,
     )
 
 pub write-word-spec : {M : Type 1} → statement M

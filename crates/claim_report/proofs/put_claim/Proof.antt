@@ -1,6 +1,6 @@
 -- `put_claim` meets its contract: a line for each case of a claim. Assumes nothing.
 use lib.Dec.{lit≤}
-use Rattle.claim_report.proofs.LicensedLaws.{claim-put}
+use Rattle.claim_report.proofs.LicensedLaws.{claim_put}
 use borrow.Author.Rules.{rules}
 use Rattle.claim_report.proofs.put_claim.Statement.{statement}
 use Rattle.claim_report.proofs.put_claim.Tie as tie
@@ -38,7 +38,7 @@ same_length c = search rules
 returns : tie.Need-returns
 returns c =
     let put = c.before.before.put_alone.ensures in
-    claim-put c.before.before.before.before.before.enum_told.given.1 put.0 (put.1 (lit≤ tt))
+    claim_put c.before.before.before.before.before.enum_told.given.1 put.0 (put.1 (lit≤ tt))
 
 same-length-2 : tie.Need-same-length-2
 same-length-2 c = search rules
@@ -46,7 +46,7 @@ same-length-2 c = search rules
 returns-2 : tie.Need-returns-2
 returns-2 c =
     let put = c.before.before.put-alone2.ensures in
-    claim-put c.before.before.before.before.before.enum-told2.given.1 put.0 (put.1 (lit≤ tt))
+    claim_put c.before.before.before.before.before.enum-told2.given.1 put.0 (put.1 (lit≤ tt))
 
 same-length-3 : tie.Need-same-length-3
 same-length-3 c = search rules
@@ -54,7 +54,7 @@ same-length-3 c = search rules
 returns-3 : tie.Need-returns-3
 returns-3 c =
     let put = c.before.before.put_one.ensures in
-    claim-put c.before.before.before.before.before.before.claim.given.1 put.0 (put.1 (lit≤ tt))
+    claim_put c.before.before.before.before.before.before.claim.given.1 put.0 (put.1 (lit≤ tt))
 
 pub put-claim-spec : {M : Type 1} → statement M
 put-claim-spec =

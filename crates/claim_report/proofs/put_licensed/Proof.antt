@@ -1,6 +1,6 @@
 -- `put_licensed` meets its contract: the service over an output that has room for the longest list, and what is printed of its answer. Assumes nothing.
 use mathlib.Core.Path.{refl}
-use Rattle.claim_report.proofs.LicensedLaws.{reports-licensed, licensed-report, licensed-refusal}
+use Rattle.claim_report.proofs.LicensedLaws.{reports_licensed, licensed_report, licensed_refusal}
 use borrow.Author.Rules.{rules}
 use Rattle.claim_report.proofs.put_licensed.Statement.{statement}
 use Rattle.claim_report.proofs.put_licensed.Tie as tie
@@ -33,7 +33,7 @@ returns : tie.Need-returns
 returns c =
     let licenses = c.before.before.before.before.before.before.before.before.before.before.before.before.before.license.ensures.0 in
     let is = c.before.before.before.before.before.before.before.before.before.answer.given.1 in
-    licensed-report _ _ _ _ _ refl licenses _ is c.before.before.before.before.before.before.put-claim.ensures (c.before.before.put-report.ensures _ (reports-licensed _ _ _ _ _ refl licenses _ is))
+    licensed_report _ _ _ _ _ refl licenses _ is c.before.before.before.before.before.before.put-claim.ensures (c.before.before.put-report.ensures _ (reports_licensed _ _ _ _ _ refl licenses _ is))
 
 same-length-2 : tie.Need-same-length-2
 same-length-2 c = search rules
@@ -41,7 +41,7 @@ same-length-2 c = search rules
 returns-2 : tie.Need-returns-2
 returns-2 c =
     let put = c.before.before.put-refusal.ensures in
-    licensed-refusal _ _ _ _ _ refl c.before.before.before.before.before.before.before.before.before.license.ensures.0 _ c.before.before.before.before.before.answer2.given.1 put.0 put.1
+    licensed_refusal _ _ _ _ _ refl c.before.before.before.before.before.before.before.before.before.license.ensures.0 _ c.before.before.before.before.before.answer2.given.1 put.0 put.1
 
 pub put-licensed-spec : {M : Type 1} → statement M
 put-licensed-spec =

@@ -3,7 +3,7 @@ use Prim.Native.Nat.{◌-◌}
 use mathlib.Core.Path.{refl, ◌∙◌}
 use lib.ListN.{length}
 use borrow.Author.Rules.{rules}
-use Rattle.course.proofs.CourseLaws.{Going, going_start, going_more, follows_stuck, follows-over}
+use Rattle.course.proofs.CourseLaws.{Going, going_start, going_more, follows_stuck, follows_over}
 use Rattle.course.proofs.follow.Statement.{statement}
 use Rattle.course.proofs.follow.Tie as tie
 
@@ -69,7 +69,7 @@ same-length-4 : tie.Need-same-length-4 invariant-loop decreases-loop
 same-length-4 c = search rules
 
 returns-2 : tie.Need-returns-2 invariant-loop decreases-loop
-returns-2 c = follows-over _ _ _ _ _ _ _ _ _ c.before.before.before.before.before.before.loop.invariant c.before.before.put-state2.ensures c.before.before.before.before.before.loop-test.false
+returns-2 c = follows_over _ _ _ _ _ _ _ _ _ c.before.before.before.before.before.before.loop.invariant c.before.before.put-state2.ensures c.before.before.before.before.before.loop-test.false
 
 pub follow-spec : {M : Type 1} → statement M
 follow-spec =

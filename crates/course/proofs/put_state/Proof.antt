@@ -16,8 +16,8 @@ module _ (states : List ℕ) (at : ℕ) (state : List ℕ) where
   laid_next i more = rw (drop-cons state i 0 more, add-one, add-suc)
 
   -- and none left
-  laid-all : (i : ℕ) → length state ≤ i → states ≡ sets states (at + i) (drop i state)
-  laid-all i past = rw (drop_of_length-le state past)
+  laid_all : (i : ℕ) → length state ≤ i → states ≡ sets states (at + i) (drop i state)
+  laid_all i past = rw (drop_of_length-le state past)
 
 abbrev invariant-loop : tie.invariant-loop
 invariant-loop states₀ at state i₀ states i = (sets states (at + i) (drop i state) ≡ sets states₀ at state) × (length states ≡ length states₀)
@@ -58,7 +58,7 @@ returns : tie.Need-returns invariant-loop decreases-loop
 returns c =
     let args = c.before.before.before.before.args in
     let here = c.before.loop in
-    laid-all here.states args.at args.state.now here.i c.loop-test.false ∙ here.invariant.0
+    laid_all here.states args.at args.state.now here.i c.loop-test.false ∙ here.invariant.0
 
 pub put-state-spec : {M : Type 1} → statement M
 put-state-spec =

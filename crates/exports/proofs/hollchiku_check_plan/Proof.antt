@@ -1,5 +1,5 @@
 -- `hollchiku_check_plan` meets its contract: what is written is what the check of the plan answers. Assumes nothing.
-use Rattle.exports.proofs.LentLaws.{lent-checks}
+use Rattle.exports.proofs.LentLaws.{lent_checks}
 use borrow.Author.Rules.{rules}
 use Rattle.exports.proofs.hollchiku_check_plan.Statement.{statement}
 use Rattle.exports.proofs.hollchiku_check_plan.Tie as tie
@@ -23,7 +23,7 @@ same-length-2 : tie.Need-same-length-2
 same-length-2 c = search rules
 
 returns : tie.Need-returns
-returns c = lent-checks _ _ _ _ _ _ _ _ c.before.before.before.before.before.before.before.before.before.before.before.check-plan.ensures c.before.before.before.before.before.before.put_all_lem.ensures c.before.before.write-answer.ensures
+returns c = lent_checks _ _ _ _ _ _ _ _ c.before.before.before.before.before.before.before.before.before.before.before.check-plan.ensures c.before.before.before.before.before.before.put_all_lem.ensures c.before.before.write-answer.ensures
 
 pub hollchiku-check-plan-spec : {M : Type 1} → statement M
 hollchiku-check-plan-spec =

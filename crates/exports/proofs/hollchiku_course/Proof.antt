@@ -1,5 +1,5 @@
 -- `hollchiku_course` meets its contract: what is written is what the service answers. Assumes nothing.
-use Rattle.exports.proofs.LentLaws.{lent-course}
+use Rattle.exports.proofs.LentLaws.{lent_course}
 use borrow.Author.Rules.{rules}
 use Rattle.exports.proofs.hollchiku_course.Statement.{statement}
 use Rattle.exports.proofs.hollchiku_course.Tie as tie
@@ -18,7 +18,7 @@ same-length-2 c = search rules
 
 returns : tie.Need-returns
 returns c =
-    lent-course _ _ _ _ _ _ _ _ c.before.before.before.before.before.before.plan-course.ensures c.before.before.write-counted.ensures
+    lent_course _ _ _ _ _ _ _ _ c.before.before.before.before.before.before.plan-course.ensures c.before.before.write-counted.ensures
 
 pub hollchiku-course-spec : {M : Type 1} → statement M
 hollchiku-course-spec =

@@ -1,5 +1,5 @@
 -- `hollchiku_moves` meets its contract: what is written is what the service answers. Assumes nothing.
-use Rattle.exports.proofs.LentLaws.{lent-moves}
+use Rattle.exports.proofs.LentLaws.{lent_moves}
 use borrow.Author.Rules.{rules}
 use Rattle.exports.proofs.hollchiku_moves.Statement.{statement}
 use Rattle.exports.proofs.hollchiku_moves.Tie as tie
@@ -18,7 +18,7 @@ same-length-2 c = search rules
 
 returns : tie.Need-returns
 returns c =
-    lent-moves _ _ _ _ _ _ _ _ _ c.before.before.before.before.before.before.plan-moves.ensures c.before.before.write-answer.ensures
+    lent_moves _ _ _ _ _ _ _ _ _ c.before.before.before.before.before.before.plan-moves.ensures c.before.before.write-answer.ensures
 
 pub hollchiku-moves-spec : {M : Type 1} → statement M
 hollchiku-moves-spec =

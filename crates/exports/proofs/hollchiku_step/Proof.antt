@@ -1,6 +1,6 @@
 -- `hollchiku_step` meets its contract: what is written back and what is answered are those of one step in the state that was lent. Assumes nothing.
 use borrow.Author.Rules.{rules}
-use Rattle.exports.proofs.LentLaws.{lent-steps}
+use Rattle.exports.proofs.LentLaws.{lent_steps}
 use Rattle.exports.proofs.hollchiku_step.Statement.{statement}
 use Rattle.exports.proofs.hollchiku_step.Tie as tie
 
@@ -27,7 +27,7 @@ same-length-2 c = search rules
 
 returns : tie.Need-returns
 returns c =
-    lent-steps _ _ _ _ _ _ _ _ _ c.before.before.before.before.before.before.before.before.before.before.before.before.read-state.ensures
+    lent_steps _ _ _ _ _ _ _ _ _ c.before.before.before.before.before.before.before.before.before.before.before.before.read-state.ensures
     c.before.before.before.before.before.before.before.before.before.before.before.step.ensures
     c.before.before.before.before.before.before.put_all_lem.ensures c.before.before.write-verdict.ensures
 

@@ -1,5 +1,5 @@
 -- `hollchiku_translate` meets its contract: what is written is what the service answers. Assumes nothing.
-use Rattle.exports.proofs.LentLaws.{text-refused, text-written}
+use Rattle.exports.proofs.LentLaws.{text_refused, text_written}
 use borrow.Author.Rules.{rules}
 use Rattle.exports.proofs.hollchiku_translate.Statement.{statement}
 use Rattle.exports.proofs.hollchiku_translate.Tie as tie
@@ -26,7 +26,7 @@ same-length-2 : tie.Need-same-length-2
 same-length-2 c = search rules
 
 returns : tie.Need-returns
-returns c = text-refused _ _ _ _ _ _ c.before.before.before.before.before.before.before.before.before.translate.ensures.0 _ c.before.before.before.before.before.given.given.1 c.before.before.write-counted.ensures
+returns c = text_refused _ _ _ _ _ _ c.before.before.before.before.before.before.before.before.before.translate.ensures.0 _ c.before.before.before.before.before.given.given.1 c.before.before.write-counted.ensures
 
 same-length-3 : tie.Need-same-length-3
 same-length-3 c = search rules
@@ -35,7 +35,7 @@ same-length-4 : tie.Need-same-length-4
 same-length-4 c = search rules
 
 returns-2 : tie.Need-returns-2
-returns-2 c = text-written _ _ _ _ _ _ c.before.before.before.before.before.before.before.before.before.translate.ensures.0 _ c.before.before.before.before.before.given2.given.1 c.before.before.write-counted2.ensures
+returns-2 c = text_written _ _ _ _ _ _ c.before.before.before.before.before.before.before.before.before.translate.ensures.0 _ c.before.before.before.before.before.given2.given.1 c.before.before.write-counted2.ensures
 
 pub hollchiku-translate-spec : {M : Type 1} → statement M
 hollchiku-translate-spec =

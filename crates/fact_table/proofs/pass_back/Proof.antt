@@ -1,5 +1,5 @@
 -- `pass_back` meets its contract: one stamp, or both. Assumes nothing.
-use Rattle.fact_table.specs.between.Tables.{passed-back}
+use Rattle.fact_table.specs.Between.Tables.{passed_back}
 use borrow.Author.Rules.{rules}
 use Rattle.fact_table.proofs.pass_back.Statement.{statement}
 use Rattle.fact_table.proofs.pass_back.Tie as tie
@@ -14,14 +14,14 @@ same_length : tie.Need-same-length
 same_length c = search rules
 
 returns : tie.Need-returns
-unfolding passed-back
+unfolding passed_back
 returns c = rw (c.before.before.before.before.if1.true, ← c.before.before.before.before.before.before.before.stamp-effects.ensures) c.before.before.stamp.ensures
 
 same-length-2 : tie.Need-same-length-2
 same-length-2 c = search rules
 
 returns-2 : tie.Need-returns-2
-unfolding passed-back
+unfolding passed_back
 returns-2 c = rw c.if1.false c.before.before.before.stamp-effects.ensures
 
 pub pass-back-spec : {M : Type 1} → statement M

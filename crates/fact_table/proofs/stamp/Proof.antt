@@ -1,8 +1,8 @@
 -- `stamp` meets its contract. The loop's invariant: stamping what is left makes of the table what stamping all makes, and no length changes. The measure is the number of words left. Assumes nothing.
-use Rattle.fact_table.proofs.StampLaws.{stamped-over, stamped-next}
-use Rattle.fact_table.specs.between.Tables.{stamped}
-use Rattle.sheet.proofs.GroupLaws.{rest-shorter}
-use Rattle.sheet.specs.between.Group.{facts-in}
+use Rattle.fact_table.proofs.StampLaws.{stamped_over, stamped_next}
+use Rattle.fact_table.specs.Between.Tables.{stamped}
+use Rattle.sheet.proofs.GroupLaws.{rest_shorter}
+use Rattle.sheet.specs.Between.Group.{facts_in}
 use lib.ListN.{length}
 use Prim.Native.Nat.{◌-◌}
 use mathlib.Core.Path.{◌≡◌, refl, sym, ◌∙◌}
@@ -11,7 +11,7 @@ use Rattle.fact_table.proofs.stamp.Statement.{statement}
 use Rattle.fact_table.proofs.stamp.Tie as tie
 
 abbrev invariant-loop : tie.invariant-loop
-invariant-loop words table₀ x rest₀ table rest = (stamped table (facts-in words rest) x ≡ stamped table₀ (facts-in words rest₀) x) × (length table ≡ length table₀)
+invariant-loop words table₀ x rest₀ table rest = (stamped table (facts_in words rest) x ≡ stamped table₀ (facts_in words rest₀) x) × (length table ≡ length table₀)
 
 abbrev decreases-loop : tie.decreases-loop
 decreases-loop words table₀ x rest₀ table rest = rest.end - rest.at
@@ -32,17 +32,17 @@ rest-requires : tie.Need-rest-requires invariant-loop decreases-loop
 rest-requires c κs = search rules
 
 loop-less : tie.Need-loop-smaller invariant-loop decreases-loop
-loop-less c = rest-shorter _ _ c.rest.ensures c.before.before.before.before.before.before.if1.true
+loop-less c = rest_shorter _ _ c.rest.ensures c.before.before.before.before.before.before.if1.true
 
 loop-again : tie.Need-loop-preserved invariant-loop decreases-loop
 loop-again c =
-    (rw (c.rest.ensures, c.before.before.before.put8.ensures) (sym (stamped-next _ _ _ _ _ c.before.before.before.before.before.before.if1.true c.before.before.before.before.first.ensures.0) ∙ c.before.before.before.before.before.before.before.before.loop.invariant.0), search rules)
+    (rw (c.rest.ensures, c.before.before.before.put8.ensures) (sym (stamped_next _ _ _ _ _ c.before.before.before.before.before.before.if1.true c.before.before.before.before.first.ensures.0) ∙ c.before.before.before.before.before.before.before.before.loop.invariant.0), search rules)
 
 same_length : tie.Need-same-length invariant-loop decreases-loop
 same_length c = search rules
 
 returns : tie.Need-returns invariant-loop decreases-loop
-returns c = sym (stamped-over _ _ _ _ c.if1.false) ∙ c.before.before.loop.invariant.0
+returns c = sym (stamped_over _ _ _ _ c.if1.false) ∙ c.before.before.loop.invariant.0
 
 pub stamp-spec : {M : Type 1} → statement M
 stamp-spec =

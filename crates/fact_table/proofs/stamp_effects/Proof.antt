@@ -1,8 +1,8 @@
 -- `stamp_effects` meets its contract. The loop's invariant: stamping what is left makes of the table what stamping all makes, and no length changes. The measure is the number of words left. Assumes nothing.
-use Rattle.fact_table.proofs.StampLaws.{stamped-effects-over, stamped-effects-next}
-use Rattle.fact_table.specs.between.Tables.{stamped}
-use Rattle.sheet.proofs.EffectLaws.{effects-shorter}
-use Rattle.sheet.specs.between.Effects.{written_in}
+use Rattle.fact_table.proofs.StampLaws.{stamped_effects_over, stamped_effects_next}
+use Rattle.fact_table.specs.Between.Tables.{stamped}
+use Rattle.sheet.proofs.EffectLaws.{effects_shorter}
+use Rattle.sheet.specs.Between.Effects.{written_in}
 use lib.ListN.{length}
 use Prim.Native.Nat.{◌-◌}
 use mathlib.Core.Path.{◌≡◌, refl, sym, ◌∙◌}
@@ -32,17 +32,17 @@ rest-requires : tie.Need-rest-requires invariant-loop decreases-loop
 rest-requires c κs = search rules
 
 loop-less : tie.Need-loop-smaller invariant-loop decreases-loop
-loop-less c = effects-shorter c.before.before.before.before.before.before.before.before.before.before.before.args.words.now _ _ c.rest.ensures c.before.before.before.before.before.before.if1.true
+loop-less c = effects_shorter c.before.before.before.before.before.before.before.before.before.before.before.args.words.now _ _ c.rest.ensures c.before.before.before.before.before.before.if1.true
 
 loop-again : tie.Need-loop-preserved invariant-loop decreases-loop
 loop-again c =
-    (rw (c.rest.ensures, c.before.before.before.put8.ensures) (sym (stamped-effects-next _ _ _ _ _ c.before.before.before.before.before.before.if1.true c.before.before.before.before.first.ensures.0) ∙ c.before.before.before.before.before.before.before.before.loop.invariant.0), search rules)
+    (rw (c.rest.ensures, c.before.before.before.put8.ensures) (sym (stamped_effects_next _ _ _ _ _ c.before.before.before.before.before.before.if1.true c.before.before.before.before.first.ensures.0) ∙ c.before.before.before.before.before.before.before.before.loop.invariant.0), search rules)
 
 same_length : tie.Need-same-length invariant-loop decreases-loop
 same_length c = search rules
 
 returns : tie.Need-returns invariant-loop decreases-loop
-returns c = sym (stamped-effects-over _ _ _ _ c.if1.false) ∙ c.before.before.loop.invariant.0
+returns c = sym (stamped_effects_over _ _ _ _ c.if1.false) ∙ c.before.before.loop.invariant.0
 
 pub stamp-effects-spec : {M : Type 1} → statement M
 stamp-effects-spec =

@@ -8,20 +8,20 @@ use lib.Seq.{sets}
 use Rattle.sheet.specs.Limits.{limits}
 use Rattle.sheet.specs.Layout.{word}
 use Rattle.sheet.specs.Decode.{table}
-use Rattle.lent.specs.Words.{lent-state}
-use Rattle.sheet.proofs.TableLaws.{stores-over, stores-next, stores-whole}
+use Rattle.lent.specs.Words.{lent_state}
+use Rattle.sheet.proofs.TableLaws.{stores_over, stores_next, stores_whole}
 use Rattle.lent.proofs.read_state.Statement.{statement}
 use Rattle.lent.proofs.read_state.Tie as tie
 
 abbrev invariant-loop : tie.invariant-loop
-invariant-loop words values₀ v₀ values v = sets values v (table (word words) v (limits.variables - v)) ≡ lent-state words
+invariant-loop words values₀ v₀ values v = sets values v (table (word words) v (limits.variables - v)) ≡ lent_state words
 
 abbrev decreases-loop : tie.decreases-loop
 decreases-loop words values₀ v₀ values v = limits.variables - v
 
 loop-holds : tie.Need-loop-init invariant-loop decreases-loop
-unfolding lent-state
-loop-holds c = stores-whole _ (replicate limits.variables 0) _ refl
+unfolding lent_state
+loop-holds c = stores_whole _ (replicate limits.variables 0) _ refl
 
 word-requires : tie.Need-word-requires invariant-loop decreases-loop
 word-requires c κs = search rules
@@ -41,10 +41,10 @@ loop-less c = search rules
 loop-again : tie.Need-loop-preserved invariant-loop decreases-loop
 loop-again c =
     cc
-    (stores-next (word c.before.before.before.before.args.words.now) c.before.before.loop.values c.before.before.loop.v limits.variables c.before.loop-test.true)
+    (stores_next (word c.before.before.before.before.args.words.now) c.before.before.loop.values c.before.before.loop.v limits.variables c.before.loop-test.true)
 
 returns : tie.Need-returns invariant-loop decreases-loop
-returns c = sym (stores-over _ _ _ _ c.loop-test.false) ∙ c.before.loop.invariant
+returns c = sym (stores_over _ _ _ _ c.loop-test.false) ∙ c.before.loop.invariant
 
 pub read-state-spec : {M : Type 1} → statement M
 read-state-spec =

@@ -1,7 +1,7 @@
 -- `write_both` meets its contract: an answer and two tallies, one behind the other. Assumes nothing.
 use Rattle.refusal.specs.Refusal.{told}
 use mathlib.Core.Path.{◌∙◌}
-use Rattle.lent.proofs.StoredLaws.{both-written}
+use Rattle.lent.proofs.StoredLaws.{both_written}
 use borrow.Author.Rules.{rules}
 use Rattle.lent.proofs.write_both.Statement.{statement}
 use Rattle.lent.proofs.write_both.Tie as tie
@@ -33,7 +33,7 @@ same_length c = search rules
 returns : tie.Need-returns
 returns c =
     let entry = c.before.before.before.before.before.before.before.before.before.before.before.before.before.before.before.before.before.args in let first = c.before.before.before.before.before.before.before.before.before.before.before.before.before.before.write-verdict.ensures in let second = c.before.before.before.before.before.before.before.before.write-pair.ensures in c.before.before.write-pair2.ensures
-    ∙ rw (second, first) (both-written entry.out.now (told entry.verdict) entry.first entry.second)
+    ∙ rw (second, first) (both_written entry.out.now (told entry.verdict) entry.first entry.second)
 
 pub write-both-spec : {M : Type 1} → statement M
 write-both-spec =

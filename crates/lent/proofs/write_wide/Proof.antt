@@ -4,7 +4,7 @@ use mathlib.Core.Path.{◌≡◌, refl, sym, ◌∙◌}
 use borrow.Author.Rules.{rules}
 use lib.ListN.{length, drop}
 use lib.Seq.{sets}
-use Rattle.access.proofs.StoreLaws.{rest_over, rest-next}
+use Rattle.access.proofs.StoreLaws.{rest_over, rest_next}
 use Rattle.lent.proofs.write_wide.Statement.{statement}
 use Rattle.lent.proofs.write_wide.Tie as tie
 
@@ -35,7 +35,7 @@ loop-less c = search rules
 loop-again : tie.Need-loop-preserved invariant-loop decreases-loop
 loop-again c =
     let turn = c.before.before.before.before.before in let entry = turn.before.before.before in
-    (cc (rest-next turn.before.loop.out entry.before.args.values.now turn.before.loop.i turn.loop-test.true), search rules)
+    (cc (rest_next turn.before.loop.out entry.before.args.values.now turn.before.loop.i turn.loop-test.true), search rules)
 
 same_length : tie.Need-same-length invariant-loop decreases-loop
 same_length c = search rules

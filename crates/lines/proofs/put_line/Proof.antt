@@ -1,5 +1,5 @@
 -- `put_line` meets its contract: two texts, one behind the other. Assumes nothing.
-use Rattle.lines.proofs.PrintLaws.{prints-both}
+use Rattle.lines.proofs.PrintLaws.{prints_both}
 use borrow.Author.Rules.{rules}
 use Rattle.lines.proofs.put_line.Statement.{statement}
 use Rattle.lines.proofs.put_line.Tie as tie
@@ -14,7 +14,7 @@ same_length : tie.Need-same-length
 same_length c = search rules
 
 returns : tie.Need-returns
-returns c = prints-both c.before.before.before.before.before.before.put-text.ensures c.before.before.end_line.ensures
+returns c = prints_both c.before.before.before.before.before.before.put-text.ensures c.before.before.end_line.ensures
 
 pub put-line-spec : {M : Type 1} → statement M
 put-line-spec = tie.close (tie.spec put-text-requires end-line-requires same_length returns)

@@ -1,5 +1,5 @@
 -- `put_number` meets its contract: the digits that the library puts into an array are the number's numeral. Assumes nothing.
-use Rattle.lines.proofs.NumeralLaws.{prints-numeral}
+use Rattle.lines.proofs.NumeralLaws.{prints_numeral}
 use borrow.Author.Rules.{rules}
 use Rattle.lines.proofs.put_number.Statement.{statement}
 use Rattle.lines.proofs.put_number.Tie as tie
@@ -22,7 +22,7 @@ same_length c = search rules
 returns : tie.Need-returns
 returns c =
     let spelled = c.before.before.before.before.before.decimal.ensures in
-    prints-numeral _ _ spelled.1.0 spelled.1.1 c.before.before.put-text.ensures
+    prints_numeral _ _ spelled.1.0 spelled.1.1 c.before.before.put-text.ensures
 
 pub put-number-spec : {M : Type 1} → statement M
 put-number-spec =

@@ -8,7 +8,7 @@ use lib.ListN.{length, take}
 use lib.Seq.{take-length}
 use Rattle.lines.specs.Lines.{spaced}
 use Rattle.lines.specs.Prints.{Prints}
-use Rattle.lines.proofs.PrintLaws.{spaced-nothing, prints-spaced, prints-length}
+use Rattle.lines.proofs.PrintLaws.{spaced_nothing, prints_spaced, prints_length}
 use Rattle.lines.proofs.put_spaced.Statement.{statement}
 use Rattle.lines.proofs.put_spaced.Tie as tie
 
@@ -22,7 +22,7 @@ least-requires : tie.Need-least-requires invariant-loop decreases-loop
 least-requires c κs = search rules
 
 loop-holds : tie.Need-loop-init invariant-loop decreases-loop
-loop-holds c = (spaced-nothing _ _ _ c.least.ensures, search rules)
+loop-holds c = (spaced_nothing _ _ _ c.least.ensures, search rules)
 
 put-byte-requires : tie.Need-put-byte-requires invariant-loop decreases-loop
 put-byte-requires c κs = search rules
@@ -46,10 +46,10 @@ loop-again : tie.Need-loop-preserved invariant-loop decreases-loop
 loop-again c =
     let spaces = c.before.before.before.before.before.before.before in
     let turn = spaces.before.before.before in
-    (prints-spaced _ turn.loop.i spaces.before.before.loop-test.true turn.loop.invariant.0 spaces.put_byte.ensures c.before.before.put-number.ensures, search rules)
+    (prints_spaced _ turn.loop.i spaces.before.before.loop-test.true turn.loop.invariant.0 spaces.put_byte.ensures c.before.before.put-number.ensures, search rules)
 
 same_length : tie.Need-same-length invariant-loop decreases-loop
-same_length c = prints-length c.before.loop.invariant.0
+same_length c = prints_length c.before.loop.invariant.0
 
 returns : tie.Need-returns invariant-loop decreases-loop
 returns c =

@@ -6,7 +6,7 @@ use borrow.Author.Rules.{rules}
 use lib.ListN.{length, take}
 use lib.Seq.{take-length}
 use Rattle.lines.specs.Prints.{Prints}
-use Rattle.lines.proofs.PrintLaws.{prints-nothing, prints-byte, prints-length}
+use Rattle.lines.proofs.PrintLaws.{prints_nothing, prints_byte, prints_length}
 use Rattle.lines.proofs.put_text.Statement.{statement}
 use Rattle.lines.proofs.put_text.Tie as tie
 
@@ -20,7 +20,7 @@ least-requires : tie.Need-least-requires invariant-loop decreases-loop
 least-requires c κs = search rules
 
 loop-holds : tie.Need-loop-init invariant-loop decreases-loop
-loop-holds c = (prints-nothing _ _ _ c.least.ensures, search rules)
+loop-holds c = (prints_nothing _ _ _ c.least.ensures, search rules)
 
 shared-slice-read-put-byte : tie.Need-shared-slice-read-put-byte invariant-loop decreases-loop
 shared-slice-read-put-byte c = search rules
@@ -37,10 +37,10 @@ loop-less c = search rules
 loop-again : tie.Need-loop-preserved invariant-loop decreases-loop
 loop-again c =
     let turn = c.before.before.before.before.before.before in
-    (prints-byte _ turn.loop.i c.before.before.before.before.before.loop-test.true turn.loop.invariant.0 c.before.before.put_byte.ensures, search rules)
+    (prints_byte _ turn.loop.i c.before.before.before.before.before.loop-test.true turn.loop.invariant.0 c.before.before.put_byte.ensures, search rules)
 
 same_length : tie.Need-same-length invariant-loop decreases-loop
-same_length c = prints-length c.before.loop.invariant.0
+same_length c = prints_length c.before.loop.invariant.0
 
 returns : tie.Need-returns invariant-loop decreases-loop
 returns c =

@@ -1,5 +1,5 @@
 -- `mask_of` meets its contract: its words are the four, each of the flags from its start on. Assumes nothing.
-use Rattle.mask.proofs.MaskLaws.{four-words}
+use Rattle.mask.proofs.MaskLaws.{four_words}
 use borrow.Author.Rules.{rules}
 use Rattle.mask.proofs.mask_of.Statement.{statement}
 use Rattle.mask.proofs.mask_of.Tie as tie
@@ -24,7 +24,7 @@ word-of-requires-4 c κs = search rules
 
 returns : tie.Need-returns
 returns c =
-    four-words _ _ _ _ _ c.before.before.before.word_of.ensures c.before.before.word-of2.ensures c.before.word-of3.ensures c.word-of4.ensures
+    four_words _ _ _ _ _ c.before.before.before.word_of.ensures c.before.before.word-of2.ensures c.before.word-of3.ensures c.word-of4.ensures
 
 pub mask-of-spec : {M : Type 1} → statement M
 mask-of-spec =

@@ -3,19 +3,19 @@ use Prim.Native.Nat.{◌≤◌}
 use mathlib.Core.Path.{◌≡◌, sym, ◌∙◌}
 use native.Mathlib.Omega.{arith}
 use borrow.Author.Rules.{rules}
-use Rattle.mask.specs.Mask.{word-bits}
-use Rattle.mask.proofs.MaskLaws.{upper-part, upper-none, upper-next, upper_fits, upper-whole}
+use Rattle.mask.specs.Mask.{word_bits}
+use Rattle.mask.proofs.MaskLaws.{upper_part, upper_none, upper_next, upper_fits, upper_whole}
 use Rattle.mask.proofs.word_of.Statement.{statement}
 use Rattle.mask.proofs.word_of.Tie as tie
 
 abbrev invariant-loop : tie.invariant-loop
-invariant-loop flags from word₀ i₀ word i = (i ≤ word-bits) × (word ≡ upper-part flags from i)
+invariant-loop flags from word₀ i₀ word i = (i ≤ word_bits) × (word ≡ upper_part flags from i)
 
 abbrev decreases-loop : tie.decreases-loop
 decreases-loop flags from word₀ i₀ word i = i
 
 loop-holds : tie.Need-loop-init invariant-loop decreases-loop
-loop-holds c = (omega arith, sym (upper-none _ _))
+loop-holds c = (omega arith, sym (upper_none _ _))
 
 sub-i : tie.Need-overflow-sub-i invariant-loop decreases-loop
 sub-i c = omega arith
@@ -40,10 +40,10 @@ loop-less : tie.Need-loop-smaller invariant-loop decreases-loop
 loop-less c = omega arith
 
 loop-again : tie.Need-loop-preserved invariant-loop decreases-loop
-loop-again c = (omega arith, cc (upper-next _ _ _ c.before.loop-test.true c.before.before.loop.invariant.0))
+loop-again c = (omega arith, cc (upper_next _ _ _ c.before.loop-test.true c.before.before.loop.invariant.0))
 
 returns : tie.Need-returns invariant-loop decreases-loop
-returns c = c.before.loop.invariant.1 ∙ upper-whole _ _ _ c.loop-test.false
+returns c = c.before.loop.invariant.1 ∙ upper_whole _ _ _ c.loop-test.false
 
 pub word-of-spec : {M : Type 1} → statement M
 word-of-spec =

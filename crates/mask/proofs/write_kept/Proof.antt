@@ -7,37 +7,37 @@ use mathlib.Core.List.{[]}
 use lib.ListN.{length, get_or}
 use lib.Seq.{sets}
 use borrow.Author.Rules.{rules}
-use Rattle.mask.specs.Mask.{mask-length, word-bits}
-use Rattle.access.specs.between.Places.{at_places}
-use Rattle.access.proofs.OnesLaws.{ones-at-few}
-use Rattle.mask.specs.between.Places.{kept-by-words}
-use Rattle.mask.proofs.LengthLaws.{words-length}
-use Rattle.mask.proofs.WriteLaws.{places-left, left-whole, left-length, left-none, word-passed, word-stored}
+use Rattle.mask.specs.Mask.{mask_length, word_bits}
+use Rattle.access.specs.Between.Places.{at_places}
+use Rattle.access.proofs.OnesLaws.{ones_at_few}
+use Rattle.mask.specs.Between.Places.{kept_by_words}
+use Rattle.mask.proofs.LengthLaws.{words_length}
+use Rattle.mask.proofs.WriteLaws.{places_left, left_whole, left_length, left_none, word_passed, word_stored}
 use Rattle.mask.proofs.write_kept.Statement.{statement}
 use Rattle.mask.proofs.write_kept.Tie as tie
 
 abbrev invariant-loop : tie.invariant-loop
 invariant-loop plan out₀ words to₀ k₀ out to k =
-    (sets out to (at_places plan (places-left words k)) ≡ sets out₀ 0 (kept-by-words words plan))
-    × (to + length (places-left words k) ≡ length (kept-by-words words plan))
-    × (to ≤ k * word-bits)
-    × (k ≤ mask-length)
-    × (length words ≡ mask-length)
+    (sets out to (at_places plan (places_left words k)) ≡ sets out₀ 0 (kept_by_words words plan))
+    × (to + length (places_left words k) ≡ length (kept_by_words words plan))
+    × (to ≤ k * word_bits)
+    × (k ≤ mask_length)
+    × (length words ≡ mask_length)
     × (length out ≡ length out₀)
 
 abbrev decreases-loop : tie.decreases-loop
-decreases-loop plan out₀ words to₀ k₀ out to k = mask-length - k
+decreases-loop plan out₀ words to₀ k₀ out to k = mask_length - k
 
 loop-holds : tie.Need-loop-init invariant-loop decreases-loop
 loop-holds c =
     let start = c.before.before.before in
     let words = start.args.mask.words in
     let plan = start.args.plan.now in (
-      ap (sets start.args.out.now 0) (left-whole words plan),
-      zero-add _ ∙ left-length words plan,
+      ap (sets start.args.out.now 0) (left_whole words plan),
+      zero-add _ ∙ left_length words plan,
       omega arith,
       omega arith,
-      words-length start.args.mask _ start.well-formed.0,
+      words_length start.args.mask _ start.well_formed.0,
       refl,
     )
 
@@ -72,9 +72,9 @@ loop-again c =
     let here = c.before.before.before.before.before.loop in
     let more : here.k < length words = omega (arith, c.before.before.before.before.loop-test.true, here.invariant.4) in
     let word = c.before.before.write_word in (
-      cc (word-stored words here.k more here.to args.plan.now here.out, word.ensures.0, word.ensures.1, here.invariant.0),
-      cc (word-passed words here.k more here.to, word.ensures.1, here.invariant.1),
-      omega (arith, word.ensures.1, ones-at-few (here.k * word-bits) word-bits (get_or words here.k 0), here.invariant.2),
+      cc (word_stored words here.k more here.to args.plan.now here.out, word.ensures.0, word.ensures.1, here.invariant.0),
+      cc (word_passed words here.k more here.to, word.ensures.1, here.invariant.1),
+      omega (arith, word.ensures.1, ones_at_few (here.k * word_bits) word_bits (get_or words here.k 0), here.invariant.2),
       omega (arith, c.before.before.before.before.loop-test.true),
       here.invariant.4,
       word.auto.1.1.1.0 ∙ here.invariant.5,
@@ -87,7 +87,7 @@ returns : tie.Need-returns invariant-loop decreases-loop
 returns c =
     let args = c.before.before.before.before.before.args in
     let here = c.before.loop in
-    let none : places-left args.mask.words here.k ≡ [] = left-none args.mask.words here.k (omega (arith, c.loop-test.false, here.invariant.4)) in (
+    let none : places_left args.mask.words here.k ≡ [] = left_none args.mask.words here.k (omega (arith, c.loop-test.false, here.invariant.4)) in (
       rw none at here.invariant.0,
       omega (arith, ap length none, here.invariant.1),
     )

@@ -1,5 +1,5 @@
 -- `eliminate` meets its contract: what is written is what the service answers. Assumes nothing.
-use Rattle.striking.proofs.StrikeLaws.{lent-left}
+use Rattle.striking.proofs.StrikeLaws.{lent_left}
 use borrow.Author.Rules.{rules}
 use Rattle.striking.proofs.eliminate.Statement.{statement}
 use Rattle.striking.proofs.eliminate.Tie as tie
@@ -21,7 +21,7 @@ same-length-3 c = search rules
 
 returns : tie.Need-returns
 returns c =
-    lent-left _ _ _ _ _ _ _ _ _ _ _ _ c.before.before.before.before.before.before.before.before.before.eliminate-plan.ensures
+    lent_left _ _ _ _ _ _ _ _ _ _ _ _ c.before.before.before.before.before.before.before.before.before.eliminate-plan.ensures
     c.before.before.before.before.write-reduced.ensures
 
 pub eliminate-spec : {M : Type 1} → statement M

@@ -1,5 +1,5 @@
 -- `eliminate_cheaper` meets its contract: what is written is what the service answers. Assumes nothing.
-use Rattle.striking.proofs.StrikeLaws.{lent-left}
+use Rattle.striking.proofs.StrikeLaws.{lent_left}
 use borrow.Author.Rules.{rules}
 use Rattle.striking.proofs.eliminate_cheaper.Statement.{statement}
 use Rattle.striking.proofs.eliminate_cheaper.Tie as tie
@@ -21,7 +21,7 @@ same-length-3 c = search rules
 
 returns : tie.Need-returns
 returns c =
-    lent-left _ _ _ _ _ _ _ _ _ _ _ _ c.before.before.before.before.before.before.before.before.before.cheaper-left.ensures
+    lent_left _ _ _ _ _ _ _ _ _ _ _ _ c.before.before.before.before.before.before.before.before.before.cheaper_left.ensures
     c.before.before.before.before.write-reduced.ensures
 
 pub eliminate-cheaper-spec : {M : Type 1} → statement M

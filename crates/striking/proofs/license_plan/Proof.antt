@@ -1,5 +1,5 @@
 -- `license_plan` meets its contract: what is written is what the service answers. Assumes nothing.
-use Rattle.striking.proofs.StrikeLaws.{lent-licenses, lent-licence}
+use Rattle.striking.proofs.StrikeLaws.{lent_licenses, lent_licence}
 use borrow.Author.Rules.{rules}
 use Rattle.striking.proofs.license_plan.Statement.{statement}
 use Rattle.striking.proofs.license_plan.Tie as tie
@@ -27,8 +27,8 @@ returns c =
     let licensed = c.before.before.before.before.before.before.before.before.before.before.before.before.before.before.license.ensures in
     let writes = c.before.before.before.before.before.before.before.before.write-reduced.ensures in
     let claimed = c.before.before.write-claim.ensures in (
-      lent-licenses _ _ _ _ _ _ _ _ _ _ writes claimed licensed.0,
-      lent-licence _ _ _ _ _ _ _ _ _ c.before.before.before.before.before.before.before.before.before.before.before.before.before.before.license.result writes claimed licensed.1,
+      lent_licenses _ _ _ _ _ _ _ _ _ _ writes claimed licensed.0,
+      lent_licence _ _ _ _ _ _ _ _ _ c.before.before.before.before.before.before.before.before.before.before.before.before.before.before.license.result writes claimed licensed.1,
     )
 
 pub license-plan-spec : {M : Type 1} → statement M

@@ -1,5 +1,5 @@
 -- `minimise` meets its contract: what is written is what the service answers. Assumes nothing.
-use Rattle.striking.proofs.StrikeLaws.{lent-left, lent-demand}
+use Rattle.striking.proofs.StrikeLaws.{lent_left, lent_demand}
 use borrow.Author.Rules.{rules}
 use Rattle.striking.proofs.minimise.Statement.{statement}
 use Rattle.striking.proofs.minimise.Tie as tie
@@ -23,7 +23,7 @@ returns : tie.Need-returns
 returns c =
     let reduced = c.before.before.before.before.before.before.before.before.before.minimal-reduction.ensures in
     let writes = c.before.before.before.before.write-reduced.ensures in
-    (lent-left _ _ _ _ _ _ _ _ _ _ _ _ reduced.0.answers writes, lent-demand _ _ _ _ _ _ _ _ _ _ reduced.1 writes)
+    (lent_left _ _ _ _ _ _ _ _ _ _ _ _ reduced.0.answers writes, lent_demand _ _ _ _ _ _ _ _ _ _ reduced.1 writes)
 
 pub minimise-spec : {M : Type 1} → statement M
 minimise-spec =

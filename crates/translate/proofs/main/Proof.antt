@@ -1,5 +1,5 @@
 -- `main` meets its contract: what is answered lies inside the arrays. Assumes nothing.
-use Rattle.translate.proofs.SayLaws.{counts-written}
+use Rattle.translate.proofs.SayLaws.{counts_written}
 use borrow.Author.Rules.{rules}
 use Rattle.translate.proofs.main.Statement.{statement}
 use Rattle.translate.proofs.main.Tie as tie
@@ -23,13 +23,13 @@ array-share-prefix-out : tie.Need-array-share-prefix-out
 array-share-prefix-out c = search rules
 
 slice-aggregate-give : tie.Need-slice-aggregate-give
-slice-aggregate-give c = (counts-written c.before.before.before.before.before.translate-input.ensures.0.gives).0.1
+slice-aggregate-give c = (counts_written c.before.before.before.before.before.translate-input.ensures.0.gives).0.1
 
 array-share-prefix-errors : tie.Need-array-share-prefix-errors
 array-share-prefix-errors c = search rules
 
 slice-aggregate-give-2 : tie.Need-slice-aggregate-give-2
-slice-aggregate-give-2 c = (counts-written c.before.before.before.before.before.before.translate-input.ensures.0.gives).1.1
+slice-aggregate-give-2 c = (counts_written c.before.before.before.before.before.before.translate-input.ensures.0.gives).1.1
 
 slice-aggregate-give-3 : tie.Need-slice-aggregate-give-3
 slice-aggregate-give-3 c = search rules

@@ -1,7 +1,7 @@
 -- `trial` meets its contract: the walk of the rest, with the step struck and counted. Assumes nothing.
 use Prim.Native.Nat.{◌<◌, ◌≤◌}
 use lib.ListN.{length}
-use Rattle.trial.proofs.TriedLaws.{tries-front}
+use Rattle.trial.proofs.TriedLaws.{tries_front}
 use borrow.Author.Rules.{rules}
 use Rattle.trial.proofs.trial.Statement.{statement}
 use Rattle.trial.proofs.trial.Tie as tie
@@ -50,7 +50,7 @@ returns c =
     let start = c.before.before.before.before.before.before.before.before.before.before.before.before.before.before.before.before in
     let inside : start.args.i < length start.args.flags = search rules in
     let long : 64 ≤ length start.args.values = search rules in
-    tries-front _ _ _ _ _ _ _ _ _ c.before.before.before.before.before.before.before.before.before.before.before.before.strike.ensures c.before.before.before.before.before.before.before.before.cost.ensures.0 c.before.before.before.before.before.before.before.before.before.before.new.ensures c.before.before.before.before.before.before.before.add.ensures _ _ _ _
+    tries_front _ _ _ _ _ _ _ _ _ c.before.before.before.before.before.before.before.before.before.before.before.before.strike.ensures c.before.before.before.before.before.before.before.before.cost.ensures.0 c.before.before.before.before.before.before.before.before.before.before.new.ensures c.before.before.before.before.before.before.before.add.ensures _ _ _ _
     inside start.requires.1 c.before.before.before.before.walk-rest.ensures c.goal-holds.ensures start.requires.0 long
 
 pub trial-spec : {M : Type 1} → statement M

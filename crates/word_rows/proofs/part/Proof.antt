@@ -1,5 +1,5 @@
 -- `part` meets its contract, by where the part begins and ends. Assumes nothing.
-use Rattle.word_rows.proofs.RowLaws.{part-past, part-passed, part-there}
+use Rattle.word_rows.proofs.RowLaws.{part_past, part_passed, part_there}
 use borrow.Author.Rules.{rules}
 use Rattle.word_rows.proofs.part.Statement.{statement}
 use Rattle.word_rows.proofs.part.Tie as tie
@@ -8,13 +8,13 @@ front-requires : tie.Need-front-requires
 front-requires c κs = search rules
 
 returns : tie.Need-returns
-returns c = part-past _ _ _ _ c.before.if1.true c.front.ensures
+returns c = part_past _ _ _ _ c.before.if1.true c.front.ensures
 
 front-requires-2 : tie.Need-front-requires-2
 front-requires-2 c κs = search rules
 
 returns-2 : tie.Need-returns-2
-returns-2 c = part-passed _ _ _ _ c.before.if2.true c.front2.ensures
+returns-2 c = part_passed _ _ _ _ c.before.if2.true c.front2.ensures
 
 mul-front : tie.Need-overflow-mul-front
 mul-front c = search rules
@@ -36,7 +36,7 @@ front-requires-3 c κs = search rules
 
 returns-3 : tie.Need-returns-3
 returns-3 c = let begun = c.before.before.before.before.before in
-    part-there begun.args.words.now _ begun.args.at begun.args.end c.front3.ensures
+    part_there begun.args.words.now _ begun.args.at begun.args.end c.front3.ensures
 
 pub part-spec : {M : Type 1} → statement M
 part-spec =

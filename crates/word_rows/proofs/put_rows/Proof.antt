@@ -7,9 +7,9 @@ use mathlib.Core.List.{List, [], ◌++◌}
 use borrow.Author.Rules.{rules}
 use lib.ListN.{length, drop}
 use Rattle.lines.specs.Prints.{Prints}
-use Rattle.lines.proofs.PrintLaws.{prints-nothing, prints-length}
+use Rattle.lines.proofs.PrintLaws.{prints_nothing, prints_length}
 use Rattle.word_rows.specs.Rows.{rows}
-use Rattle.word_rows.proofs.RowLaws.{row_inside, row-some, row_put, rows-put}
+use Rattle.word_rows.proofs.RowLaws.{row_inside, row_some, row_put, rows_put}
 use Rattle.word_rows.proofs.put_rows.Statement.{statement}
 use Rattle.word_rows.proofs.put_rows.Tie as tie
 
@@ -23,7 +23,7 @@ earlier-requires : tie.Need-earlier-requires invariant-loop decreases-loop
 earlier-requires c κs = search rules
 
 loop-holds : tie.Need-loop-init invariant-loop decreases-loop
-loop-holds c = (([], prints-nothing _ _ _ c.earlier.ensures, refl), search rules)
+loop-holds c = (([], prints_nothing _ _ _ c.earlier.ensures, refl), search rules)
 
 mul-front : tie.Need-overflow-mul-front invariant-loop decreases-loop
 mul-front c = search rules
@@ -49,7 +49,7 @@ add-i c = omega (arith, row_inside c.before.before.before.before.before.before.b
 loop-less : tie.Need-loop-smaller invariant-loop decreases-loop
 loop-less c = let words = c.before.before.before.before.before.before.before.before.before.before.before.args.words.now in
     let i = c.before.before.before.before.before.before.before.loop.i in
-    omega (arith, row_inside words _ i c.before.before.before.before.before.before.loop-test.true c.before.before.before.before.front.ensures, row-some words _ i c.before.before.before.before.before.before.loop-test.true c.before.before.before.before.front.ensures)
+    omega (arith, row_inside words _ i c.before.before.before.before.before.before.loop-test.true c.before.before.before.before.front.ensures, row_some words _ i c.before.before.before.before.before.before.loop-test.true c.before.before.before.before.front.ensures)
 
 loop-again : tie.Need-loop-preserved invariant-loop decreases-loop
 loop-again c = let words = c.before.before.before.before.before.before.before.before.before.before.before.args.words.now in
@@ -59,10 +59,10 @@ loop-again c = let words = c.before.before.before.before.before.before.before.be
     (row_put words _ i c.before.before.before.before.before.before.loop-test.true c.before.before.before.before.front.ensures done all prints c.before.before.put-word-row.ensures, row_inside words _ i c.before.before.before.before.before.before.loop-test.true c.before.before.before.before.front.ensures)
 
 same_length : tie.Need-same-length invariant-loop decreases-loop
-same_length c = prints-length c.before.loop.invariant.0.1
+same_length c = prints_length c.before.loop.invariant.0.1
 
 returns : tie.Need-returns invariant-loop decreases-loop
-returns c = let (done, prints, all) = c.before.loop.invariant.0 in rows-put c.before.before.before.before.before.args.words.now done c.before.loop.i c.loop-test.false all prints
+returns c = let (done, prints, all) = c.before.loop.invariant.0 in rows_put c.before.before.before.before.before.args.words.now done c.before.loop.i c.loop-test.false all prints
 
 pub put-rows-spec : {M : Type 1} → statement M
 put-rows-spec =

@@ -1,5 +1,5 @@
 -- `put_word_row` meets its contract: two texts, one behind the other. Assumes nothing.
-use Rattle.lines.proofs.PrintLaws.{prints-both}
+use Rattle.lines.proofs.PrintLaws.{prints_both}
 use borrow.Author.Rules.{rules}
 use Rattle.word_rows.proofs.put_word_row.Statement.{statement}
 use Rattle.word_rows.proofs.put_word_row.Tie as tie
@@ -17,7 +17,7 @@ same_length : tie.Need-same-length
 same_length c = search rules
 
 returns : tie.Need-returns
-returns c = prints-both c.before.before.before.before.before.before.before.put-words.ensures c.before.before.put-text.ensures
+returns c = prints_both c.before.before.before.before.before.before.before.put-words.ensures c.before.before.put-text.ensures
 
 pub put-word-row-spec : {M : Type 1} → statement M
 put-word-row-spec =

@@ -7,7 +7,7 @@ use lib.ListN.{length, take}
 use lib.Seq.{take-length}
 use Rattle.lines.specs.Lines.{spaced}
 use Rattle.lines.specs.Prints.{Prints}
-use Rattle.lines.proofs.PrintLaws.{spaced-nothing, prints-spaced, prints-length}
+use Rattle.lines.proofs.PrintLaws.{spaced_nothing, prints_spaced, prints_length}
 use Rattle.word_rows.proofs.put_words.Statement.{statement}
 use Rattle.word_rows.proofs.put_words.Tie as tie
 
@@ -21,7 +21,7 @@ earlier-requires : tie.Need-earlier-requires invariant-loop decreases-loop
 earlier-requires c κs = search rules
 
 loop-holds : tie.Need-loop-init invariant-loop decreases-loop
-loop-holds c = (spaced-nothing _ _ _ c.earlier.ensures, search rules)
+loop-holds c = (spaced_nothing _ _ _ c.earlier.ensures, search rules)
 
 slice-aggregate-put-text : tie.Need-slice-aggregate-put-text invariant-loop decreases-loop
 slice-aggregate-put-text c = search rules
@@ -49,10 +49,10 @@ loop-less c = search rules
 
 loop-again : tie.Need-loop-preserved invariant-loop decreases-loop
 loop-again c = let turn = c.before.before.before.before.before.before.before.before.before.before.before in
-    (prints-spaced _ turn.loop.i c.before.before.before.before.before.before.before.before.before.before.loop-test.true turn.loop.invariant.0 c.before.before.before.before.before.before.before.put-text.ensures c.before.before.put-number.ensures, search rules)
+    (prints_spaced _ turn.loop.i c.before.before.before.before.before.before.before.before.before.before.loop-test.true turn.loop.invariant.0 c.before.before.before.before.before.before.before.put-text.ensures c.before.before.put-number.ensures, search rules)
 
 same_length : tie.Need-same-length invariant-loop decreases-loop
-same_length c = prints-length c.before.loop.invariant.0
+same_length c = prints_length c.before.loop.invariant.0
 
 returns : tie.Need-returns invariant-loop decreases-loop
 returns c = let all : c.before.loop.i ≡ length c.before.before.before.before.before.args.words.now = omega arith in

@@ -1,6 +1,6 @@
 -- `open_record` meets its contract, by what is found of the input. Assumes nothing.
 use native.Mathlib.Omega.{arith}
-use Rattle.words.proofs.FoundLaws.{refusal-lent, record-lent}
+use Rattle.words.proofs.FoundLaws.{refusal_lent, record_lent}
 use borrow.Author.Rules.{rules}
 use Rattle.words.proofs.open_record.Statement.{statement}
 use Rattle.words.proofs.open_record.Tie as tie
@@ -69,7 +69,7 @@ same_length : tie.Need-same-length
 same_length c = search rules
 
 returns : tie.Need-returns
-returns c = refusal-lent _ _ _ c.before.before.before.before.before.before.before.before.before.before.before.before.before.before.open-input.ensures.0 _ _ _ c.before.before.before.before.before.before.before.before.before.before.before.opened.given.1 c.before.before.before.before.before.before.before.before.number.ensures c.before.before.before.before.before.before.before.place.ensures c.before.before.before.before.before.before.write-pair.ensures c.before.before.write-pair2.ensures
+returns c = refusal_lent _ _ _ c.before.before.before.before.before.before.before.before.before.before.before.before.before.before.open-input.ensures.0 _ _ _ c.before.before.before.before.before.before.before.before.before.before.before.opened.given.1 c.before.before.before.before.before.before.before.before.number.ensures c.before.before.before.before.before.before.before.place.ensures c.before.before.before.before.before.before.write-pair.ensures c.before.before.write-pair2.ensures
 
 same-length-2 : tie.Need-same-length-2
 same-length-2 c = search rules
@@ -78,7 +78,7 @@ same-length-3 : tie.Need-same-length-3
 same-length-3 c = search rules
 
 returns-2 : tie.Need-returns-2
-returns-2 c = record-lent _ _ _ c.before.before.before.before.before.before.before.before.before.before.before.before.before.before.before.before.before.before.before.before.before.before.open-input.ensures.0 _ _ _ _ _ _ c.before.before.before.before.before.before.before.before.before.before.before.before.before.before.before.before.before.before.before.opened2.given.1 (omega arith) c.before.before.before.before.before.before.before.before.before.before.before.before.before.before.before.before.before.before.before.before.before.before.open-input.ensures.1 c.before.before.before.before.before.before.before.before.before.before.before.before.before.before.before.before.front.ensures c.before.before.before.before.before.before.before.before.before.before.before.before.before.before.plan-part.ensures c.before.before.before.before.before.before.before.before.before.before.before.front2.ensures c.before.before.before.before.before.before.before.before.before.before.put_all_lem.ensures c.before.before.before.before.before.before.write-pair3.ensures c.before.before.write-pair4.ensures
+returns-2 c = record_lent _ _ _ c.before.before.before.before.before.before.before.before.before.before.before.before.before.before.before.before.before.before.before.before.before.before.open-input.ensures.0 _ _ _ _ _ _ c.before.before.before.before.before.before.before.before.before.before.before.before.before.before.before.before.before.before.before.opened2.given.1 (omega arith) c.before.before.before.before.before.before.before.before.before.before.before.before.before.before.before.before.before.before.before.before.before.before.open-input.ensures.1 c.before.before.before.before.before.before.before.before.before.before.before.before.before.before.before.before.front.ensures c.before.before.before.before.before.before.before.before.before.before.before.before.before.before.plan-part.ensures c.before.before.before.before.before.before.before.before.before.before.before.front2.ensures c.before.before.before.before.before.before.before.before.before.before.put_all_lem.ensures c.before.before.before.before.before.before.write-pair3.ensures c.before.before.write-pair4.ensures
 
 pub open-record-spec : {M : Type 1} → statement M
 open-record-spec =

@@ -1,7 +1,7 @@
 -- `read_text` meets its contract, by what reading the text finds. Assumes nothing.
 use mathlib.Core.Path.{refl}
 use Rattle.text.specs.declared.reader.Ending.TheVariants as ending
-use Rattle.words.proofs.FoundLaws.{reads-lent, words-lent}
+use Rattle.words.proofs.FoundLaws.{reads_lent, words_lent}
 use borrow.Author.Rules.{rules}
 use Rattle.words.proofs.read_text.Statement.{statement}
 use Rattle.words.proofs.read_text.Tie as tie
@@ -52,25 +52,25 @@ same-length-2 : tie.Need-same-length-2
 same-length-2 c = search rules
 
 returns : tie.Need-returns
-returns c = reads-lent _ _ _ (ending.Words _) _ refl c.before.before.before.before.before.before.before.before.before.before.before.before.before.before.read_whole.ensures c.before.before.before.before.before.before.before.before.before.before.before.ending.given.1 (words-lent _ _ c.before.before.before.before.before.before.before.before.front.ensures c.before.before.before.before.before.before.put_all_lem.ensures c.before.before.write-pair.ensures)
+returns c = reads_lent _ _ _ (ending.Words _) _ refl c.before.before.before.before.before.before.before.before.before.before.before.before.before.before.read_whole.ensures c.before.before.before.before.before.before.before.before.before.before.before.ending.given.1 (words_lent _ _ c.before.before.before.before.before.before.before.before.front.ensures c.before.before.before.before.before.before.put_all_lem.ensures c.before.before.write-pair.ensures)
 
 same-length-3 : tie.Need-same-length-3
 same-length-3 c = search rules
 
 returns-2 : tie.Need-returns-2
-returns-2 c = reads-lent _ _ _ (ending.NoWord _) _ refl c.before.before.before.before.before.before.before.before.read_whole.ensures c.before.before.before.before.before.ending2.given.1 (record { words_left = refl; answered = c.before.before.write-pair2.ensures })
+returns-2 c = reads_lent _ _ _ (ending.NoWord _) _ refl c.before.before.before.before.before.before.before.before.read_whole.ensures c.before.before.before.before.before.ending2.given.1 (record { words_left = refl; answered = c.before.before.write-pair2.ensures })
 
 same-length-4 : tie.Need-same-length-4
 same-length-4 c = search rules
 
 returns-3 : tie.Need-returns-3
-returns-3 c = reads-lent _ _ _ (ending.NoRoom _) _ refl c.before.before.before.before.before.before.before.before.read_whole.ensures c.before.before.before.before.before.ending3.given.1 (record { words_left = refl; answered = c.before.before.write-pair3.ensures })
+returns-3 c = reads_lent _ _ _ (ending.NoRoom _) _ refl c.before.before.before.before.before.before.before.before.read_whole.ensures c.before.before.before.before.before.ending3.given.1 (record { words_left = refl; answered = c.before.before.write-pair3.ensures })
 
 same-length-5 : tie.Need-same-length-5
 same-length-5 c = search rules
 
 returns-4 : tie.Need-returns-4
-returns-4 c = reads-lent _ _ _ ending.Long _ refl c.before.before.before.before.before.before.before.read_whole.ensures c.before.before.before.before.enum_told.given.1 (record { words_left = refl; answered = c.before.before.write-pair4.ensures })
+returns-4 c = reads_lent _ _ _ ending.Long _ refl c.before.before.before.before.before.before.before.read_whole.ensures c.before.before.before.before.enum_told.given.1 (record { words_left = refl; answered = c.before.before.write-pair4.ensures })
 
 pub read-text-spec : {M : Type 1} → statement M
 read-text-spec =

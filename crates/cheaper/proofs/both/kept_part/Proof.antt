@@ -1,5 +1,5 @@
 -- `kept_part` meets its contract: each order of the tallies is a case of the part shown. Assumes nothing.
-use Rattle.cheaper.proofs.ServiceLaws.{second-shown, first-shown-equal, first-shown}
+use Rattle.cheaper.proofs.ServiceLaws.{second_shown, first_shown_equal, first_shown}
 use borrow.Author.Rules.{rules}
 use Rattle.cheaper.proofs.both.kept_part.Statement.{statement}
 use Rattle.cheaper.proofs.both.kept_part.Tie as tie
@@ -35,13 +35,13 @@ front-requires-3 : tie.Need-front-requires-3
 front-requires-3 c κs = search rules
 
 returns : tie.Need-returns
-returns c = second-shown _ _ _ _ _ _ c.before.before.before.before.compare.ensures c.before.before.enum_told.given.1 c.front.ensures
+returns c = second_shown _ _ _ _ _ _ c.before.before.before.before.compare.ensures c.before.before.enum_told.given.1 c.front.ensures
 
 returns-2 : tie.Need-returns-2
-returns-2 c = first-shown-equal _ _ _ _ _ _ c.before.before.before.before.compare.ensures c.before.before.enum-told2.given.1 c.front2.ensures
+returns-2 c = first_shown_equal _ _ _ _ _ _ c.before.before.before.before.compare.ensures c.before.before.enum-told2.given.1 c.front2.ensures
 
 returns-3 : tie.Need-returns-3
-returns-3 c = first-shown _ _ _ _ _ _ c.before.before.before.before.compare.ensures c.before.before.enum-told3.given.1 c.front3.ensures
+returns-3 c = first_shown _ _ _ _ _ _ c.before.before.before.before.compare.ensures c.before.before.enum-told3.given.1 c.front3.ensures
 
 pub kept-part-spec : {M : Type 1} → statement M
 kept-part-spec =

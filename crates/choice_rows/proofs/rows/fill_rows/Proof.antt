@@ -2,9 +2,9 @@
 -- left. Assumes nothing.
 use Prim.Native.Nat.{◌-◌}
 use mathlib.Core.Path.{refl, ap}
-use Rattle.choice_rows.specs.between.Rows.{all-bits}
+use Rattle.choice_rows.specs.Between.Rows.{all_bits}
 use lib.ListN.{length}
-use Rattle.choice_rows.proofs.RowingLaws.{Rowing, rowing_start, rowing_more, rowing-end}
+use Rattle.choice_rows.proofs.RowingLaws.{Rowing, rowing_start, rowing_more, rowing_end}
 use borrow.Author.Rules.{rules}
 use Rattle.choice_rows.proofs.rows.fill_rows.Statement.{statement}
 use Rattle.choice_rows.proofs.rows.fill_rows.Tie as tie
@@ -60,7 +60,7 @@ loop-again c =
     let noted = c.before.before.before.before.before.before.before in
     let tested = noted.before.before.before.before.before.before in
     rowing_more _ _ _ _ _ _ _ _ _ _ _ tested.before.loop.invariant tested.loop-test.true _ _ _ _ refl noted.before.before.before.before.flag.ensures
-    noted.before.before.before.word64.ensures (ap (λ x. all-bits - x) noted.before.before.word642.ensures) _ _ _ (search rules) (search rules) noted.note.ensures
+    noted.before.before.before.word64.ensures (ap (λ x. all_bits - x) noted.before.before.word642.ensures) _ _ _ (search rules) (search rules) noted.note.ensures
     c.before.before.before.note-cost.ensures c.«open».ensures.0
 
 same_length : tie.Need-same-length invariant-loop decreases-loop
@@ -70,7 +70,7 @@ same-length-2 : tie.Need-same-length-2 invariant-loop decreases-loop
 same-length-2 c = search rules
 
 returns : tie.Need-returns invariant-loop decreases-loop
-returns c = rowing-end _ _ _ _ _ _ _ _ _ _ _ c.before.loop.invariant c.loop-test.false
+returns c = rowing_end _ _ _ _ _ _ _ _ _ _ _ c.before.loop.invariant c.loop-test.false
 
 pub fill-rows-spec : {M : Type 1} → statement M
 fill-rows-spec =

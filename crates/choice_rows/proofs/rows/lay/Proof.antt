@@ -1,5 +1,5 @@
 -- `lay` meets its contract. Assumes nothing.
-use Rattle.choice_rows.proofs.StampRowLaws.{laid-there, laid-beyond, laid-unasked}
+use Rattle.choice_rows.proofs.StampRowLaws.{laid_there, laid_beyond, laid_unasked}
 use borrow.Author.Rules.{rules}
 use Rattle.choice_rows.proofs.rows.lay.Statement.{statement}
 use Rattle.choice_rows.proofs.rows.lay.Tie as tie
@@ -34,14 +34,14 @@ same_length c = search rules
 returns : tie.Need-returns
 returns c =
     let tested = c.before.before.before.before.before.before.before.before in
-    laid-there _ _ _ _ _ _ tested.before.if1.true tested.if2.true c.before.before.before.before.before.before.put8.ensures
+    laid_there _ _ _ _ _ _ tested.before.if1.true tested.if2.true c.before.before.before.before.before.before.put8.ensures
     c.before.before.put82.ensures
 
 returns-2 : tie.Need-returns-2
-returns-2 c = laid-beyond _ _ _ _ c.before.if1.true c.if2.false
+returns-2 c = laid_beyond _ _ _ _ c.before.if1.true c.if2.false
 
 returns-3 : tie.Need-returns-3
-returns-3 c = laid-unasked _ _ _ _ c.if1.false
+returns-3 c = laid_unasked _ _ _ _ c.if1.false
 
 pub lay-spec : {M : Type 1} → statement M
 lay-spec =

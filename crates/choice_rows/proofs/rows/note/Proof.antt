@@ -1,6 +1,6 @@
 -- `note` meets its contract. Assumes nothing.
 use native.Mathlib.Omega.{arith}
-use Rattle.choice_rows.proofs.StampRowLaws.{noted-beyond, noted-flagged, noted-open, noted-last}
+use Rattle.choice_rows.proofs.StampRowLaws.{noted_beyond, noted_flagged, noted_open, noted_last}
 use borrow.Author.Rules.{rules}
 use Rattle.choice_rows.proofs.rows.note.Statement.{statement}
 use Rattle.choice_rows.proofs.rows.note.Tie as tie
@@ -9,7 +9,7 @@ facts-of-requires : tie.Need-facts-of-requires
 facts-of-requires c κs = search rules
 
 returns : tie.Need-returns
-returns c = noted-beyond _ _ _ _ _ _ _ c.if1.true
+returns c = noted_beyond _ _ _ _ _ _ _ c.if1.true
 
 mul-block : tie.Need-overflow-mul-block
 mul-block c = search rules
@@ -31,8 +31,8 @@ same_length c = search rules
 
 returns-2 : tie.Need-returns-2
 returns-2 c =
-    noted-flagged _ _ _ _ _ _ _ c.before.before.before.before.before.before.before.before.before.if1.false _
-    c.before.before.before.before.before.before.before.before.before.before.before.facts-of.ensures.1 _ _ _ _
+    noted_flagged _ _ _ _ _ _ _ c.before.before.before.before.before.before.before.before.before.if1.false _
+    c.before.before.before.before.before.before.before.before.before.before.before.facts_of.ensures.1 _ _ _ _
     c.before.before.before.before.before.before.before.before.if2.true (omega arith) (omega arith)
     c.before.before.before.before.before.before.stamp-effects.ensures c.before.before.stamp-effects2.ensures
 
@@ -70,13 +70,13 @@ returns-3 : tie.Need-returns-3
 returns-3 c =
     let fourth = c.before.before.before.before.before.before.before.before.before.before in
     let tested = fourth.before.before.before.before.before.before in
-    noted-open _ _ _ _ _ _ _ tested.before.before.if1.false _ tested.before.before.before.before.facts-of.ensures.1 _
-    tested.before.before.before.before.facts-of.ensures.0 _ _ _ _ _ _ _ _ tested.before.if2.false tested.if3.true (omega arith)
+    noted_open _ _ _ _ _ _ _ tested.before.before.if1.false _ tested.before.before.before.before.facts_of.ensures.1 _
+    tested.before.before.before.before.facts_of.ensures.0 _ _ _ _ _ _ _ _ tested.before.if2.false tested.if3.true (omega arith)
     (omega arith) (omega arith) (omega arith) fourth.before.before.before.before.stamp-effects3.ensures fourth.stamp-row.ensures
     c.before.before.before.before.before.before.stamp-effects4.ensures c.before.before.stamp-effects5.ensures
 
 returns-4 : tie.Need-returns-4
-returns-4 c = noted-last _ _ _ _ _ _ _ c.before.before.if1.false c.before.if2.false c.if3.false
+returns-4 c = noted_last _ _ _ _ _ _ _ c.before.before.if1.false c.before.if2.false c.if3.false
 
 pub note-spec : {M : Type 1} → statement M
 note-spec =

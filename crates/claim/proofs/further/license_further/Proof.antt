@@ -1,7 +1,7 @@
 -- `license_further` meets its contract: the cheaper elimination leaves a plan, and the minimal reduction of that answers or refuses. Assumes nothing.
 use native.Mathlib.Omega.{arith}
 use mathlib.Core.Path.{refl, sym}
-use Rattle.claim.proofs.FurtherLaws.{cheaper-asked, marked-fits, flags-leave, flags-few, inside, front_long, licenses-irreducible, licenses-open}
+use Rattle.claim.proofs.FurtherLaws.{cheaper_asked, marked_fits, flags_leave, flags_few, inside, front_long, licenses_irreducible, licenses_open}
 use borrow.Author.Rules.{rules}
 use Rattle.claim.proofs.further.license_further.Statement.{statement}
 use Rattle.claim.proofs.further.license_further.Tie as tie
@@ -10,16 +10,16 @@ sub-marked : tie.Need-overflow-sub-marked
 sub-marked c = search rules
 
 cast-marked : tie.Need-overflow-cast-marked
-cast-marked c = omega (arith, marked-fits _ _ _ _ _ c.before.before.before.requires)
+cast-marked c = omega (arith, marked_fits _ _ _ _ _ c.before.before.before.requires)
 
 flags-of-cheaper-requires : tie.Need-flags-of-cheaper-requires
-flags-of-cheaper-requires c κs = cheaper-asked _ _ _ _ _ c.before.before.before.requires
+flags-of-cheaper-requires c κs = cheaper_asked _ _ _ _ _ c.before.before.before.requires
 
 array-share-prefix-flags : tie.Need-array-share-prefix-flags
-array-share-prefix-flags c = (flags-leave _ _ _ _ _ c.before.before.before.before.requires _ c.flags-of-cheaper.ensures).within
+array-share-prefix-flags c = (flags_leave _ _ _ _ _ c.before.before.before.before.requires _ c.flags-of-cheaper.ensures).within
 
 slice-aggregate-finish : tie.Need-slice-aggregate-finish
-slice-aggregate-finish c = sym (flags-leave _ _ _ _ _ c.before.before.before.before.before.requires _ c.before.flags-of-cheaper.ensures).fits
+slice-aggregate-finish c = sym (flags_leave _ _ _ _ _ c.before.before.before.before.before.requires _ c.before.flags-of-cheaper.ensures).fits
 
 slice-aggregate-finish-2 : tie.Need-slice-aggregate-finish-2
 slice-aggregate-finish-2 c = search rules
@@ -54,19 +54,19 @@ array-share-prefix-flags-2 : tie.Need-array-share-prefix-flags-2
 array-share-prefix-flags-2 c =
     let further = c.before.before.before.before.before.before.before.before.before.before.before.before.before.before.before.before.before.before.before.before.requires in
     let flagged = c.before.before.before.before.before.before.before.before.before.before.before.before.before.before.before.before.flags-of-cheaper.ensures in
-    (flags-leave _ _ _ _ _ further _ flagged).within
+    (flags_leave _ _ _ _ _ further _ flagged).within
 
 slice-aggregate-mask-through : tie.Need-slice-aggregate-mask-through
 slice-aggregate-mask-through c =
     let further = c.before.before.before.before.before.before.before.before.before.before.before.before.before.before.before.before.before.before.before.before.before.requires in
     let flagged = c.before.before.before.before.before.before.before.before.before.before.before.before.before.before.before.before.before.flags-of-cheaper.ensures in
-    sym (flags-leave _ _ _ _ _ further _ flagged).fits
+    sym (flags_leave _ _ _ _ _ further _ flagged).fits
 
 mask-through-requires : tie.Need-mask-through-requires
 mask-through-requires c κs =
     let further = c.before.before.before.before.before.before.before.before.before.before.before.before.before.before.before.before.before.before.before.before.before.requires in
     let flagged = c.before.before.before.before.before.before.before.before.before.before.before.before.before.before.before.before.before.flags-of-cheaper.ensures in
-    flags-few _ _ _ _ _ further _ flagged
+    flags_few _ _ _ _ _ further _ flagged
 
 grant-requires : tie.Need-grant-requires
 grant-requires c κs = search rules
@@ -106,7 +106,7 @@ returns c =
     let flagged = c.before.before.before.before.before.before.before.before.before.before.before.before.before.before.before.before.before.before.before.flags-of-cheaper.ensures in
     let finished = c.before.before.before.before.before.before.before.before.before.before.before.before.before.before.before.before.finish.ensures in
     let reduced = c.before.before.before.before.before.before.before.before.before.minimal-reduction.ensures.0 in
-    licenses-irreducible _ _ _ _ _ further _ flagged _ _ _ finished _ _ reduced _ _ c.before.before.before.before.answer.given.1 c.before.mask-through.ensures _ c.grant.ensures
+    licenses_irreducible _ _ _ _ _ further _ flagged _ _ _ finished _ _ reduced _ _ c.before.before.before.before.answer.given.1 c.before.mask-through.ensures _ c.grant.ensures
 
 same-length-2 : tie.Need-same-length-2
 same-length-2 c = search rules
@@ -117,7 +117,7 @@ returns-2 c =
     let flagged = c.before.before.before.before.before.before.before.before.before.before.before.before.before.before.before.before.before.before.before.before.before.before.before.flags-of-cheaper.ensures in
     let finished = c.before.before.before.before.before.before.before.before.before.before.before.before.before.before.before.before.before.before.before.before.finish.ensures in
     let reduced = c.before.before.before.before.before.before.before.before.before.before.before.before.before.minimal-reduction.ensures.0 in
-    licenses-open _ _ _ _ _ further _ flagged _ _ _ finished _ _ reduced _ _ _ _ c.before.before.before.before.before.before.before.before.answer2.given.1 c.before.place.ensures refl c.before.before.before.before.put_all_lem.ensures _ c.grant2.ensures
+    licenses_open _ _ _ _ _ further _ flagged _ _ _ finished _ _ reduced _ _ _ _ c.before.before.before.before.before.before.before.before.answer2.given.1 c.before.place.ensures refl c.before.before.before.before.put_all_lem.ensures _ c.grant2.ensures
 
 pub license-further-spec : {M : Type 1} → statement M
 license-further-spec =

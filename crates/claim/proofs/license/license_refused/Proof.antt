@@ -1,5 +1,5 @@
 -- `license_refused` meets its contract: one of the checks 1 to 11 refuses, or the list goes further. Assumes nothing.
-use Rattle.claim.proofs.LicenseLaws.{lodged-refuses, lodged-further}
+use Rattle.claim.proofs.LicenseLaws.{lodged_refuses, lodged_further}
 use borrow.Author.Rules.{rules}
 use Rattle.claim.proofs.license.license_refused.Statement.{statement}
 use Rattle.claim.proofs.license.license_refused.Tie as tie
@@ -23,10 +23,10 @@ place-requires : tie.Need-place-requires
 place-requires c κs = search rules
 
 license-further-requires : tie.Need-license-further-requires
-license-further-requires c κs = lodged-further _ _ _ _ _ _ c.before.before.before.before.before.before.check-room.ensures c.before.before.before.before.before.check-lodged.ensures _ c.before.before.before.before.before.before.before.before.before.before.args.refusal _ c.before.before.before.answer2.given.1 c.before.before.before.before.before.before.before.before.before.before.requires c.place.ensures
+license-further-requires c κs = lodged_further _ _ _ _ _ _ c.before.before.before.before.before.before.check-room.ensures c.before.before.before.before.before.check-lodged.ensures _ c.before.before.before.before.before.before.before.before.before.before.args.refusal _ c.before.before.before.answer2.given.1 c.before.before.before.before.before.before.before.before.before.before.requires c.place.ensures
 
 returns : tie.Need-returns
-returns c = lodged-refuses _ _ _ _ _ _ c.before.before.before.before.before.check-room.ensures c.before.before.before.before.check-lodged.ensures _ _ c.before.before.answer.given.1 c.refuse.ensures
+returns c = lodged_refuses _ _ _ _ _ _ c.before.before.before.before.before.check-room.ensures c.before.before.before.before.check-lodged.ensures _ _ c.before.before.answer.given.1 c.refuse.ensures
 
 same_length : tie.Need-same-length
 same_length c = search rules

@@ -1,6 +1,6 @@
 -- `clashes` meets its contract: no effect behind writes the variable, or the precondition denies the condition, or what both say is a table for the effects behind. Assumes nothing.
 use mathlib.Core.Path.{sym, ◌∙◌}
-use Rattle.conflict.proofs.ClashLaws.{clash-apart, clash-denied, clash-fits}
+use Rattle.conflict.proofs.ClashLaws.{clash_apart, clash_denied, clash_fits}
 use borrow.Author.Rules.{rules}
 use Rattle.conflict.proofs.clash.clashes.Statement.{statement}
 use Rattle.conflict.proofs.clash.clashes.Tie as tie
@@ -32,7 +32,7 @@ denies-some-requires c κs = search rules
 returns : tie.Need-returns
 returns c =
     let noted = c.before.before.before.before in
-    clash-denied _ _ _ _ _ noted.before.before.before.before.before.first.ensures.0 _ _ _ noted.note.ensures noted.before.before.condition.ensures c.before.denies-some.ensures c.if2.true
+    clash_denied _ _ _ _ _ noted.before.before.before.before.before.first.ensures.0 _ _ _ noted.note.ensures noted.before.before.condition.ensures c.before.denies-some.ensures c.if2.true
 
 slice-aggregate-note-2 : tie.Need-slice-aggregate-note-2
 slice-aggregate-note-2 c = search rules
@@ -50,11 +50,11 @@ returns-2 : tie.Need-returns-2
 returns-2 c =
     let tested = c.before.before.before.before.before.before in
     let noted = tested.before.before.before in
-    clash-fits _ _ _ _ _ noted.before.before.before.before.before.first.ensures.0 _ _ _ noted.note.ensures noted.before.before.condition.ensures tested.denies-some.ensures _ _
+    clash_fits _ _ _ _ _ noted.before.before.before.before.before.first.ensures.0 _ _ _ noted.note.ensures noted.before.before.condition.ensures tested.denies-some.ensures _ _
     c.before.before.before.before.before.if2.false c.before.before.before.note2.ensures c.find-fitting.ensures
 
 returns-3 : tie.Need-returns-3
-returns-3 c = clash-apart _ _ _ _ _ c.before.before.first.ensures.0 (sym c.before.first-writes.ensures ∙ c.if1.false)
+returns-3 c = clash_apart _ _ _ _ _ c.before.before.first.ensures.0 (sym c.before.first_writes.ensures ∙ c.if1.false)
 
 pub clashes-spec : {M : Type 1} → statement M
 clashes-spec =

@@ -1,16 +1,16 @@
 -- `have_neighbours` meets its contract. The loop's invariant: of the effects left, the first behind the word at hand, one is beside the one before it just where one of all is. The measure is the number of words left. Assumes nothing.
 use Prim.Native.Nat.{◌-◌}
 use mathlib.Core.Path.{◌≡◌, sym, ◌∙◌}
-use Rattle.sheet.specs.between.Effects.{effects-in, first-written}
-use Rattle.sheet.proofs.EffectLaws.{effects-shorter}
-use Rattle.conflict.specs.between.Clash.{neighbours}
-use Rattle.conflict.proofs.ClashLaws.{neighbours-over, neighbours-here, neighbours-later}
+use Rattle.sheet.specs.Between.Effects.{effects_in, first_written}
+use Rattle.sheet.proofs.EffectLaws.{effects_shorter}
+use Rattle.conflict.specs.Between.Clash.{neighbours}
+use Rattle.conflict.proofs.ClashLaws.{neighbours_over, neighbours_here, neighbours_later}
 use borrow.Author.Rules.{rules}
 use Rattle.conflict.proofs.clash.have_neighbours.Statement.{statement}
 use Rattle.conflict.proofs.clash.have_neighbours.Tie as tie
 
 abbrev invariant-loop : tie.invariant-loop
-invariant-loop w fact₀ rest₀ fact rest = neighbours fact (effects-in w rest) ≡ neighbours (first-written w rest₀) (effects-in w rest₀)
+invariant-loop w fact₀ rest₀ fact rest = neighbours fact (effects_in w rest) ≡ neighbours (first_written w rest₀) (effects_in w rest₀)
 
 abbrev decreases-loop : tie.decreases-loop
 decreases-loop w fact₀ rest₀ fact rest = rest.end - rest.at
@@ -30,7 +30,7 @@ beside-requires c κs = search rules
 returns : tie.Need-returns invariant-loop decreases-loop
 returns c =
     let turn = c.before.before in
-    sym (neighbours-here _ _ _ turn.before.if1.true _ turn.first2.ensures.0 _ c.before.beside.ensures c.if2.true) ∙ turn.before.before.before.loop.invariant
+    sym (neighbours_here _ _ _ turn.before.if1.true _ turn.first2.ensures.0 _ c.before.beside.ensures c.if2.true) ∙ turn.before.before.before.loop.invariant
 
 rest-requires : tie.Need-rest-requires invariant-loop decreases-loop
 rest-requires c κs = search rules
@@ -38,16 +38,16 @@ rest-requires c κs = search rules
 loop-less : tie.Need-loop-smaller invariant-loop decreases-loop
 loop-less c =
     let turn = c.before.before.before.before in
-    effects-shorter turn.before.before.before.before.before.args.w.now _ _ c.rest.ensures turn.if1.true
+    effects_shorter turn.before.before.before.before.before.args.w.now _ _ c.rest.ensures turn.if1.true
 
 loop-again : tie.Need-loop-preserved invariant-loop decreases-loop
 loop-again c =
     let turn = c.before.before.before in
     rw c.rest.ensures
-    (sym (neighbours-later _ _ _ turn.before.if1.true _ turn.first2.ensures.0 _ c.before.before.beside.ensures c.before.if2.false) ∙ turn.before.before.before.loop.invariant)
+    (sym (neighbours_later _ _ _ turn.before.if1.true _ turn.first2.ensures.0 _ c.before.before.beside.ensures c.before.if2.false) ∙ turn.before.before.before.loop.invariant)
 
 returns-2 : tie.Need-returns-2 invariant-loop decreases-loop
-returns-2 c = sym (neighbours-over _ _ _ c.if1.false) ∙ c.before.before.loop.invariant
+returns-2 c = sym (neighbours_over _ _ _ c.if1.false) ∙ c.before.before.loop.invariant
 
 pub have-neighbours-spec : {M : Type 1} → statement M
 have-neighbours-spec =

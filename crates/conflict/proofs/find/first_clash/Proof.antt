@@ -2,14 +2,14 @@
 use Prim.Native.Nat.{◌-◌}
 use mathlib.Core.Path.{◌≡◌, sym, ◌∙◌}
 use Rattle.refusal.specs.Place.{first}
-use Rattle.refusal.proofs.PlaceLaws.{first-over, first-here, first_more}
-use Rattle.conflict.specs.between.Clash.{clash-in, clash-place}
+use Rattle.refusal.proofs.PlaceLaws.{first_over, first_here, first_more}
+use Rattle.conflict.specs.Between.Clash.{clash_in, clash_place}
 use borrow.Author.Rules.{rules}
 use Rattle.conflict.proofs.find.first_clash.Statement.{statement}
 use Rattle.conflict.proofs.find.first_clash.Tie as tie
 
 abbrev invariant-loop : tie.invariant-loop
-invariant-loop w n a₀ a = first (clash-in w) a n ≡ clash-place w
+invariant-loop w n a₀ a = first (clash_in w) a n ≡ clash_place w
 
 abbrev decreases-loop : tie.decreases-loop
 decreases-loop w n a₀ a = n - a
@@ -18,7 +18,7 @@ actions-requires : tie.Need-actions-requires invariant-loop decreases-loop
 actions-requires c κs = search rules
 
 loop-holds : tie.Need-loop-init invariant-loop decreases-loop
-unfolding clash-place
+unfolding clash_place
 loop-holds c = rw c.actions.ensures.0
 
 cast-some-clash : tie.Need-overflow-cast-some-clash invariant-loop decreases-loop
@@ -28,7 +28,7 @@ some-clash-requires : tie.Need-some-clash-requires invariant-loop decreases-loop
 some-clash-requires c κs = search rules
 
 returns : tie.Need-returns invariant-loop decreases-loop
-returns c = sym (first-here _ _ _ c.before.before.loop-test.true (sym c.before.some-clash.ensures ∙ c.if1.true)) ∙ c.before.before.before.loop.invariant
+returns c = sym (first_here _ _ _ c.before.before.loop-test.true (sym c.before.some_clash.ensures ∙ c.if1.true)) ∙ c.before.before.before.loop.invariant
 
 add_a : tie.Need-overflow-add-a invariant-loop decreases-loop
 add_a c = search rules
@@ -37,10 +37,10 @@ loop-less : tie.Need-loop-smaller invariant-loop decreases-loop
 loop-less c = search rules
 
 loop-again : tie.Need-loop-preserved invariant-loop decreases-loop
-loop-again c = sym (first_more _ _ _ c.before.before.loop-test.true (sym c.before.some-clash.ensures ∙ c.if1.false)) ∙ c.before.before.before.loop.invariant
+loop-again c = sym (first_more _ _ _ c.before.before.loop-test.true (sym c.before.some_clash.ensures ∙ c.if1.false)) ∙ c.before.before.before.loop.invariant
 
 returns-2 : tie.Need-returns-2 invariant-loop decreases-loop
-returns-2 c = sym (first-over _ _ _ c.loop-test.false) ∙ c.before.loop.invariant
+returns-2 c = sym (first_over _ _ _ c.loop-test.false) ∙ c.before.loop.invariant
 
 pub first-clash-spec : {M : Type 1} → statement M
 first-clash-spec =

@@ -3,15 +3,15 @@ use Prim.Native.Nat.{◌-◌}
 use mathlib.Core.Path.{◌≡◌, refl, sym, ◌∙◌}
 use lib.ListN.{length}
 use Rattle.sas.specs.Plan.{assign}
-use Rattle.sheet.specs.between.Group.{facts-in}
-use Rattle.sheet.proofs.GroupLaws.{rest-shorter}
-use Rattle.conflict.proofs.DenyLaws.{noting-over, noting-next}
+use Rattle.sheet.specs.Between.Group.{facts_in}
+use Rattle.sheet.proofs.GroupLaws.{rest_shorter}
+use Rattle.conflict.proofs.DenyLaws.{noting_over, noting_next}
 use borrow.Author.Rules.{rules}
 use Rattle.conflict.proofs.table.note.Statement.{statement}
 use Rattle.conflict.proofs.table.note.Tie as tie
 
 abbrev invariant-loop : tie.invariant-loop
-invariant-loop w table₀ rest₀ table rest = (assign table (facts-in w rest) ≡ assign table₀ (facts-in w rest₀)) × (length table ≡ length table₀)
+invariant-loop w table₀ rest₀ table rest = (assign table (facts_in w rest) ≡ assign table₀ (facts_in w rest₀)) × (length table ≡ length table₀)
 
 abbrev decreases-loop : tie.decreases-loop
 decreases-loop w table₀ rest₀ table rest = rest.end - rest.at
@@ -38,18 +38,18 @@ rest-requires : tie.Need-rest-requires invariant-loop decreases-loop
 rest-requires c κs = search rules
 
 loop-less : tie.Need-loop-smaller invariant-loop decreases-loop
-loop-less c = rest-shorter _ _ c.rest.ensures c.before.before.before.before.before.before.if1.true
+loop-less c = rest_shorter _ _ c.rest.ensures c.before.before.before.before.before.before.if1.true
 
 loop-again : tie.Need-loop-preserved invariant-loop decreases-loop
 loop-again c =
     let turn = c.before.before.before.before.before in
-    (rw (c.rest.ensures, c.before.before.before.put.ensures) (sym (noting-next _ _ _ turn.before.if1.true _ turn.first.ensures.0) ∙ turn.before.before.before.loop.invariant.0), search rules)
+    (rw (c.rest.ensures, c.before.before.before.put.ensures) (sym (noting_next _ _ _ turn.before.if1.true _ turn.first.ensures.0) ∙ turn.before.before.before.loop.invariant.0), search rules)
 
 same_length : tie.Need-same-length invariant-loop decreases-loop
 same_length c = search rules
 
 returns : tie.Need-returns invariant-loop decreases-loop
-returns c = sym (noting-over _ _ _ c.if1.false) ∙ c.before.before.loop.invariant.0
+returns c = sym (noting_over _ _ _ c.if1.false) ∙ c.before.before.loop.invariant.0
 
 pub note-spec : {M : Type 1} → statement M
 note-spec =

@@ -5,8 +5,8 @@ use mathlib.Core.Path.{◌≡◌, ◌∙◌}
 use Prim.Native.Nat.{◌-◌}
 use lib.ListN.{length}
 use Rattle.step.specs.State.{front}
-use Rattle.step.proofs.StateLaws.{front-initial}
-use Rattle.elimination.proofs.EliminateLaws.{eliminates-struck, eliminates-done, eliminates-nothing, Eliminating, eliminating-start, eliminating-more, eliminating-end}
+use Rattle.step.proofs.StateLaws.{front_initial}
+use Rattle.elimination.proofs.EliminateLaws.{eliminates_struck, eliminates_done, eliminates_nothing, Eliminating, eliminating_start, eliminating_more, eliminating_end}
 use Rattle.elimination.proofs.eliminate.eliminate.Statement.{statement}
 use Rattle.elimination.proofs.eliminate.eliminate.Tie as tie
 
@@ -23,7 +23,7 @@ initial-requires : tie.Need-initial-requires invariant-loop decreases-loop
 initial-requires c κs = search rules
 
 loop-holds : tie.Need-loop-init invariant-loop decreases-loop
-loop-holds c = let entry = c.before.before.before.before in (search rules, eliminating-start _ _ _ _ entry.requires.0.few entry.requires.1 c.before.all-kept.ensures (rw c.initial.ensures (front-initial _ entry.requires.0.accepted)))
+loop-holds c = let entry = c.before.before.before.before in (search rules, eliminating_start _ _ _ _ entry.requires.0.few entry.requires.1 c.before.all-kept.ensures (rw c.initial.ensures (front_initial _ entry.requires.0.accepted)))
 
 array-read-if1 : tie.Need-array-read-if1 invariant-loop decreases-loop
 array-read-if1 c = omega (arith, c.before.before.before.before.before.before.requires.0.few, c.loop-test.true)
@@ -38,7 +38,7 @@ loop-less : tie.Need-loop-smaller invariant-loop decreases-loop
 loop-less c = search rules
 
 loop-again : tie.Need-loop-preserved invariant-loop decreases-loop
-loop-again c = let turn = c.before.before.before.before.before.loop.invariant in let so = turn.1 in let here = c.before.before.before.before.loop-test.true in (turn.0, eliminating-more _ _ _ _ _ _ _ so here (eliminates-struck _ _ _ so.current _ _ here so.before _ _ _ c.before.before.trial.ensures c.before.before.before.if1.true c.before.if2.true))
+loop-again c = let turn = c.before.before.before.before.before.loop.invariant in let so = turn.1 in let here = c.before.before.before.before.loop-test.true in (turn.0, eliminating_more _ _ _ _ _ _ _ so here (eliminates_struck _ _ _ so.current _ _ here so.before _ _ _ c.before.before.trial.ensures c.before.before.before.if1.true c.before.if2.true))
 
 slice-aggregate-advance-in : tie.Need-slice-aggregate-advance-in invariant-loop decreases-loop
 slice-aggregate-advance-in c = search rules
@@ -59,7 +59,7 @@ loop-less-2 : tie.Need-loop-smaller-2 invariant-loop decreases-loop
 loop-less-2 c = search rules
 
 loop-again-2 : tie.Need-loop-preserved-2 invariant-loop decreases-loop
-loop-again-2 c = let turn = c.before.before.before.before.before.before.before.before.loop.invariant in let so = turn.1 in let here = c.before.before.before.before.before.before.before.loop-test.true in (c.before.advance-in.auto.1.0 ∙ turn.0, eliminating-more _ _ _ _ _ _ _ so here (eliminates-done _ _ _ so.current _ _ here so.before _ _ _ _ _ c.before.before.before.before.before.before.if1.true c.before.before.before.before.before.trial.ensures c.before.before.before.before.if2.false c.before.advance-in.ensures))
+loop-again-2 c = let turn = c.before.before.before.before.before.before.before.before.loop.invariant in let so = turn.1 in let here = c.before.before.before.before.before.before.before.loop-test.true in (c.before.advance-in.auto.1.0 ∙ turn.0, eliminating_more _ _ _ _ _ _ _ so here (eliminates_done _ _ _ so.current _ _ here so.before _ _ _ _ _ c.before.before.before.before.before.before.if1.true c.before.before.before.before.before.trial.ensures c.before.before.before.before.if2.false c.before.advance-in.ensures))
 
 add-i-3 : tie.Need-overflow-add-i-3 invariant-loop decreases-loop
 add-i-3 c = search rules
@@ -68,10 +68,10 @@ loop-less-3 : tie.Need-loop-smaller-3 invariant-loop decreases-loop
 loop-less-3 c = search rules
 
 loop-again-3 : tie.Need-loop-preserved-3 invariant-loop decreases-loop
-loop-again-3 c = let turn = c.before.before.loop.invariant in let so = turn.1 in let here = c.before.loop-test.true in (turn.0, eliminating-more _ _ _ _ _ _ _ so here (eliminates-nothing _ _ _ so.current _ _ here so.before c.if1.false))
+loop-again-3 c = let turn = c.before.before.loop.invariant in let so = turn.1 in let here = c.before.loop-test.true in (turn.0, eliminating_more _ _ _ _ _ _ _ so here (eliminates_nothing _ _ _ so.current _ _ here so.before c.if1.false))
 
 returns : tie.Need-returns invariant-loop decreases-loop
-returns c = eliminating-end _ _ _ _ _ c.before.loop.invariant.1 c.loop-test.false
+returns c = eliminating_end _ _ _ _ _ c.before.loop.invariant.1 c.loop-test.false
 
 pub eliminate-spec : {M : Type 1} → statement M
 eliminate-spec =

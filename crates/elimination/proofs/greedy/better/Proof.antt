@@ -1,7 +1,7 @@
 -- `better` meets its contract: a trial that fails, a first success, one that strikes more, or one that does not. Assumes nothing.
 use mathlib.Core.Path.{ap}
-use Rattle.reduced.specs.between.Tallied.{is-less}
-use Rattle.elimination.proofs.BetterLaws.{fails, first-success, more-success, no-more-success}
+use Rattle.reduced.specs.Between.Tallied.{is_less}
+use Rattle.elimination.proofs.BetterLaws.{fails, first_success, more_success, no_more_success}
 use borrow.Author.Rules.{rules}
 use Rattle.elimination.proofs.greedy.better.Statement.{statement}
 use Rattle.elimination.proofs.greedy.better.Tie as tie
@@ -19,16 +19,16 @@ enum-told-3 : tie.Need-enum-told-3
 enum-told-3 c = search rules
 
 returns : tie.Need-returns
-returns c = more-success _ _ c.before.before.before.before.before.before.if1.true _ c.before.before.before.if2.true c.before.before.compare.ensures c.enum_told.given.1
+returns c = more_success _ _ c.before.before.before.before.before.before.if1.true _ c.before.before.before.if2.true c.before.before.compare.ensures c.enum_told.given.1
 
 returns-2 : tie.Need-returns-2
-returns-2 c = no-more-success _ _ c.before.before.before.before.before.before.if1.true _ c.before.before.before.if2.true c.before.before.compare.ensures (ap is-less c.enum-told2.given.1)
+returns-2 c = no_more_success _ _ c.before.before.before.before.before.before.if1.true _ c.before.before.before.if2.true c.before.before.compare.ensures (ap is_less c.enum-told2.given.1)
 
 returns-3 : tie.Need-returns-3
-returns-3 c = no-more-success _ _ c.before.before.before.before.before.before.if1.true _ c.before.before.before.if2.true c.before.before.compare.ensures (ap is-less c.enum-told3.given.1)
+returns-3 c = no_more_success _ _ c.before.before.before.before.before.before.if1.true _ c.before.before.before.if2.true c.before.before.compare.ensures (ap is_less c.enum-told3.given.1)
 
 returns-4 : tie.Need-returns-4
-returns-4 c = first-success _ _ c.before.before.before.if1.true c.if2.false
+returns-4 c = first_success _ _ c.before.before.before.if1.true c.if2.false
 
 returns-5 : tie.Need-returns-5
 returns-5 c = fails _ _ c.if1.false

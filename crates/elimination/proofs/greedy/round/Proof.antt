@@ -1,15 +1,15 @@
 -- `round` meets its contract. The loop's invariant: the best so far is that of the positions passed, and the state is the one before the next. Assumes nothing.
-use Rattle.elimination.proofs.PickLaws.{looks-kept, looks-struck}
-use Rattle.elimination.proofs.GreedyLaws.{looks-all, looks-start}
+use Rattle.elimination.proofs.PickLaws.{looks_kept, looks_struck}
+use Rattle.elimination.proofs.GreedyLaws.{looks_all, looks_start}
 use borrow.Author.Rules.{rules}
 use native.Mathlib.Omega.{arith}
 use mathlib.Core.Path.{◌≡◌, refl, ◌∙◌}
 use Prim.Native.Nat.{◌-◌, ◌≤◌}
 use lib.ListN.{length}
 use Rattle.step.specs.State.{front}
-use Rattle.step.proofs.StateLaws.{front-initial}
-use Rattle.reduced.specs.between.Held.{mask}
-use Rattle.elimination.specs.between.Round.{Looks}
+use Rattle.step.proofs.StateLaws.{front_initial}
+use Rattle.reduced.specs.Between.Held.{mask}
+use Rattle.elimination.specs.Between.Round.{Looks}
 use Rattle.elimination.proofs.greedy.round.Statement.{statement}
 use Rattle.elimination.proofs.greedy.round.Tie as tie
 
@@ -28,7 +28,7 @@ new-requires c κs = search rules
 loop-holds : tie.Need-loop-init invariant-loop decreases-loop
 loop-holds c =
     let accepted = c.before.before.before.before.requires.0.accepted in
-    (search rules, (search rules, looks-start _ _ _ _ _ refl (rw c.before.initial.ensures (front-initial _ accepted))))
+    (search rules, (search rules, looks_start _ _ _ _ _ refl (rw c.before.initial.ensures (front_initial _ accepted))))
 
 array-read-if1 : tie.Need-array-read-if1 invariant-loop decreases-loop
 array-read-if1 c = omega (arith, c.before.before.before.before.before.before.requires.0.few, c.loop-test.true)
@@ -58,7 +58,7 @@ loop-less : tie.Need-loop-smaller invariant-loop decreases-loop
 loop-less c = search rules
 
 loop-again : tie.Need-loop-preserved invariant-loop decreases-loop
-loop-again c = let turn = c.before.before.before.before.before.before.before.before in let entry = turn.before.before.before.before.before in (search rules, (c.before.advance-in.auto.1.0 ∙ turn.loop.invariant.1.0, looks-kept _ _ entry.requires.0 _ entry.requires.1 _ _ c.before.before.before.before.before.before.before.loop-test.true turn.loop.invariant.1.1.before _ _ _ _ _ turn.loop.invariant.1.1.picks c.before.before.before.before.before.trial.ensures c.before.before.before.before.before.before.if1.true c.before.before.before.before.better.ensures c.before.advance-in.ensures))
+loop-again c = let turn = c.before.before.before.before.before.before.before.before in let entry = turn.before.before.before.before.before in (search rules, (c.before.advance-in.auto.1.0 ∙ turn.loop.invariant.1.0, looks_kept _ _ entry.requires.0 _ entry.requires.1 _ _ c.before.before.before.before.before.before.before.loop-test.true turn.loop.invariant.1.1.before _ _ _ _ _ turn.loop.invariant.1.1.picks c.before.before.before.before.before.trial.ensures c.before.before.before.before.before.before.if1.true c.before.before.before.before.better.ensures c.before.advance-in.ensures))
 
 add-i-2 : tie.Need-overflow-add-i-2 invariant-loop decreases-loop
 add-i-2 c = search rules
@@ -67,10 +67,10 @@ loop-less-2 : tie.Need-loop-smaller-2 invariant-loop decreases-loop
 loop-less-2 c = search rules
 
 loop-again-2 : tie.Need-loop-preserved-2 invariant-loop decreases-loop
-loop-again-2 c = let turn = c.before.before in let entry = turn.before.before.before.before.before in (search rules, (turn.loop.invariant.1.0, looks-struck _ _ entry.requires.0 _ entry.requires.1 _ _ c.before.loop-test.true turn.loop.invariant.1.1.before _ turn.loop.invariant.1.1.picks c.if1.false))
+loop-again-2 c = let turn = c.before.before in let entry = turn.before.before.before.before.before in (search rules, (turn.loop.invariant.1.0, looks_struck _ _ entry.requires.0 _ entry.requires.1 _ _ c.before.loop-test.true turn.loop.invariant.1.1.before _ turn.loop.invariant.1.1.picks c.if1.false))
 
 returns : tie.Need-returns invariant-loop decreases-loop
-returns c = looks-all _ _ _ _ _ _ c.before.loop.invariant.1.1 c.before.loop.invariant.0 c.loop-test.false
+returns c = looks_all _ _ _ _ _ _ c.before.loop.invariant.1.1 c.before.loop.invariant.0 c.loop-test.false
 
 pub round-spec : {M : Type 1} → statement M
 round-spec =

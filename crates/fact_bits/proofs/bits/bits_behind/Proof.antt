@@ -1,11 +1,11 @@
 -- `bits_behind` meets its contract. The loop's invariant: words and tables are those of the steps from i on. The measure is the index. Assumes nothing.
 use borrow.Author.Rules.{rules}
-use Rattle.fact_bits.proofs.BitWalkLaws.{Behind-from, behind-end, behind_more, behind-start}
+use Rattle.fact_bits.proofs.BitWalkLaws.{BehindFrom, behind_end, behind_more, behind_start}
 use Rattle.fact_bits.proofs.bits.bits_behind.Statement.{statement}
 use Rattle.fact_bits.proofs.bits.bits_behind.Tie as tie
 
 abbrev invariant-loop : tie.invariant-loop
-invariant-loop words plan flags wanting₀ unneeded₀ wanted₀ useless₀ i₀ wanting unneeded wanted useless i = Behind-from words plan flags i wanted useless wanting unneeded
+invariant-loop words plan flags wanting₀ unneeded₀ wanted₀ useless₀ i₀ wanting unneeded wanted useless i = BehindFrom words plan flags i wanted useless wanting unneeded
 
 abbrev decreases-loop : tie.decreases-loop
 decreases-loop words plan flags wanting₀ unneeded₀ wanted₀ useless₀ i₀ wanting unneeded wanted useless i = i
@@ -31,7 +31,7 @@ stamp-requires-2 c κs = search rules
 loop-holds : tie.Need-loop-init invariant-loop decreases-loop
 loop-holds c =
     let first = c.before.before.before.before.before in
-    behind-end _ _ _ _ _ _ _ first.before.goal.ensures first.stamp.ensures c.before.before.goal2.ensures c.before.stamp2.ensures
+    behind_end _ _ _ _ _ _ _ first.before.goal.ensures first.stamp.ensures c.before.before.goal2.ensures c.before.stamp2.ensures
 
 sub-i : tie.Need-overflow-sub-i invariant-loop decreases-loop
 sub-i c = search rules
@@ -88,10 +88,10 @@ loop-less : tie.Need-loop-smaller invariant-loop decreases-loop
 loop-less c = search rules
 
 loop-again : tie.Need-loop-preserved invariant-loop decreases-loop
-loop-again c = behind_more _ _ _ _ _ _ _ _ c.before.before.before.before.before.before.before.before.before.before.before.before.before.before.before.before.before.before.before.before.loop.invariant c.before.before.before.before.before.before.before.before.before.before.before.before.before.before.before.before.before.before.before.loop-test.true _ c.before.before.before.before.before.before.before.before.before.before.before.before.before.before.before.before.before.facts-of.ensures.0 c.before.before.before.before.before.before.before.before.before.before.before.before.before.before.before.before.before.facts-of.ensures.1 _ _ _ _ _ _ _ c.before.before.before.before.before.before.before.before.before.before.before.before.before.before.before.before.flag.ensures c.before.before.before.before.before.before.before.before.before.before.before.before.before.pack-unflagged.ensures c.before.before.before.before.before.before.before.before.before.before.before.before.put64.ensures c.before.before.before.before.before.before.before.before.pack-unflagged2.ensures c.before.before.before.before.before.before.before.put642.ensures c.before.before.before.before.pass-back.ensures c.before.stamp3.ensures
+loop-again c = behind_more _ _ _ _ _ _ _ _ c.before.before.before.before.before.before.before.before.before.before.before.before.before.before.before.before.before.before.before.before.loop.invariant c.before.before.before.before.before.before.before.before.before.before.before.before.before.before.before.before.before.before.before.loop-test.true _ c.before.before.before.before.before.before.before.before.before.before.before.before.before.before.before.before.before.facts_of.ensures.0 c.before.before.before.before.before.before.before.before.before.before.before.before.before.before.before.before.before.facts_of.ensures.1 _ _ _ _ _ _ _ c.before.before.before.before.before.before.before.before.before.before.before.before.before.before.before.before.flag.ensures c.before.before.before.before.before.before.before.before.before.before.before.before.before.pack-unflagged.ensures c.before.before.before.before.before.before.before.before.before.before.before.before.put64.ensures c.before.before.before.before.before.before.before.before.pack-unflagged2.ensures c.before.before.before.before.before.before.before.put642.ensures c.before.before.before.before.pass-back.ensures c.before.stamp3.ensures
 
 returns : tie.Need-returns invariant-loop decreases-loop
-returns c = behind-start _ _ _ _ _ _ _ _ c.before.loop.invariant c.loop-test.false
+returns c = behind_start _ _ _ _ _ _ _ _ c.before.loop.invariant c.loop-test.false
 
 pub bits-behind-spec : {M : Type 1} → statement M
 bits-behind-spec =

@@ -6,14 +6,14 @@ use mathlib.Core.Path.{◌≡◌, sym, ◌∙◌}
 use mathlib.Core.List.{[], ◌∷◌}
 use borrow.Author.Rules.{rules}
 use lib.ListN.{length, drop, length-drop}
-use Rattle.fields.specs.between.Reading.{begins-line}
-use Rattle.fields.proofs.ClassLaws.{told-line-end, told-no-line-end}
-use Rattle.fields.proofs.LineLaws.{begins-short, begins-all, begins-over, begins-differs, begins-next}
+use Rattle.fields.specs.Between.Reading.{begins_line}
+use Rattle.fields.proofs.ClassLaws.{told_line_end, told_no_line_end}
+use Rattle.fields.proofs.LineLaws.{begins_short, begins_all, begins_over, begins_differs, begins_next}
 use Rattle.fields.proofs.lines.begins_with.Statement.{statement}
 use Rattle.fields.proofs.lines.begins_with.Tie as tie
 
 abbrev invariant-loop : tie.invariant-loop
-invariant-loop text at line i₀ i = (begins-line (drop (at + i) text) (drop i line) ≡ begins-line (drop at text) line) × (i ≤ length line)
+invariant-loop text at line i₀ i = (begins_line (drop (at + i) text) (drop i line) ≡ begins_line (drop at text) line) × (i ≤ length line)
 
 abbrev decreases-loop : tie.decreases-loop
 decreases-loop text at line i₀ i = length line - i
@@ -21,7 +21,7 @@ decreases-loop text at line i₀ i = length line - i
 returns : tie.Need-returns invariant-loop decreases-loop
 returns c =
     let start = c.before.before.before.args in
-    sym (begins-short (drop start.at start.text.now) start.line.now (omega (arith, length-drop start.at start.text.now, c.if1.true)))
+    sym (begins_short (drop start.at start.text.now) start.line.now (omega (arith, length-drop start.at start.text.now, c.if1.true)))
 
 sub-if2 : tie.Need-overflow-sub-if2 invariant-loop decreases-loop
 sub-if2 c = search rules
@@ -29,12 +29,12 @@ sub-if2 c = search rules
 returns-2 : tie.Need-returns-2 invariant-loop decreases-loop
 returns-2 c =
     let start = c.before.before.before.before.args in
-    sym (begins-short (drop start.at start.text.now) start.line.now (omega (arith, length-drop start.at start.text.now, c.if2.true)))
+    sym (begins_short (drop start.at start.text.now) start.line.now (omega (arith, length-drop start.at start.text.now, c.if2.true)))
 
 loop-holds : tie.Need-loop-init invariant-loop decreases-loop
 loop-holds c =
     let start = c.before.before.before.before.args in
-    (begins-all start.text.now start.line.now start.at, omega arith)
+    (begins_all start.text.now start.line.now start.at, omega arith)
 
 add-if3 : tie.Need-overflow-add-if3 invariant-loop decreases-loop
 add-if3 c = search rules
@@ -48,7 +48,7 @@ shared-slice-read-if3-2 c = search rules
 returns-3 : tie.Need-returns-3 invariant-loop decreases-loop
 returns-3 c =
     let turn = c.before.before.before in
-    sym (begins-differs _ _ _ _ (omega arith) turn.loop-test.true c.if3.true) ∙ turn.before.loop.invariant.0
+    sym (begins_differs _ _ _ _ (omega arith) turn.loop-test.true c.if3.true) ∙ turn.before.loop.invariant.0
 
 add-i : tie.Need-overflow-add-i invariant-loop decreases-loop
 add-i c = search rules
@@ -59,7 +59,7 @@ loop-less c = search rules
 loop-again : tie.Need-loop-preserved invariant-loop decreases-loop
 loop-again c =
     let turn = c.before.before.before in
-    (begins-next _ _ _ _ (omega arith) turn.loop-test.true c.if3.false ∙ turn.before.loop.invariant.0, omega (arith, turn.loop-test.true))
+    (begins_next _ _ _ _ (omega arith) turn.loop-test.true c.if3.false ∙ turn.before.loop.invariant.0, omega (arith, turn.loop-test.true))
 
 add-classify : tie.Need-overflow-add-classify invariant-loop decreases-loop
 add-classify c = search rules
@@ -77,12 +77,12 @@ returns-4 : tie.Need-returns-4 invariant-loop decreases-loop
 returns-4 c =
     let read = c.before.before in
     let over = read.before.before in
-    sym (told-line-end _ _ read.classify.ensures c.enum_told.given.1) ∙ sym (begins-over _ _ _ _ (omega arith) over.loop-test.false) ∙ over.before.loop.invariant.0
+    sym (told_line_end _ _ read.classify.ensures c.enum_told.given.1) ∙ sym (begins_over _ _ _ _ (omega arith) over.loop-test.false) ∙ over.before.loop.invariant.0
 
 returns-5 : tie.Need-returns-5 invariant-loop decreases-loop
 returns-5 c =
     let over = c.before.before.before in
-    sym (told-no-line-end _ _ c.before.classify.ensures (0 ∷ 1 ∷ 2 ∷ 4 ∷ []) c.match.keys2 tt) ∙ sym (begins-over _ _ _ _ (omega arith) over.loop-test.false) ∙ over.before.loop.invariant.0
+    sym (told_no_line_end _ _ c.before.classify.ensures (0 ∷ 1 ∷ 2 ∷ 4 ∷ []) c.match.keys2 tt) ∙ sym (begins_over _ _ _ _ (omega arith) over.loop-test.false) ∙ over.before.loop.invariant.0
 
 pub begins-with-spec : {M : Type 1} → statement M
 begins-with-spec =

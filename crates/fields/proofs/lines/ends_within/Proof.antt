@@ -7,14 +7,14 @@ use mathlib.Core.Bool.{◌||◌}
 use mathlib.Core.List.{[], ◌∷◌}
 use borrow.Author.Rules.{rules}
 use lib.ListN.{drop}
-use Rattle.fields.specs.between.Reading.{has-line-end}
-use Rattle.fields.proofs.ClassLaws.{told-line-end, told-no-line-end}
-use Rattle.fields.proofs.LineLaws.{ends-over, ends-here, ends_next}
+use Rattle.fields.specs.Between.Reading.{has_line_end}
+use Rattle.fields.proofs.ClassLaws.{told_line_end, told_no_line_end}
+use Rattle.fields.proofs.LineLaws.{ends_over, ends_here, ends_next}
 use Rattle.fields.proofs.lines.ends_within.Statement.{statement}
 use Rattle.fields.proofs.lines.ends_within.Tie as tie
 
 abbrev invariant-loop : tie.invariant-loop
-invariant-loop block found₀ k₀ found k = (found || has-line-end (drop k block)) ≡ has-line-end block
+invariant-loop block found₀ k₀ found k = (found || has_line_end (drop k block)) ≡ has_line_end block
 
 abbrev decreases-loop : tie.decreases-loop
 decreases-loop block found₀ k₀ found k = 16 - k
@@ -41,10 +41,10 @@ loop-again : tie.Need-loop-preserved invariant-loop decreases-loop
 loop-again c =
     let read = c.before.before in
     let turn = read.before.before in
-    let ends = told-line-end _ _ read.classify.ensures c.enum_told.given.1 in
+    let ends = told_line_end _ _ read.classify.ensures c.enum_told.given.1 in
     let block = turn.before.before.before.args.block.now in
     let loop = turn.before.loop in
-    sym (ends-here loop.found block loop.k (omega (arith, turn.loop-test.true, turn.before.before.before.requires)) ends) ∙ loop.invariant
+    sym (ends_here loop.found block loop.k (omega (arith, turn.loop-test.true, turn.before.before.before.requires)) ends) ∙ loop.invariant
 
 loop-less-2 : tie.Need-loop-smaller-2 invariant-loop decreases-loop
 loop-less-2 c = search rules
@@ -52,7 +52,7 @@ loop-less-2 c = search rules
 loop-again-2 : tie.Need-loop-preserved-2 invariant-loop decreases-loop
 loop-again-2 c =
     let turn = c.before.before.before in
-    let goes_on = told-no-line-end _ _ c.before.classify.ensures (0 ∷ 1 ∷ 2 ∷ 4 ∷ []) c.match.keys2 tt in
+    let goes_on = told_no_line_end _ _ c.before.classify.ensures (0 ∷ 1 ∷ 2 ∷ 4 ∷ []) c.match.keys2 tt in
     let block = turn.before.before.before.args.block.now in
     let loop = turn.before.loop in
     ends_next loop.found block loop.k (omega (arith, turn.loop-test.true, turn.before.before.before.requires)) goes_on ∙ loop.invariant
@@ -61,7 +61,7 @@ returns : tie.Need-returns invariant-loop decreases-loop
 returns c =
     let block = c.before.before.before.args.block.now in
     let loop = c.before.loop in
-    sym (ends-over loop.found block loop.k (omega (arith, c.loop-test.false, c.before.before.before.requires))) ∙ loop.invariant
+    sym (ends_over loop.found block loop.k (omega (arith, c.loop-test.false, c.before.before.before.requires))) ∙ loop.invariant
 
 pub ends-within-spec : {M : Type 1} → statement M
 ends-within-spec =

@@ -5,14 +5,14 @@ use mathlib.Core.Path.{◌≡◌, sym, ◌∙◌}
 use mathlib.Core.List.{[], ◌∷◌}
 use borrow.Author.Rules.{rules}
 use lib.ListN.{length, drop}
-use Rattle.ascii.specs.Bytes.{ends-line, split}
-use Rattle.fields.proofs.ClassLaws.{told-line-end, told-no-line-end}
-use Rattle.fields.proofs.LineLaws.{line-over, line-here, line-next}
+use Rattle.ascii.specs.Bytes.{ends_line, split}
+use Rattle.fields.proofs.ClassLaws.{told_line_end, told_no_line_end}
+use Rattle.fields.proofs.LineLaws.{line_over, line_here, line_next}
 use Rattle.fields.proofs.lines.line_end.Statement.{statement}
 use Rattle.fields.proofs.lines.line_end.Tie as tie
 
 abbrev invariant-loop : tie.invariant-loop
-invariant-loop text at i₀ i = i + length (split ends-line (drop i text)).first ≡ at + length (split ends-line (drop at text)).first
+invariant-loop text at i₀ i = i + length (split ends_line (drop i text)).first ≡ at + length (split ends_line (drop at text)).first
 
 abbrev decreases-loop : tie.decreases-loop
 decreases-loop text at i₀ i = length text - i
@@ -36,7 +36,7 @@ returns : tie.Need-returns invariant-loop decreases-loop
 returns c =
     let read = c.before.before in
     let turn = read.before.before in
-    sym (line-here _ _ turn.loop-test.true (told-line-end _ _ read.classify.ensures c.enum_told.given.1)) ∙ turn.before.loop.invariant
+    sym (line_here _ _ turn.loop-test.true (told_line_end _ _ read.classify.ensures c.enum_told.given.1)) ∙ turn.before.loop.invariant
 
 add-i : tie.Need-overflow-add-i invariant-loop decreases-loop
 add-i c = search rules
@@ -47,10 +47,10 @@ loop-less c = search rules
 loop-again : tie.Need-loop-preserved invariant-loop decreases-loop
 loop-again c =
     let turn = c.before.before.before in
-    line-next _ _ turn.loop-test.true (told-no-line-end _ _ c.before.classify.ensures (0 ∷ 1 ∷ 2 ∷ 4 ∷ []) c.match.keys2 tt) ∙ turn.before.loop.invariant
+    line_next _ _ turn.loop-test.true (told_no_line_end _ _ c.before.classify.ensures (0 ∷ 1 ∷ 2 ∷ 4 ∷ []) c.match.keys2 tt) ∙ turn.before.loop.invariant
 
 returns-2 : tie.Need-returns-2 invariant-loop decreases-loop
-returns-2 c = sym (line-over _ _ c.loop-test.false) ∙ c.before.loop.invariant
+returns-2 c = sym (line_over _ _ c.loop-test.false) ∙ c.before.loop.invariant
 
 pub line-end-spec : {M : Type 1} → statement M
 line-end-spec =

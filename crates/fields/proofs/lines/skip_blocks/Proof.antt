@@ -5,13 +5,13 @@ use native.Mathlib.Omega.{arith}
 use mathlib.Core.Path.{◌≡◌, refl, sym, ◌∙◌}
 use borrow.Author.Rules.{rules}
 use lib.ListN.{length, drop}
-use Rattle.ascii.specs.Bytes.{ends-line, split}
-use Rattle.fields.proofs.LineLaws.{block-length, block-passed}
+use Rattle.ascii.specs.Bytes.{ends_line, split}
+use Rattle.fields.proofs.LineLaws.{block_length, block_passed}
 use Rattle.fields.proofs.lines.skip_blocks.Statement.{statement}
 use Rattle.fields.proofs.lines.skip_blocks.Tie as tie
 
 abbrev invariant-loop : tie.invariant-loop
-invariant-loop text at last i₀ i = (at ≤ i) × (i + length (split ends-line (drop i text)).first ≡ at + length (split ends-line (drop at text)).first)
+invariant-loop text at last i₀ i = (at ≤ i) × (i + length (split ends_line (drop i text)).first ≡ at + length (split ends_line (drop at text)).first)
 
 abbrev decreases-loop : tie.decreases-loop
 decreases-loop text at last i₀ i = length text - i
@@ -43,7 +43,7 @@ ends-within-requires c κs =
     let text = turn.before.before.before.before.args.text.now in
     let i = turn.before.loop.i in
     let within : i + 16 ≤ length text = omega (arith, turn.loop-test.true, turn.before.before.if1.false) in
-    block-length text i (i + 16) (omega arith) within ∙ omega arith
+    block_length text i (i + 16) (omega arith) within ∙ omega arith
 
 returns-2 : tie.Need-returns-2 invariant-loop decreases-loop
 returns-2 c = c.before.before.before.before.loop.invariant
@@ -60,7 +60,7 @@ loop-again c =
     let text = turn.before.before.before.before.args.text.now in
     let loop = turn.before.loop in
     let within : loop.i + 16 ≤ length text = omega (arith, turn.loop-test.true, turn.before.before.if1.false) in
-    let passed = block-passed text loop.i (loop.i + 16) (omega arith) within (sym c.before.ends-within.ensures ∙ c.if2.false) in
+    let passed = block_passed text loop.i (loop.i + 16) (omega arith) within (sym c.before.ends_within.ensures ∙ c.if2.false) in
     (omega (arith, loop.invariant.0), passed ∙ loop.invariant.1)
 
 returns-3 : tie.Need-returns-3 invariant-loop decreases-loop

@@ -1,7 +1,7 @@
 -- `grow` meets its contract: a digit is no smaller than the first. Assumes nothing.
 use native.Mathlib.Omega.{arith}
 use borrow.Author.Rules.{rules}
-use Rattle.fields.proofs.DigitLaws.{digit-from-zero}
+use Rattle.fields.proofs.DigitLaws.{digit_from_zero}
 use Rattle.fields.proofs.word.grow.Statement.{statement}
 use Rattle.fields.proofs.word.grow.Tie as tie
 
@@ -9,7 +9,7 @@ mul-more : tie.Need-overflow-mul-more
 mul-more c = search rules
 
 sub_more : tie.Need-overflow-sub-more
-sub_more c = omega (arith, digit-from-zero c.args.digit c.requires.1)
+sub_more c = omega (arith, digit_from_zero c.args.digit c.requires.1)
 
 cast-more : tie.Need-overflow-cast-more
 cast-more c = search rules

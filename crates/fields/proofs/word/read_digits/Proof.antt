@@ -3,19 +3,19 @@ use Prim.Native.Nat.{◌-◌}
 use mathlib.Core.Path.{sym, ◌∙◌}
 use borrow.Author.Rules.{rules}
 use lib.ListN.{length}
-use Rattle.fields.specs.between.Reading.{Digits-left}
-use Rattle.fields.proofs.DigitLaws.{digits-begin, digits-next, digits-over, digits-end}
+use Rattle.fields.specs.Between.Reading.{DigitsLeft}
+use Rattle.fields.proofs.DigitLaws.{digits_begin, digits_next, digits_over, digits_end}
 use Rattle.fields.proofs.word.read_digits.Statement.{statement}
 use Rattle.fields.proofs.word.read_digits.Tie as tie
 
 abbrev invariant-loop : tie.invariant-loop
-invariant-loop text at value₀ i₀ value i = Digits-left text at value i
+invariant-loop text at value₀ i₀ value i = DigitsLeft text at value i
 
 abbrev decreases-loop : tie.decreases-loop
 decreases-loop text at value₀ i₀ value i = length text - i
 
 loop-holds : tie.Need-loop-init invariant-loop decreases-loop
-loop-holds c = digits-begin _ _
+loop-holds c = digits_begin _ _
 
 shared-slice-read-next : tie.Need-shared-slice-read-next invariant-loop decreases-loop
 shared-slice-read-next c = search rules
@@ -35,7 +35,7 @@ loop-less c = search rules
 loop-again : tie.Need-loop-preserved invariant-loop decreases-loop
 loop-again c =
     let turn = c.before.before.before.before in
-    digits-next _ _ _ _ turn.before.loop.invariant turn.loop-test.true _ (sym c.before.before.is_digit.ensures ∙ c.before.if1.true) c.grow.ensures.0 c.grow.ensures.1
+    digits_next _ _ _ _ turn.before.loop.invariant turn.loop-test.true _ (sym c.before.before.is_digit.ensures ∙ c.before.if1.true) c.grow.ensures.0 c.grow.ensures.1
 
 behind-word-requires : tie.Need-behind-word-requires invariant-loop decreases-loop
 behind-word-requires c κs = search rules
@@ -43,10 +43,10 @@ behind-word-requires c κs = search rules
 returns : tie.Need-returns invariant-loop decreases-loop
 returns c =
     let turn = c.before.before.before.before in
-    digits-end _ _ _ _ turn.before.loop.invariant turn.loop-test.true _ (sym c.before.before.is_digit.ensures ∙ c.before.if1.false) c.behind-word.ensures
+    digits_end _ _ _ _ turn.before.loop.invariant turn.loop-test.true _ (sym c.before.before.is_digit.ensures ∙ c.before.if1.false) c.behind_word.ensures
 
 returns-2 : tie.Need-returns-2 invariant-loop decreases-loop
-returns-2 c = digits-over _ _ _ _ c.before.loop.invariant c.loop-test.false
+returns-2 c = digits_over _ _ _ _ c.before.loop.invariant c.loop-test.false
 
 pub read-digits-spec : {M : Type 1} → statement M
 read-digits-spec =

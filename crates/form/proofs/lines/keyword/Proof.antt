@@ -1,7 +1,7 @@
 -- `keyword` meets its contract: a law for each way to a return, by whether the line is the keyword. Assumes nothing.
 use mathlib.Core.Path.{sym, ◌∙◌}
-use Rattle.form.proofs.ReadsLaws.{reads_as, reads-stopped}
-use Rattle.form.proofs.KeywordLaws.{no-keyword, keyword-read}
+use Rattle.form.proofs.ReadsLaws.{reads_as, reads_stopped}
+use Rattle.form.proofs.KeywordLaws.{no_keyword, keyword_read}
 use borrow.Author.Rules.{rules}
 use Rattle.form.proofs.lines.keyword.Statement.{statement}
 use Rattle.form.proofs.lines.keyword.Tie as tie
@@ -9,7 +9,7 @@ use Rattle.form.proofs.lines.keyword.Tie as tie
 returns : tie.Need-returns
 returns c =
     let start = c.before.before.before.before in
-    λ tape. reads-stopped _ _ _ tape c.if1.true start.requires.0
+    λ tape. reads_stopped _ _ _ tape c.if1.true start.requires.0
 
 begins-with-requires : tie.Need-begins-with-requires
 begins-with-requires c κs = search rules
@@ -29,7 +29,7 @@ returns-2 c =
     let begun = test2.before in
     let test = begun.before in
     let start = test.before.before.before.before in
-    λ tape. reads_as c.past.ensures (keyword-read start.requires.0 test.if1.false _ tape (sym begun.begins-with.ensures ∙ test2.if2.true) start.requires.1)
+    λ tape. reads_as c.past.ensures (keyword_read start.requires.0 test.if1.false _ tape (sym begun.begins-with.ensures ∙ test2.if2.true) start.requires.1)
 
 stopped-requires : tie.Need-stopped-requires
 stopped-requires c κs = search rules
@@ -39,7 +39,7 @@ returns-3 c =
     let begun = c.before.before in
     let test = begun.before in
     let start = test.before.before.before.before in
-    λ tape. reads_as c.stopped.ensures (no-keyword start.requires.0 test.if1.false _ tape (sym begun.begins-with.ensures ∙ c.before.if2.false))
+    λ tape. reads_as c.stopped.ensures (no_keyword start.requires.0 test.if1.false _ tape (sym begun.begins-with.ensures ∙ c.before.if2.false))
 
 pub keyword-spec : {M : Type 1} → statement M
 keyword-spec =

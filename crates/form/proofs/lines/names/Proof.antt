@@ -2,8 +2,8 @@
 -- measure is how many are left. Assumes nothing.
 use Prim.Native.Nat.{ℕ, ◌-◌}
 use mathlib.Core.List.{List, [], ◌∷◌}
-use Rattle.form.specs.between.Form.{name}
-use Rattle.form.proofs.ReadsLaws.{Left, repeats-begin, repeats-more, repeats-stopped, repeats-over}
+use Rattle.form.specs.Between.Form.{name}
+use Rattle.form.proofs.ReadsLaws.{Left, repeats_begin, repeats_more, repeats_stopped, repeats_over}
 use borrow.Author.Rules.{rules}
 use native.Mathlib.Omega.{arith}
 use Rattle.form.proofs.lines.names.Statement.{statement}
@@ -16,12 +16,12 @@ abbrev decreases-loop : tie.decreases-loop
 decreases-loop text n current₀ i₀ current i = n - i
 
 loop-holds : tie.Need-loop-init invariant-loop decreases-loop
-loop-holds c = λ tape. repeats-begin _ _ c.before.requires
+loop-holds c = λ tape. repeats_begin _ _ c.before.requires
 
 returns : tie.Need-returns invariant-loop decreases-loop
 returns c =
     let turn = c.before.before.before in
-    λ tape. repeats-stopped _ _ _ (turn.loop.invariant tape) c.if1.true
+    λ tape. repeats_stopped _ _ _ (turn.loop.invariant tape) c.if1.true
 
 name-requires : tie.Need-name-requires invariant-loop decreases-loop
 name-requires c κs = (c.before.before.before.loop.invariant []).within
@@ -36,12 +36,12 @@ loop-again : tie.Need-loop-preserved invariant-loop decreases-loop
 loop-again c =
     let after-loop-test = c.before.before.before in
     let turn = after-loop-test.before in
-    λ tape. repeats-more _ _ _ (turn.loop.invariant tape) after-loop-test.loop-test.true (c.name.ensures tape)
+    λ tape. repeats_more _ _ _ (turn.loop.invariant tape) after-loop-test.loop-test.true (c.name.ensures tape)
 
 returns-2 : tie.Need-returns-2 invariant-loop decreases-loop
 returns-2 c =
     let turn = c.before in
-    λ tape. repeats-over _ _ _ (turn.loop.invariant tape) c.loop-test.false
+    λ tape. repeats_over _ _ _ (turn.loop.invariant tape) c.loop-test.false
 
 pub names-spec : {M : Type 1} → statement M
 names-spec =

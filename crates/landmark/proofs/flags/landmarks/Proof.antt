@@ -1,5 +1,5 @@
 -- `landmarks` meets its contract. The loop's invariant: the flags stand where as many passes leave them. The measure is the number of passes left. Assumes nothing.
-use Rattle.landmark.proofs.FlagLaws.{Searching, searching-start, searching-more, searching-settled, searching-done}
+use Rattle.landmark.proofs.FlagLaws.{Searching, searching_start, searching_more, searching_settled, searching_done}
 use Rattle.landmark.proofs.MarkLaws.{too_long}
 use Prim.Native.Nat.{◌-◌}
 use mathlib.Core.Path.{refl}
@@ -20,7 +20,7 @@ ends-requires : tie.Need-ends-requires invariant-loop decreases-loop
 ends-requires c κs = search rules
 
 loop-holds : tie.Need-loop-init invariant-loop decreases-loop
-loop-holds c = searching-start _ _ _ _ refl c.before.if1.false c.ends.ensures
+loop-holds c = searching_start _ _ _ _ refl c.before.if1.false c.ends.ensures
 
 pass-along-requires : tie.Need-pass-along-requires invariant-loop decreases-loop
 pass-along-requires c κs = search rules
@@ -32,7 +32,7 @@ of-steps-requires : tie.Need-of-steps-requires invariant-loop decreases-loop
 of-steps-requires c κs = search rules
 
 returns-2 : tie.Need-returns-2 invariant-loop decreases-loop
-returns-2 c = searching-settled _ _ _ _ _ _ c.before.before.before.before.before.before.before.before.before.before.loop.invariant c.before.before.before.before.before.before.pass-along.ensures _ _ c.before.before.before.same.ensures c.before.before.if2.true c.of_steps.ensures
+returns-2 c = searching_settled _ _ _ _ _ _ c.before.before.before.before.before.before.before.before.before.before.loop.invariant c.before.before.before.before.before.before.pass-along.ensures _ _ c.before.before.before.same.ensures c.before.before.if2.true c.of_steps.ensures
 
 add_r : tie.Need-overflow-add-r invariant-loop decreases-loop
 add_r c = search rules
@@ -41,13 +41,13 @@ loop-less : tie.Need-loop-smaller invariant-loop decreases-loop
 loop-less c = search rules
 
 loop-again : tie.Need-loop-preserved invariant-loop decreases-loop
-loop-again c = searching-more _ _ _ _ _ _ c.before.before.before.before.before.before.before.before.loop.invariant c.before.before.before.before.pass-along.ensures c.before.before.before.before.before.before.before.loop-test.true
+loop-again c = searching_more _ _ _ _ _ _ c.before.before.before.before.before.before.before.before.loop.invariant c.before.before.before.before.pass-along.ensures c.before.before.before.before.before.before.before.loop-test.true
 
 of-steps-requires-2 : tie.Need-of-steps-requires-2 invariant-loop decreases-loop
 of-steps-requires-2 c κs = search rules
 
 returns-3 : tie.Need-returns-3 invariant-loop decreases-loop
-returns-3 c = searching-done _ _ _ _ _ _ c.before.before.before.loop.invariant c.before.before.loop-test.false c.of-steps2.ensures
+returns-3 c = searching_done _ _ _ _ _ _ c.before.before.before.loop.invariant c.before.before.loop-test.false c.of-steps2.ensures
 
 pub landmarks-spec : {M : Type 1} → statement M
 landmarks-spec =

@@ -4,13 +4,13 @@ use Prim.Native.Nat.{◌-◌, ◌≤◌}
 use native.Mathlib.Omega.{arith}
 use mathlib.Core.Path.{◌≡◌, refl}
 use borrow.Author.Rules.{rules}
-use Rattle.landmark.specs.between.Passes.{steps-held}
-use Rattle.landmark.proofs.PositionLaws.{steps-held-more}
+use Rattle.landmark.specs.Between.Passes.{steps_held}
+use Rattle.landmark.proofs.PositionLaws.{steps_held_more}
 use Rattle.landmark.proofs.flags.of_steps.Statement.{statement}
 use Rattle.landmark.proofs.flags.of_steps.Tie as tie
 
 abbrev invariant-loop : tie.invariant-loop
-invariant-loop flags n positions steps₀ i₀ steps i = (i ≤ n) × (steps ≡ steps-held i flags)
+invariant-loop flags n positions steps₀ i₀ steps i = (i ≤ n) × (steps ≡ steps_held i flags)
 
 abbrev decreases-loop : tie.decreases-loop
 decreases-loop flags n positions steps₀ i₀ steps i = n - i
@@ -36,7 +36,7 @@ loop-less c = search rules
 loop-again : tie.Need-loop-preserved invariant-loop decreases-loop
 loop-again c =
     let turn = c.before.before in
-    (search rules, rw turn.loop.invariant.1 (steps-held-more turn.before.before.args.flags.now turn.loop.i (search rules) (search rules)))
+    (search rules, rw turn.loop.invariant.1 (steps_held_more turn.before.before.args.flags.now turn.loop.i (search rules) (search rules)))
 
 returns : tie.Need-returns invariant-loop decreases-loop
 returns c =

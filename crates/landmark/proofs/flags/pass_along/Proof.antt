@@ -1,5 +1,5 @@
 -- `pass_along` meets its contract: the two walks, from the tables as they begin, make a pass. Assumes nothing.
-use Rattle.landmark.proofs.PassTheorem.{pass-made}
+use Rattle.landmark.proofs.PassTheorem.{pass_made}
 use borrow.Author.Rules.{rules}
 use Rattle.landmark.proofs.flags.pass_along.Statement.{statement}
 use Rattle.landmark.proofs.flags.pass_along.Tie as tie
@@ -37,7 +37,7 @@ close-requires c κs = search rules
 returns : tie.Need-returns
 returns c =
     λ readable up.
-    pass-made _ _ readable _ up _ _ _ _ _ _ _ _ c.before.before.before.before.before.before.before.before.before.before.before.before.before.walk-arg2.given.0.1 c.before.before.before.before.before.before.before.before.before.before.before.before.before.before.before.before.before.start.ensures c.before.before.before.before.before.before.before.before.before.before.before.before.walk.ensures c.before.before.before.before.before.before.before.goal.ensures
+    pass_made _ _ readable _ up _ _ _ _ _ _ _ _ c.before.before.before.before.before.before.before.before.before.before.before.before.before.walk-arg2.given.0.1 c.before.before.before.before.before.before.before.before.before.before.before.before.before.before.before.before.before.start.ensures c.before.before.before.before.before.before.before.before.before.before.before.before.walk.ensures c.before.before.before.before.before.before.before.goal.ensures
     c.before.before.before.before.before.before.note.ensures c.before.close.ensures
 
 pub pass-along-spec : {M : Type 1} → statement M

@@ -1,5 +1,5 @@
 -- `mark_lodged` meets its contract: the refusal, or the landmarks. Assumes nothing.
-use Rattle.landmark.proofs.MarkLaws.{lodged-refused, lodged-marked}
+use Rattle.landmark.proofs.MarkLaws.{lodged_refused, lodged_marked}
 use borrow.Author.Rules.{rules}
 use Rattle.landmark.proofs.marks.mark_lodged.Statement.{statement}
 use Rattle.landmark.proofs.marks.mark_lodged.Tie as tie
@@ -17,10 +17,10 @@ landmarks-requires : tie.Need-landmarks-requires
 landmarks-requires c κs = search rules
 
 returns : tie.Need-returns
-returns c = lodged-refused _ _ _ _ _ c.before.before.before.check-lodged.ensures _ c.before.answer.given.1
+returns c = lodged_refused _ _ _ _ _ c.before.before.before.check-lodged.ensures _ c.before.answer.given.1
 
 returns-2 : tie.Need-returns-2
-returns-2 c = lodged-marked _ _ _ _ _ c.before.before.before.before.check-lodged.ensures _ _ c.before.before.answer2.given.1 c.landmarks.ensures
+returns-2 c = lodged_marked _ _ _ _ _ c.before.before.before.before.check-lodged.ensures _ _ c.before.before.answer2.given.1 c.landmarks.ensures
 
 pub mark-lodged-spec : {M : Type 1} → statement M
 mark-lodged-spec =

@@ -4,16 +4,16 @@ use Prim.Native.Nat.{◌-◌}
 use mathlib.Core.Path.{◌≡◌, refl, sym, ◌∙◌}
 use borrow.Author.Rules.{rules}
 use lib.ListN.{length}
-use Rattle.sheet.specs.between.Group.{facts-in}
-use Rattle.sheet.proofs.GroupLaws.{rest-shorter}
-use Rattle.landmark.specs.between.Rows.{supports-noted}
-use Rattle.landmark.proofs.RowLaws.{noted-over, noted-next, noted-past}
+use Rattle.sheet.specs.Between.Group.{facts_in}
+use Rattle.sheet.proofs.GroupLaws.{rest_shorter}
+use Rattle.landmark.specs.Between.Rows.{supports_noted}
+use Rattle.landmark.proofs.RowLaws.{noted_over, noted_next, noted_past}
 use Rattle.landmark.proofs.rows.note.Statement.{statement}
 use Rattle.landmark.proofs.rows.note.Tie as tie
 
 abbrev invariant-loop : tie.invariant-loop
 invariant-loop words traces rows₀ at to₀ rest₀ rows to rest =
-    (supports-noted traces to (facts-in words rest) rows ≡ supports-noted traces to₀ (facts-in words rest₀) rows₀) × (length rows ≡ length rows₀)
+    (supports_noted traces to (facts_in words rest) rows ≡ supports_noted traces to₀ (facts_in words rest₀) rows₀) × (length rows ≡ length rows₀)
 
 abbrev decreases-loop : tie.decreases-loop
 decreases-loop words traces rows₀ at to₀ rest₀ rows to rest = rest.end - rest.at
@@ -51,14 +51,14 @@ add-to c = search rules
 loop-less : tie.Need-loop-smaller invariant-loop decreases-loop
 loop-less c =
     let turn = c.before.before.before.before.before.before.before.before in
-    rest-shorter _ _ c.before.rest.ensures turn.if1.true
+    rest_shorter _ _ c.before.rest.ensures turn.if1.true
 
 loop-again : tie.Need-loop-preserved invariant-loop decreases-loop
 loop-again c =
     let turn = c.before.before.before.before.before.before.before.before in
     let called = c.before.before.before.before in (
       rw (c.before.rest.ensures, called.put8.ensures)
-          (sym (noted-next _ _ _ _ _ turn.if1.true _ _ called.before.before.first.ensures.0 called.before.byte.ensures)
+          (sym (noted_next _ _ _ _ _ turn.if1.true _ _ called.before.before.first.ensures.0 called.before.byte.ensures)
           ∙ turn.before.before.loop.invariant.0),
       search rules,
     )
@@ -66,14 +66,14 @@ loop-again c =
 loop-less-2 : tie.Need-loop-smaller-2 invariant-loop decreases-loop
 loop-less-2 c =
     let turn = c.before.before.before.before.before.before.before.before in
-    rest-shorter _ _ c.before.rest.ensures turn.if1.true
+    rest_shorter _ _ c.before.rest.ensures turn.if1.true
 
 loop-again-2 : tie.Need-loop-preserved-2 invariant-loop decreases-loop
 loop-again-2 c =
     let turn = c.before.before.before.before.before.before.before.before in
     let called = c.before.before.before.before in (
       rw (c.before.rest.ensures, called.put8.ensures)
-          (sym (noted-past _ _ _ _ _ turn.if1.true _ _ called.before.before.first.ensures.0 called.before.byte.ensures
+          (sym (noted_past _ _ _ _ _ turn.if1.true _ _ called.before.before.first.ensures.0 called.before.byte.ensures
           (rw called.put8.ensures at c.if2.false))
           ∙ turn.before.before.loop.invariant.0),
       search rules,
@@ -83,7 +83,7 @@ same_length : tie.Need-same-length invariant-loop decreases-loop
 same_length c = search rules
 
 returns : tie.Need-returns invariant-loop decreases-loop
-returns c = sym (noted-over _ _ _ _ _ c.if1.false) ∙ c.before.before.loop.invariant.0
+returns c = sym (noted_over _ _ _ _ _ c.if1.false) ∙ c.before.before.loop.invariant.0
 
 pub note-spec : {M : Type 1} → statement M
 note-spec =

@@ -4,16 +4,16 @@ use Prim.Native.Nat.{◌-◌}
 use mathlib.Core.Path.{◌≡◌, refl, sym, ◌∙◌}
 use borrow.Author.Rules.{rules}
 use lib.ListN.{length}
-use Rattle.sheet.specs.between.Group.{facts-in}
-use Rattle.sheet.proofs.GroupLaws.{rest-shorter}
-use Rattle.landmark.specs.between.Rows.{row-raised}
-use Rattle.landmark.proofs.RowLaws.{raised-over, raised-next, raised-past}
+use Rattle.sheet.specs.Between.Group.{facts_in}
+use Rattle.sheet.proofs.GroupLaws.{rest_shorter}
+use Rattle.landmark.specs.Between.Rows.{row_raised}
+use Rattle.landmark.proofs.RowLaws.{raised_over, raised_next, raised_past}
 use Rattle.landmark.proofs.rows.raise_row.Statement.{statement}
 use Rattle.landmark.proofs.rows.raise_row.Tie as tie
 
 abbrev invariant-loop : tie.invariant-loop
 invariant-loop words rows flags₀ at from₀ rest₀ flags from rest =
-    (row-raised rows from (facts-in words rest) flags ≡ row-raised rows from₀ (facts-in words rest₀) flags₀) × (length flags ≡ length flags₀)
+    (row_raised rows from (facts_in words rest) flags ≡ row_raised rows from₀ (facts_in words rest₀) flags₀) × (length flags ≡ length flags₀)
 
 abbrev decreases-loop : tie.decreases-loop
 decreases-loop words rows flags₀ at from₀ rest₀ flags from rest = rest.end - rest.at
@@ -42,28 +42,28 @@ add-from c = search rules
 loop-less : tie.Need-loop-smaller invariant-loop decreases-loop
 loop-less c =
     let turn = c.before.before.before.before.before.before.before in
-    rest-shorter _ _ c.before.rest.ensures turn.if1.true
+    rest_shorter _ _ c.before.rest.ensures turn.if1.true
 
 loop-again : tie.Need-loop-preserved invariant-loop decreases-loop
 loop-again c =
     let turn = c.before.before.before.before.before.before.before in
     let called = c.before.before.before.before in (
       rw (c.before.rest.ensures, called.raise.ensures)
-          (sym (raised-next _ _ _ _ _ turn.if1.true _ called.before.byte.ensures) ∙ turn.before.before.loop.invariant.0),
+          (sym (raised_next _ _ _ _ _ turn.if1.true _ called.before.byte.ensures) ∙ turn.before.before.loop.invariant.0),
       search rules,
     )
 
 loop-less-2 : tie.Need-loop-smaller-2 invariant-loop decreases-loop
 loop-less-2 c =
     let turn = c.before.before.before.before.before.before.before in
-    rest-shorter _ _ c.before.rest.ensures turn.if1.true
+    rest_shorter _ _ c.before.rest.ensures turn.if1.true
 
 loop-again-2 : tie.Need-loop-preserved-2 invariant-loop decreases-loop
 loop-again-2 c =
     let turn = c.before.before.before.before.before.before.before in
     let called = c.before.before.before.before in (
       rw (c.before.rest.ensures, called.raise.ensures)
-          (sym (raised-past _ _ _ _ _ turn.if1.true _ called.before.byte.ensures c.if2.false) ∙ turn.before.before.loop.invariant.0),
+          (sym (raised_past _ _ _ _ _ turn.if1.true _ called.before.byte.ensures c.if2.false) ∙ turn.before.before.loop.invariant.0),
       search rules,
     )
 
@@ -71,7 +71,7 @@ same_length : tie.Need-same-length invariant-loop decreases-loop
 same_length c = search rules
 
 returns : tie.Need-returns invariant-loop decreases-loop
-returns c = sym (raised-over _ _ _ _ _ c.if1.false) ∙ c.before.before.loop.invariant.0
+returns c = sym (raised_over _ _ _ _ _ c.if1.false) ∙ c.before.before.loop.invariant.0
 
 pub raise-row-spec : {M : Type 1} → statement M
 raise-row-spec =

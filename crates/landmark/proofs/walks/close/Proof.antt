@@ -3,7 +3,7 @@
 use mathlib.Core.Path.{◌≡◌, refl}
 use borrow.Author.Rules.{rules}
 use lib.ListN.{length}
-use Rattle.landmark.proofs.CloseLaws.{Closing, closing_end, closing-more, closing-start}
+use Rattle.landmark.proofs.CloseLaws.{Closing, closing_end, closing_more, closing_start}
 use Rattle.landmark.proofs.walks.close.Statement.{statement}
 use Rattle.landmark.proofs.walks.close.Tie as tie
 
@@ -38,7 +38,7 @@ loop-again : tie.Need-loop-preserved invariant-loop decreases-loop
 loop-again c =
     let turn = c.before.before.before.before.before in (
       search rules,
-      closing-more _ _ _ _ _ _ turn.before.loop.invariant.1 _ _ turn.loop-test.true c.before.before.before.needs-at.ensures
+      closing_more _ _ _ _ _ _ turn.before.loop.invariant.1 _ _ turn.loop-test.true c.before.before.before.needs-at.ensures
           c.before.before.raise-marked.ensures,
     )
 
@@ -46,7 +46,7 @@ same_length : tie.Need-same-length invariant-loop decreases-loop
 same_length c = search rules
 
 returns : tie.Need-returns invariant-loop decreases-loop
-returns c = closing-start _ _ _ _ _ _ c.before.loop.invariant.1 c.loop-test.false
+returns c = closing_start _ _ _ _ _ _ c.before.loop.invariant.1 c.loop-test.false
 
 pub close_spec : {M : Type 1} → statement M
 close_spec =

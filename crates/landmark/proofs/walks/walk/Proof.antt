@@ -1,5 +1,5 @@
 -- `walk` meets its contract. The loop's invariant: what is left of the walk makes of the tables what all of it makes of the first. The measure is the number of steps left. Assumes nothing.
-use Rattle.landmark.proofs.WalkLaws.{Walking, walking_start, walking-more, walking-end}
+use Rattle.landmark.proofs.WalkLaws.{Walking, walking_start, walking_more, walking_end}
 use lib.ListN.{length}
 use Prim.Native.Nat.{◌-◌}
 use borrow.Author.Rules.{rules}
@@ -53,7 +53,7 @@ loop-less c = search rules
 
 loop-again : tie.Need-loop-preserved invariant-loop decreases-loop
 loop-again c =
-    walking-more _ _ _ _ _ _ _ _ _ _ c.before.before.before.before.before.before.before.before.before.before.before.before.before.before.before.before.loop.invariant c.before.before.before.before.before.before.before.before.before.before.before.before.before.before.before.loop-test.true _ _ _ _ _ c.before.before.before.before.before.before.before.before.before.before.before.before.before.facts-of.ensures.0 c.before.before.before.before.before.before.before.before.before.before.before.before.before.facts-of.ensures.1
+    walking_more _ _ _ _ _ _ _ _ _ _ c.before.before.before.before.before.before.before.before.before.before.before.before.before.before.before.before.loop.invariant c.before.before.before.before.before.before.before.before.before.before.before.before.before.before.before.loop-test.true _ _ _ _ _ c.before.before.before.before.before.before.before.before.before.before.before.before.before.facts_of.ensures.0 c.before.before.before.before.before.before.before.before.before.before.before.before.before.facts_of.ensures.1
     c.before.before.before.before.before.before.before.before.before.before.note.ensures c.before.before.before.before.before.before.before.flag.ensures c.before.before.before.before.write-effects.ensures (search rules) (search rules) (search rules)
 
 same_length : tie.Need-same-length invariant-loop decreases-loop
@@ -66,7 +66,7 @@ same-length-3 : tie.Need-same-length-3 invariant-loop decreases-loop
 same-length-3 c = search rules
 
 returns : tie.Need-returns invariant-loop decreases-loop
-returns c = walking-end _ _ _ _ _ _ _ _ _ _ c.before.loop.invariant c.loop-test.false
+returns c = walking_end _ _ _ _ _ _ _ _ _ _ c.before.loop.invariant c.loop-test.false
 
 pub walk-spec : {M : Type 1} → statement M
 walk-spec =

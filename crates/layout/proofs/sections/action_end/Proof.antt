@@ -8,7 +8,7 @@ facts-of-requires : tie.Need-facts-of-requires
 facts-of-requires c κs = search rules
 
 returns : tie.Need-returns
-returns c = ap (λ g. g.end) c.before.facts-of.ensures.1
+returns c = ap (λ g. g.end) c.before.facts_of.ensures.1
 
 pub action-end-spec : {M : Type 1} → statement M
 action-end-spec = tie.close (tie.spec facts-of-requires returns)

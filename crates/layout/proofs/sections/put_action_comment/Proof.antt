@@ -1,5 +1,5 @@
 -- `put_action_comment` meets its contract: two texts with a number between them. Assumes nothing.
-use Rattle.lines.proofs.PrintLaws.{prints-both}
+use Rattle.lines.proofs.PrintLaws.{prints_both}
 use borrow.Author.Rules.{rules}
 use Rattle.layout.proofs.sections.put_action_comment.Statement.{statement}
 use Rattle.layout.proofs.sections.put_action_comment.Tie as tie
@@ -23,7 +23,7 @@ same_length : tie.Need-same-length
 same_length c = search rules
 
 returns : tie.Need-returns
-returns c = prints-both c.before.before.before.before.before.before.before.before.before.before.before.put-text.ensures (prints-both c.before.before.before.before.before.before.before.put-number.ensures c.before.before.put-text2.ensures)
+returns c = prints_both c.before.before.before.before.before.before.before.before.before.before.before.put-text.ensures (prints_both c.before.before.before.before.before.before.before.put-number.ensures c.before.before.put-text2.ensures)
 
 pub put-action-comment-spec : {M : Type 1} → statement M
 put-action-comment-spec =

@@ -5,14 +5,14 @@ use mathlib.Core.List.{[]}
 use borrow.Author.Rules.{rules}
 use Rattle.sheet.specs.Layout.{actions}
 use Rattle.sheet.specs.Decode.{table}
-use Rattle.layout.specs.Layout.{action-section}
-use Rattle.layout.specs.between.Walk.{Goes}
-use Rattle.layout.proofs.WalkLaws.{goes_first, goes-length, goes-within, goes-both, goes-action, goes-to-last}
+use Rattle.layout.specs.Layout.{action_section}
+use Rattle.layout.specs.Between.Walk.{Goes}
+use Rattle.layout.proofs.WalkLaws.{goes_first, goes_length, goes_within, goes_both, goes_action, goes_to_last}
 use Rattle.layout.proofs.sections.put_actions.Statement.{statement}
 use Rattle.layout.proofs.sections.put_actions.Tie as tie
 
 abbrev invariant-loop : tie.invariant-loop
-invariant-loop out₀ sheet spot₀ count a₀ out spot a = Goes sheet (table (action-section sheet) 0 (actions sheet)) spot₀ out₀ (table (action-section sheet) a (actions sheet - a)) spot out × (a ≤ actions sheet)
+invariant-loop out₀ sheet spot₀ count a₀ out spot a = Goes sheet (table (action_section sheet) 0 (actions sheet)) spot₀ out₀ (table (action_section sheet) a (actions sheet - a)) spot out × (a ≤ actions sheet)
 
 abbrev decreases-loop : tie.decreases-loop
 decreases-loop out₀ sheet spot₀ count a₀ out spot a = actions sheet - a
@@ -24,7 +24,7 @@ actions-requires : tie.Need-actions-requires invariant-loop decreases-loop
 actions-requires c κs = search rules
 
 loop-holds : tie.Need-loop-init invariant-loop decreases-loop
-loop-holds c = let sheet = c.before.before.before.before.before.before.before.before.before.args.sheet.now in (goes_first sheet (actions sheet) _ (goes-within sheet (c.before.before.before.put-section.ensures [])), search rules)
+loop-holds c = let sheet = c.before.before.before.before.before.before.before.before.before.args.sheet.now in (goes_first sheet (actions sheet) _ (goes_within sheet (c.before.before.before.put-section.ensures [])), search rules)
 
 cast-loop : tie.Need-overflow-cast-loop invariant-loop decreases-loop
 cast-loop c = search rules
@@ -42,15 +42,15 @@ loop-again : tie.Need-loop-preserved invariant-loop decreases-loop
 loop-again c = let sheet = c.before.before.before.before.before.before.before.before.before.before.before.before.before.before.before.args.sheet.now in
     let turn = c.before.before.before.before.before in
     let low : turn.loop.a < actions sheet = omega (arith, c.before.before.before.before.before.before.actions.ensures.0) in
-    (goes-action sheet turn.loop.a (actions sheet) low turn.loop.invariant.0 c.before.before.put-action.ensures, omega arith)
+    (goes_action sheet turn.loop.a (actions sheet) low turn.loop.invariant.0 c.before.before.put-action.ensures, omega arith)
 
 same_length : tie.Need-same-length invariant-loop decreases-loop
-same_length c = let sheet = c.before.before.before.before.before.before.before.before.before.before.before.args.sheet.now in omega (arith, goes-length sheet c.before.loop.invariant.0, goes-length sheet (c.before.before.before.before.before.put-section.ensures []))
+same_length c = let sheet = c.before.before.before.before.before.before.before.before.before.before.before.args.sheet.now in omega (arith, goes_length sheet c.before.loop.invariant.0, goes_length sheet (c.before.before.before.before.before.put-section.ensures []))
 
 returns : tie.Need-returns invariant-loop decreases-loop
 returns c = let sheet = c.before.before.before.before.before.before.before.before.before.before.before.args.sheet.now in
     let past : actions sheet ≤ c.before.loop.a = omega (arith, c.before.before.actions.ensures.0) in
-    goes-both sheet (c.before.before.before.before.before.put-section.ensures (table (action-section sheet) 0 (actions sheet))) (goes-to-last sheet c.before.loop.a (actions sheet) past c.before.loop.invariant.0)
+    goes_both sheet (c.before.before.before.before.before.put-section.ensures (table (action_section sheet) 0 (actions sheet))) (goes_to_last sheet c.before.loop.a (actions sheet) past c.before.loop.invariant.0)
 
 pub put-actions-spec : {M : Type 1} → statement M
 put-actions-spec =

@@ -1,5 +1,5 @@
 -- `put_comment` meets its contract: three texts, one behind the other. Assumes nothing.
-use Rattle.lines.proofs.PrintLaws.{prints-both}
+use Rattle.lines.proofs.PrintLaws.{prints_both}
 use borrow.Author.Rules.{rules}
 use Rattle.layout.proofs.sections.put_comment.Statement.{statement}
 use Rattle.layout.proofs.sections.put_comment.Tie as tie
@@ -23,7 +23,7 @@ same_length : tie.Need-same-length
 same_length c = search rules
 
 returns : tie.Need-returns
-returns c = prints-both c.before.before.before.before.before.before.before.before.before.before.before.put-text.ensures (prints-both c.before.before.before.before.before.before.before.put-text2.ensures c.before.before.put-text3.ensures)
+returns c = prints_both c.before.before.before.before.before.before.before.before.before.before.before.put-text.ensures (prints_both c.before.before.before.before.before.before.before.put-text2.ensures c.before.before.put-text3.ensures)
 
 pub put-comment-spec : {M : Type 1} → statement M
 put-comment-spec =

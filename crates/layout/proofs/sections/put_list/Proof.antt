@@ -2,7 +2,7 @@
 use mathlib.Core.List.{[], ◌∷◌}
 use lib.ListN.{length}
 use Rattle.layout.specs.Layout.{titled}
-use Rattle.layout.proofs.WalkLaws.{goes-both, laid-all}
+use Rattle.layout.proofs.WalkLaws.{goes_both, laid_all}
 use borrow.Author.Rules.{rules}
 use Rattle.layout.proofs.sections.put_list.Statement.{statement}
 use Rattle.layout.proofs.sections.put_list.Tie as tie
@@ -30,7 +30,7 @@ same_length c = search rules
 
 returns : tie.Need-returns
 returns c = let list = c.before.before.before.before.before.before.before.before.before.before.before.before.before.before.before.before.before.args.list.now in
-    laid-all list _ (goes-both list (c.before.before.before.before.before.before.before.before.before.before.before.before.put-section.ensures (titled "list" (length list) ∷ [])) (c.before.before.before.before.before.before.before.put-section2.ensures [])) c.before.before.before.part.ensures c.before.before.put-rows.ensures
+    laid_all list _ (goes_both list (c.before.before.before.before.before.before.before.before.before.before.before.before.put-section.ensures (titled "list" (length list) ∷ [])) (c.before.before.before.before.before.before.before.put-section2.ensures [])) c.before.before.before.part.ensures c.before.before.put-rows.ensures
 
 pub put-list-spec : {M : Type 1} → statement M
 put-list-spec =

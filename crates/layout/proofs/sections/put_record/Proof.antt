@@ -1,5 +1,5 @@
 -- `put_record` meets its contract: a task, and its plan behind it. Assumes nothing.
-use Rattle.layout.proofs.WalkLaws.{record-put}
+use Rattle.layout.proofs.WalkLaws.{record_put}
 use borrow.Author.Rules.{rules}
 use Rattle.layout.proofs.sections.put_record.Statement.{statement}
 use Rattle.layout.proofs.sections.put_record.Tie as tie
@@ -21,7 +21,7 @@ same_length c = search rules
 
 returns : tie.Need-returns
 returns c = let begun = c.before.before.before.before.before.before.before.before.before.before.before.before.args in
-    record-put begun.words.now _ _ begun.task c.before.before.before.before.before.before.before.before.front.ensures c.before.before.before.part.ensures c.before.before.before.before.before.before.before.put-task.ensures c.before.before.put-list.ensures
+    record_put begun.words.now _ _ begun.task c.before.before.before.before.before.before.before.before.front.ensures c.before.before.before.part.ensures c.before.before.before.before.before.before.before.put-task.ensures c.before.before.put-list.ensures
 
 pub put-record-spec : {M : Type 1} → statement M
 put-record-spec =

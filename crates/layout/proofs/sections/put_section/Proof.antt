@@ -1,5 +1,5 @@
 -- `put_section` meets its contract: a comment, and the lines of a part. Assumes nothing.
-use Rattle.layout.proofs.WalkLaws.{goes-section}
+use Rattle.layout.proofs.WalkLaws.{goes_section}
 use borrow.Author.Rules.{rules}
 use Rattle.layout.proofs.sections.put_section.Statement.{statement}
 use Rattle.layout.proofs.sections.put_section.Tie as tie
@@ -21,7 +21,7 @@ same_length c = search rules
 
 returns : tie.Need-returns
 returns c = let begun = c.before.before.before.before.before.before.before.before.before.before.before.before.before.args in
-    goes-section begun.words.now begun.from (record { title = begun.title.now; end = begun.end }) _ _ c.before.before.before.before.part.ensures c.later.ensures c.before.before.before.before.before.before.before.before.put-comment.ensures c.before.before.before.put-rows.ensures
+    goes_section begun.words.now begun.from (record { title = begun.title.now; end = begun.end }) _ _ c.before.before.before.before.part.ensures c.later.ensures c.before.before.before.before.before.before.before.before.put-comment.ensures c.before.before.before.put-rows.ensures
 
 pub put-section-spec : {M : Type 1} → statement M
 put-section-spec =

@@ -1,7 +1,7 @@
 -- `put_task` meets its contract: its sections in turn, and what is left. Assumes nothing.
 use mathlib.Core.Path.{ap}
-use Rattle.lines.proofs.PrintLaws.{prints-length}
-use Rattle.layout.proofs.WalkLaws.{task-put}
+use Rattle.lines.proofs.PrintLaws.{prints_length}
+use Rattle.layout.proofs.WalkLaws.{task_put}
 use borrow.Author.Rules.{rules}
 use Rattle.layout.proofs.sections.put_task.Statement.{statement}
 use Rattle.layout.proofs.sections.put_task.Tie as tie
@@ -56,10 +56,10 @@ put-rows-requires c κs = search rules
 
 returns : tie.Need-returns
 returns c = let goal = c.before.before.before.before.before.before.before.before.before.before.before.before.before.before.before.before.before.before.before.before.before.before.before.before.before.before.before.before.before.before.before.before.before.before.before.before.goal.ensures in
-    task-put c.before.before.before.before.before.before.before.before.before.before.before.before.before.before.before.before.before.before.before.before.before.before.before.before.before.before.before.before.before.before.before.before.before.before.before.before.before.before.before.args.sheet.now _ c.before.before.before.before.before.before.before.before.before.before.before.before.before.before.before.before.before.before.before.before.before.before.before.before.before.before.before.before.domains-at.ensures c.before.before.before.before.before.before.before.before.before.before.before.before.before.before.before.before.before.before.before.before.before.before.start-at.ensures.0 (ap (λ g. g.at) goal) (ap (λ g. g.end) goal) c.before.before.before.before.before.before.before.before.before.before.before.before.before.before.before.before.before.before.before.before.before.before.before.before.before.before.before.before.before.before.before.before.before.put-section.ensures c.before.before.before.before.before.before.before.before.before.before.before.before.before.before.before.before.before.before.before.before.before.before.before.before.before.before.before.put-section2.ensures c.before.before.before.before.before.before.before.before.before.before.before.before.before.before.before.before.before.before.before.before.before.put-section3.ensures c.before.before.before.before.before.before.before.before.before.before.before.before.before.before.before.before.put-section4.ensures c.before.before.before.before.before.before.before.before.before.before.before.put-section5.ensures c.before.before.before.before.before.before.before.put-actions.ensures c.before.before.before.part.ensures c.before.before.put-rows.ensures
+    task_put c.before.before.before.before.before.before.before.before.before.before.before.before.before.before.before.before.before.before.before.before.before.before.before.before.before.before.before.before.before.before.before.before.before.before.before.before.before.before.before.args.sheet.now _ c.before.before.before.before.before.before.before.before.before.before.before.before.before.before.before.before.before.before.before.before.before.before.before.before.before.before.before.before.domains_at.ensures c.before.before.before.before.before.before.before.before.before.before.before.before.before.before.before.before.before.before.before.before.before.before.start_at.ensures.0 (ap (λ g. g.at) goal) (ap (λ g. g.end) goal) c.before.before.before.before.before.before.before.before.before.before.before.before.before.before.before.before.before.before.before.before.before.before.before.before.before.before.before.before.before.before.before.before.before.put-section.ensures c.before.before.before.before.before.before.before.before.before.before.before.before.before.before.before.before.before.before.before.before.before.before.before.before.before.before.before.put-section2.ensures c.before.before.before.before.before.before.before.before.before.before.before.before.before.before.before.before.before.before.before.before.before.put-section3.ensures c.before.before.before.before.before.before.before.before.before.before.before.before.before.before.before.before.put-section4.ensures c.before.before.before.before.before.before.before.before.before.before.before.put-section5.ensures c.before.before.before.before.before.before.before.put-actions.ensures c.before.before.before.part.ensures c.before.before.put-rows.ensures
 
 same_length : tie.Need-same-length
-same_length c = prints-length (returns c)
+same_length c = prints_length (returns c)
 
 pub put-task-spec : {M : Type 1} → statement M
 put-task-spec =

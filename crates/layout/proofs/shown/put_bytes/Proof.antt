@@ -1,6 +1,6 @@
 -- `put_bytes` meets its contract. Assumes nothing.
 use mathlib.Core.Path.{refl}
-use Rattle.layout.proofs.ShownLaws.{text-put}
+use Rattle.layout.proofs.ShownLaws.{text_put}
 use borrow.Author.Rules.{rules}
 use Rattle.layout.proofs.shown.put_bytes.Statement.{statement}
 use Rattle.layout.proofs.shown.put_bytes.Tie as tie
@@ -27,7 +27,7 @@ same_length : tie.Need-same-length
 same_length c = search rules
 
 returns : tie.Need-returns
-returns c = text-put c.before.before.before.before.before.before.before.before.before.before.before.before.args.bytes.now _ _ _ _ c.before.before.before.before.before.before.before.before.before.before.before.before.requires refl c.before.before.before.before.before.before.before.before.unpack.ensures c.before.before.before.before.before.front.ensures c.before.before.before.frame-input.ensures c.before.before.put-framed.ensures
+returns c = text_put c.before.before.before.before.before.before.before.before.before.before.before.before.args.bytes.now _ _ _ _ c.before.before.before.before.before.before.before.before.before.before.before.before.requires refl c.before.before.before.before.before.before.before.before.unpack.ensures c.before.before.before.before.before.front.ensures c.before.before.before.frame-input.ensures c.before.before.put-framed.ensures
 
 pub put-bytes-spec : {M : Type 1} → statement M
 put-bytes-spec =

@@ -1,6 +1,6 @@
 -- `put_framed` meets its contract, by the form. Assumes nothing.
 use Rattle.records.specs.declared.frame.Frame.TheVariants.{Broken, Long, Whole}
-use Rattle.layout.proofs.ShownLaws.{framed-as}
+use Rattle.layout.proofs.ShownLaws.{framed_as}
 use borrow.Author.Rules.{rules}
 use Rattle.layout.proofs.shown.put_framed.Statement.{statement}
 use Rattle.layout.proofs.shown.put_framed.Tie as tie
@@ -27,19 +27,19 @@ same_length : tie.Need-same-length
 same_length c = search rules
 
 returns : tie.Need-returns
-returns c = framed-as _ _ Broken c.before.before.before.before.enum_told.given.1 c.before.before.put-rows.ensures
+returns c = framed_as _ _ Broken c.before.before.before.before.enum_told.given.1 c.before.before.put-rows.ensures
 
 same-length-2 : tie.Need-same-length-2
 same-length-2 c = search rules
 
 returns-2 : tie.Need-returns-2
-returns-2 c = framed-as _ _ (Long _) c.before.before.before.before.enum-told2.given.1 c.before.before.put-rows2.ensures
+returns-2 c = framed_as _ _ (Long _) c.before.before.before.before.enum-told2.given.1 c.before.before.put-rows2.ensures
 
 same-length-3 : tie.Need-same-length-3
 same-length-3 c = search rules
 
 returns-3 : tie.Need-returns-3
-returns-3 c = framed-as _ _ (Whole _ _ _) c.before.before.before.before.before.framed.given.1 c.before.before.put_whole.ensures
+returns-3 c = framed_as _ _ (Whole _ _ _) c.before.before.before.before.before.framed.given.1 c.before.before.put_whole.ensures
 
 pub put-framed-spec : {M : Type 1} → statement M
 put-framed-spec =

@@ -1,5 +1,5 @@
 -- `put_whole` meets its contract, by how many actions the task has. Assumes nothing.
-use Rattle.layout.proofs.ShownLaws.{whole_plain, whole-record}
+use Rattle.layout.proofs.ShownLaws.{whole_plain, whole_record}
 use borrow.Author.Rules.{rules}
 use Rattle.layout.proofs.shown.put_whole.Statement.{statement}
 use Rattle.layout.proofs.shown.put_whole.Tie as tie
@@ -26,7 +26,7 @@ same-length-2 : tie.Need-same-length-2
 same-length-2 c = search rules
 
 returns-2 : tie.Need-returns-2
-returns-2 c = whole-record _ _ _ _ c.before.before.before.before.before.before.front.ensures c.before.before.before.before.before.actions.ensures.0 c.before.before.before.before.if1.false c.before.before.put_record.ensures
+returns-2 c = whole_record _ _ _ _ c.before.before.before.before.before.before.front.ensures c.before.before.before.before.before.actions.ensures.0 c.before.before.before.before.if1.false c.before.before.put_record.ensures
 
 pub put-whole-spec : {M : Type 1} → statement M
 put-whole-spec =

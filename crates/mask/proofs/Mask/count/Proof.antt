@@ -1,6 +1,6 @@
 -- `count` meets its contract: the sum over four words is the sum over the mask's list, which has four. Assumes nothing.
-use Rattle.mask.proofs.LengthLaws.{words-length}
-use Rattle.mask.proofs.MaskLaws.{ones-of-four}
+use Rattle.mask.proofs.LengthLaws.{words_length}
+use Rattle.mask.proofs.MaskLaws.{ones_of_four}
 use borrow.Author.Rules.{rules}
 use Rattle.mask.proofs.Mask.count.Statement.{statement}
 use Rattle.mask.proofs.Mask.count.Tie as tie
@@ -41,8 +41,8 @@ add-result-3 c = search rules
 returns : tie.Need-returns
 returns c =
     let start = c.before.before.before.before.before in
-    let four = words-length start.args.self _ start.well-formed.0 in
-    cc (ones-of-four _ four, c.before.before.before.ones.ensures.0, c.before.before.ones2.ensures.0, c.before.ones3.ensures.0, c.ones4.ensures.0)
+    let four = words_length start.args.self _ start.well_formed.0 in
+    cc (ones_of_four _ four, c.before.before.before.ones.ensures.0, c.before.before.ones2.ensures.0, c.before.ones3.ensures.0, c.ones4.ensures.0)
 
 pub count_spec : {M : Type 1} → statement M
 count_spec =

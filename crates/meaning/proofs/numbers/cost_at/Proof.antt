@@ -20,7 +20,7 @@ add-result-2 : tie.Need-overflow-add-result-2
 add-result-2 c = search rules
 
 returns : tie.Need-returns
-returns c = (cc (c.number.ensures.0, c.before.effects-at.ensures.0), omega (arith, c.number.ensures.1, c.before.effects-at.ensures.1))
+returns c = (cc (c.number.ensures.0, c.before.effects_at.ensures.0), omega (arith, c.number.ensures.1, c.before.effects_at.ensures.1))
 
 pub cost-at-spec : {M : Type 1} → statement M
 cost-at-spec =

@@ -15,8 +15,8 @@ number-requires c κs = search rules
 
 returns : tie.Need-returns
 returns c = (
-  cc (c.number.ensures.0, c.before.effects-at.ensures.0),
-  record { from = omega (arith, c.before.effects-at.ensures.1); wide = omega arith; on = omega arith; count = c.number.ensures.1 },
+  cc (c.number.ensures.0, c.before.effects_at.ensures.0),
+  record { from = omega (arith, c.before.effects_at.ensures.1); wide = omega arith; on = omega arith; count = c.number.ensures.1 },
 )
 
 pub effect-lines-spec : {M : Type 1} → statement M

@@ -20,7 +20,7 @@ add-result-2 : tie.Need-overflow-add-result-2
 add-result-2 c = search rules
 
 returns : tie.Need-returns
-returns c = (cc (c.number.ensures.0, c.before.goal-at.ensures.0), omega (arith, c.number.ensures.1, c.before.goal-at.ensures.1))
+returns c = (cc (c.number.ensures.0, c.before.goal_at.ensures.0), omega (arith, c.number.ensures.1, c.before.goal_at.ensures.1))
 
 pub operators-at-spec : {M : Type 1} → statement M
 operators-at-spec =

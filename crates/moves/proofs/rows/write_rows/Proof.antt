@@ -3,7 +3,7 @@ use Prim.Native.Nat.{◌-◌}
 use native.Mathlib.Omega.{arith}
 use mathlib.Core.Path.{◌∙◌}
 use lib.ListN.{length}
-use Rattle.moves.proofs.RowLaws.{Walking, walking_start, walking-low, walking-more, walking-over}
+use Rattle.moves.proofs.RowLaws.{Walking, walking_start, walking_low, walking_more, walking_over}
 use borrow.Author.Rules.{rules}
 use Rattle.moves.proofs.rows.write_rows.Statement.{statement}
 use Rattle.moves.proofs.rows.write_rows.Tie as tie
@@ -42,10 +42,10 @@ bit-requires-2 : tie.Need-bit-requires-2 invariant-loop decreases-loop
 bit-requires-2 c κs = search rules
 
 put-row-requires : tie.Need-put-row-requires invariant-loop decreases-loop
-put-row-requires c κs = omega (arith, walking-low _ _ _ _ _ c.before.before.before.before.before.before.before.before.before.before.before.before.before.before.requires _ _ _ c.before.before.before.before.before.before.before.loop.invariant)
+put-row-requires c κs = omega (arith, walking_low _ _ _ _ _ c.before.before.before.before.before.before.before.before.before.before.before.before.before.before.requires _ _ _ c.before.before.before.before.before.before.before.loop.invariant)
 
 add-i : tie.Need-overflow-add-i invariant-loop decreases-loop
-add-i c = omega (arith, walking-low _ _ _ _ _ c.before.before.before.before.before.before.before.before.before.before.before.before.before.before.before.before.before.requires _ _ _ c.before.before.before.before.before.before.before.before.before.before.loop.invariant)
+add-i c = omega (arith, walking_low _ _ _ _ _ c.before.before.before.before.before.before.before.before.before.before.before.before.before.before.before.before.before.requires _ _ _ c.before.before.before.before.before.before.before.before.before.before.loop.invariant)
 
 loop-less : tie.Need-loop-smaller invariant-loop decreases-loop
 loop-less c = search rules
@@ -54,7 +54,7 @@ loop-again : tie.Need-loop-preserved invariant-loop decreases-loop
 loop-again c =
     let readable = c.before.before.before.before.before.before.before.before.before.before.before.before.before.before.before.before.before.requires in
     let turn = c.before.before.before.before.before.before.before.before.before.before.loop in
-    walking-more _ _ _ _ _ readable _ _ _ turn.invariant c.before.before.before.before.before.before.before.before.before.loop-test.true _ _ _ _ _
+    walking_more _ _ _ _ _ readable _ _ _ turn.invariant c.before.before.before.before.before.before.before.before.before.loop-test.true _ _ _ _ _
     c.before.before.before.before.before.before.before.cost.ensures.0
     c.before.before.before.before.before.before.bit.ensures
     c.before.before.before.bit2.ensures
@@ -66,7 +66,7 @@ same_length : tie.Need-same-length invariant-loop decreases-loop
 same_length c = search rules
 
 returns : tie.Need-returns invariant-loop decreases-loop
-returns c = walking-over _ _ _ _ _ c.before.before.before.before.before.before.before.before.before.requires _ _ _ c.before.before.loop.invariant c.before.loop-test.false
+returns c = walking_over _ _ _ _ _ c.before.before.before.before.before.before.before.before.before.requires _ _ _ c.before.before.loop.invariant c.before.loop-test.false
 
 pub write-rows-spec : {M : Type 1} → statement M
 write-rows-spec =

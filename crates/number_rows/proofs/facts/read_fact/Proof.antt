@@ -2,9 +2,9 @@
 use native.Mathlib.Omega.{arith}
 use mathlib.Core.List.{[], ◌∷◌}
 use Rattle.fields.specs.declared.word.Behind.TheVariants.{Space, LineEnd}
-use Rattle.fields.proofs.NumberLaws.{other-behind}
+use Rattle.fields.proofs.NumberLaws.{other_behind}
 use Rattle.form.proofs.ReadsLaws.{reads_as}
-use Rattle.number_rows.proofs.FactRowLaws.{next-ahead, next-inside, fact-ended, fact-on, last-ahead, last-inside, fact-read}
+use Rattle.number_rows.proofs.FactRowLaws.{next_ahead, next_inside, fact_ended, fact_on, last_ahead, last_inside, fact_read}
 use borrow.Author.Rules.{rules}
 use Rattle.number_rows.proofs.facts.read_fact.Statement.{statement}
 use Rattle.number_rows.proofs.facts.read_fact.Tie as tie
@@ -22,12 +22,12 @@ returns : tie.Need-returns
 returns c =
     let number = c.before.before in
     let start = number.before.before.before in
-    reads_as c.stopped.ensures (fact-ended start.requires.0 start.requires.2 start.args.keeps _ _ number.read_number.ensures (other-behind (1 ∷ 2 ∷ []) _ Space tt c.before.match.keys2))
+    reads_as c.stopped.ensures (fact_ended start.requires.0 start.requires.2 start.args.keeps _ _ number.read_number.ensures (other_behind (1 ∷ 2 ∷ []) _ Space tt c.before.match.keys2))
 
 add-read-number : tie.Need-overflow-add-read-number
 add-read-number c =
     let number = c.before.before.before in
-    omega (arith, next-inside number.read_number.ensures c.before.enum_told.given.1)
+    omega (arith, next_inside number.read_number.ensures c.before.enum_told.given.1)
 
 read-number-requires-2 : tie.Need-read-number-requires-2
 read-number-requires-2 c κs = search rules
@@ -44,7 +44,7 @@ returns-2 c =
     let told = next-number.before.before in
     let number = told.before.before in
     let start = number.before.before.before in
-    reads_as c.stopped2.ensures (fact-on start.requires.0 start.requires.2 start.args.keeps _ _ number.read_number.ensures told.enum_told.given.1 _ next-number.read-number2.ensures (other-behind (0 ∷ 2 ∷ []) _ LineEnd tt c.before.match2.keys2))
+    reads_as c.stopped2.ensures (fact_on start.requires.0 start.requires.2 start.args.keeps _ _ number.read_number.ensures told.enum_told.given.1 _ next-number.read-number2.ensures (other_behind (0 ∷ 2 ∷ []) _ LineEnd tt c.before.match2.keys2))
 
 put-requires : tie.Need-put-requires
 put-requires c κs = search rules
@@ -62,7 +62,7 @@ add-past c =
     let told = next-number.before.before in
     let number = told.before.before in
     let start = number.before.before.before in
-    omega (arith, last-inside start.requires.0 start.requires.2 start.args.keeps start.args.tape.now _ number.read_number.ensures told.enum_told.given.1 _ next-number.read-number2.ensures told2.enum-told2.given.1)
+    omega (arith, last_inside start.requires.0 start.requires.2 start.args.keeps start.args.tape.now _ number.read_number.ensures told.enum_told.given.1 _ next-number.read-number2.ensures told2.enum-told2.given.1)
 
 kept-count-requires : tie.Need-kept-count-requires
 kept-count-requires c κs = search rules
@@ -74,7 +74,7 @@ past-requires c κs =
     let told = next-number.before.before in
     let number = told.before.before in
     let start = number.before.before.before in
-    omega (arith, next-ahead number.read_number.ensures told.enum_told.given.1, last-ahead start.requires.0 start.requires.2 start.args.keeps start.args.tape.now _ number.read_number.ensures told.enum_told.given.1 _ next-number.read-number2.ensures told2.enum-told2.given.1, start.requires.0.line)
+    omega (arith, next_ahead number.read_number.ensures told.enum_told.given.1, last_ahead start.requires.0 start.requires.2 start.args.keeps start.args.tape.now _ number.read_number.ensures told.enum_told.given.1 _ next-number.read-number2.ensures told2.enum-told2.given.1, start.requires.0.line)
 
 same_length : tie.Need-same-length
 same_length c = search rules
@@ -88,7 +88,7 @@ returns-3 c =
     let told = next-number.before.before in
     let number = told.before.before in
     let start = number.before.before.before in
-    reads_as c.past.ensures (fact-read start.requires.0 start.requires.2 start.args.keeps _ _ number.read_number.ensures told.enum_told.given.1 _ next-number.read-number2.ensures told2.enum-told2.given.1 start.requires.1 _ _ stored.put.ensures stored2.put2.ensures _ c.before.kept-count.ensures)
+    reads_as c.past.ensures (fact_read start.requires.0 start.requires.2 start.args.keeps _ _ number.read_number.ensures told.enum_told.given.1 _ next-number.read-number2.ensures told2.enum-told2.given.1 start.requires.1 _ _ stored.put.ensures stored2.put2.ensures _ c.before.kept_count.ensures)
 
 pub read-fact-spec : {M : Type 1} → statement M
 read-fact-spec =

@@ -1,12 +1,12 @@
 -- `read_axiom_count` meets its contract: a law for each way to a return, by whether the line is one number. Assumes nothing.
 use native.Mathlib.Omega.{arith}
 use mathlib.Core.List.{[], ◌∷◌}
-use Rattle.fields.specs.between.Fields.{is_number}
+use Rattle.fields.specs.Between.Fields.{is_number}
 use Rattle.fields.specs.declared.word.Behind.TheVariants.{LineEnd}
-use Rattle.fields.proofs.NumberLaws.{number-kind, word-ahead, word-inside, other-behind, line-end-is-there}
+use Rattle.fields.proofs.NumberLaws.{number_kind, word_ahead, word_inside, other_behind, line_end_is_there}
 use Rattle.form.proofs.ReadsLaws.{row_as}
-use Rattle.form.proofs.StopLaws.{row-stopped}
-use Rattle.number_rows.proofs.RowLaws.{axiom-count-lacks, axiom-count-read}
+use Rattle.form.proofs.StopLaws.{row_stopped}
+use Rattle.number_rows.proofs.RowLaws.{axiom_count_lacks, axiom_count_read}
 use borrow.Author.Rules.{rules}
 use Rattle.number_rows.proofs.numbers.read_axiom_count.Statement.{statement}
 use Rattle.number_rows.proofs.numbers.read_axiom_count.Tie as tie
@@ -14,7 +14,7 @@ use Rattle.number_rows.proofs.numbers.read_axiom_count.Tie as tie
 returns : tie.Need-returns
 returns c =
     let start = c.before.before.before.before in
-    row-stopped start.requires.0 _ _ c.if1.true
+    row_stopped start.requires.0 _ _ c.if1.true
 
 read-number-requires : tie.Need-read-number-requires
 read-number-requires c κs = search rules
@@ -29,14 +29,14 @@ add-past-barred : tie.Need-overflow-add-past-barred
 add-past-barred c =
     let told = c.before.before.before.before.before in
     let number = told.before.before in
-    omega (arith, word-inside is_number number-kind _ _ _ number.read_number.ensures _ told.enum_told.given.1 line-end-is-there)
+    omega (arith, word_inside is_number number_kind _ _ _ number.read_number.ensures _ told.enum_told.given.1 line_end_is_there)
 
 past-barred-requires : tie.Need-past-barred-requires
 past-barred-requires c κs =
     let told = c.before.before.before.before.before.before in
     let number = told.before.before in
     let start = number.before.before.before.before.before in
-    omega (arith, word-ahead is_number number-kind _ _ _ number.read_number.ensures _ told.enum_told.given.1 line-end-is-there, start.requires.0.line)
+    omega (arith, word_ahead is_number number_kind _ _ _ number.read_number.ensures _ told.enum_told.given.1 line_end_is_there, start.requires.0.line)
 
 same_length : tie.Need-same-length
 same_length c = search rules
@@ -48,7 +48,7 @@ returns-2 c =
     let number = told.before.before in
     let test = number.before in
     let start = test.before.before.before.before in
-    row_as c.past-barred.ensures.0 (axiom-count-read start.requires.0 test.if1.false _ _ number.read_number.ensures told.enum_told.given.1 start.requires.1 _ stored.put.ensures _ c.past-barred.ensures.1)
+    row_as c.past-barred.ensures.0 (axiom_count_read start.requires.0 test.if1.false _ _ number.read_number.ensures told.enum_told.given.1 start.requires.1 _ stored.put.ensures _ c.past-barred.ensures.1)
 
 stopped-requires : tie.Need-stopped-requires
 stopped-requires c κs = search rules
@@ -58,7 +58,7 @@ returns-3 c =
     let number = c.before.before in
     let test = number.before in
     let start = test.before.before.before.before in
-    row_as c.stopped.ensures (axiom-count-lacks start.requires.0 test.if1.false _ _ number.read_number.ensures (other-behind (0 ∷ 2 ∷ []) _ LineEnd tt c.before.match.keys2) _)
+    row_as c.stopped.ensures (axiom_count_lacks start.requires.0 test.if1.false _ _ number.read_number.ensures (other_behind (0 ∷ 2 ∷ []) _ LineEnd tt c.before.match.keys2) _)
 
 pub read-axiom-count-spec : {M : Type 1} → statement M
 read-axiom-count-spec =

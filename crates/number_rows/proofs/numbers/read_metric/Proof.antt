@@ -1,11 +1,11 @@
 -- `read_metric` meets its contract: a law for each way to a return, by whether the line is one number, and which. Assumes nothing.
 use native.Mathlib.Omega.{arith}
 use mathlib.Core.List.{[], ◌∷◌}
-use Rattle.fields.specs.between.Fields.{is_number}
+use Rattle.fields.specs.Between.Fields.{is_number}
 use Rattle.fields.specs.declared.word.Behind.TheVariants.{LineEnd}
-use Rattle.fields.proofs.NumberLaws.{number-kind, word-ahead, word-inside, other-behind, line-end-is-there}
-use Rattle.form.proofs.ReadsLaws.{reads_as, reads-stopped}
-use Rattle.number_rows.proofs.RowLaws.{metric-on, metric-high, metric-read}
+use Rattle.fields.proofs.NumberLaws.{number_kind, word_ahead, word_inside, other_behind, line_end_is_there}
+use Rattle.form.proofs.ReadsLaws.{reads_as, reads_stopped}
+use Rattle.number_rows.proofs.RowLaws.{metric_on, metric_high, metric_read}
 use borrow.Author.Rules.{rules}
 use Rattle.number_rows.proofs.numbers.read_metric.Statement.{statement}
 use Rattle.number_rows.proofs.numbers.read_metric.Tie as tie
@@ -13,7 +13,7 @@ use Rattle.number_rows.proofs.numbers.read_metric.Tie as tie
 returns : tie.Need-returns
 returns c =
     let start = c.before.before.before.before in
-    reads-stopped _ _ _ _ c.if1.true start.requires.0
+    reads_stopped _ _ _ _ c.if1.true start.requires.0
 
 read-number-requires : tie.Need-read-number-requires
 read-number-requires c κs = search rules
@@ -29,7 +29,7 @@ returns-2 c =
     let number = c.before.before in
     let test = number.before in
     let start = test.before.before.before.before in
-    reads_as c.stopped.ensures (metric-on start.requires.0 test.if1.false _ _ number.read_number.ensures (other-behind (0 ∷ 2 ∷ []) _ LineEnd tt c.before.match.keys2) _)
+    reads_as c.stopped.ensures (metric_on start.requires.0 test.if1.false _ _ number.read_number.ensures (other_behind (0 ∷ 2 ∷ []) _ LineEnd tt c.before.match.keys2) _)
 
 put-requires : tie.Need-put-requires
 put-requires c κs = search rules
@@ -38,7 +38,7 @@ add-past : tie.Need-overflow-add-past
 add-past c =
     let told = c.before.before.before.before.before.before.before in
     let number = told.before.before in
-    omega (arith, word-inside is_number number-kind _ _ _ number.read_number.ensures _ told.enum_told.given.1 line-end-is-there)
+    omega (arith, word_inside is_number number_kind _ _ _ number.read_number.ensures _ told.enum_told.given.1 line_end_is_there)
 
 add-past-2 : tie.Need-overflow-add-past-2
 add-past-2 c = search rules
@@ -48,7 +48,7 @@ past-requires c κs =
     let told = c.before.before.before.before.before.before.before in
     let number = told.before.before in
     let start = number.before.before.before.before.before in
-    omega (arith, word-ahead is_number number-kind _ _ _ number.read_number.ensures _ told.enum_told.given.1 line-end-is-there, start.requires.0.line)
+    omega (arith, word_ahead is_number number_kind _ _ _ number.read_number.ensures _ told.enum_told.given.1 line_end_is_there, start.requires.0.line)
 
 same_length : tie.Need-same-length
 same_length c = search rules
@@ -61,7 +61,7 @@ returns-3 c =
     let number = told.before.before in
     let test = number.before in
     let start = test.before.before.before.before in
-    reads_as c.past.ensures (metric-read start.requires.0 test.if1.false _ _ number.read_number.ensures told.enum_told.given.1 test2.if2.true start.requires.1 _ stored.put.ensures)
+    reads_as c.past.ensures (metric_read start.requires.0 test.if1.false _ _ number.read_number.ensures told.enum_told.given.1 test2.if2.true start.requires.1 _ stored.put.ensures)
 
 stopped-requires-2 : tie.Need-stopped-requires-2
 stopped-requires-2 c κs = search rules
@@ -72,7 +72,7 @@ returns-4 c =
     let number = told.before.before in
     let test = number.before in
     let start = test.before.before.before.before in
-    reads_as c.stopped2.ensures (metric-high start.requires.0 test.if1.false _ _ number.read_number.ensures told.enum_told.given.1 c.before.if2.false _)
+    reads_as c.stopped2.ensures (metric_high start.requires.0 test.if1.false _ _ number.read_number.ensures told.enum_told.given.1 c.before.if2.false _)
 
 pub read-metric-spec : {M : Type 1} → statement M
 read-metric-spec =

@@ -4,10 +4,10 @@ use Prim.Native.Nat.{◌-◌}
 use lib.ListN.{length}
 use mathlib.Core.Path.{◌≡◌, refl, ◌∙◌}
 use mathlib.Core.List.{[], ◌∷◌}
-use Rattle.form.specs.between.Form.{numbers, Value}
+use Rattle.form.specs.Between.Form.{numbers, Value}
 use Rattle.number_rows.proofs.RowLaws.{plain_value}
-use Rattle.form.proofs.ReadsLaws.{row-alone}
-use Rattle.form.proofs.ReadsLaws.{Left, repeats-begin, repeats-more, repeats-stopped, repeats-over}
+use Rattle.form.proofs.ReadsLaws.{row_alone}
+use Rattle.form.proofs.ReadsLaws.{Left, repeats_begin, repeats_more, repeats_stopped, repeats_over}
 use borrow.Author.Rules.{rules}
 use native.Mathlib.Omega.{arith}
 use Rattle.number_rows.proofs.numbers.read_values.Statement.{statement}
@@ -20,7 +20,7 @@ abbrev decreases-loop : tie.decreases-loop
 decreases-loop text tape₀ n current₀ i₀ tape current i = n - i
 
 loop-holds : tie.Need-loop-init invariant-loop decreases-loop
-loop-holds c = (repeats-begin _ _ c.before.before.requires.0, refl)
+loop-holds c = (repeats_begin _ _ c.before.before.requires.0, refl)
 
 same_length : tie.Need-same-length invariant-loop decreases-loop
 same_length c = search rules
@@ -28,7 +28,7 @@ same_length c = search rules
 returns : tie.Need-returns invariant-loop decreases-loop
 returns c =
     let turn = c.before.before.before in
-    repeats-stopped _ _ _ turn.loop.invariant.0 c.if1.true
+    repeats_stopped _ _ _ turn.loop.invariant.0 c.if1.true
 
 read-plain-requires : tie.Need-read-plain-requires invariant-loop decreases-loop
 read-plain-requires c κs =
@@ -47,7 +47,7 @@ loop-again c =
     let after-read-plain = c.before.before in
     let after-loop-test = after-read-plain.before.before.before.before in
     let turn = after-loop-test.before in (
-      repeats-more _ _ _ turn.loop.invariant.0 after-loop-test.loop-test.true (row-alone _ (λ x. refl) (after-read-plain.read_plain.ensures _ plain_value)),
+      repeats_more _ _ _ turn.loop.invariant.0 after-loop-test.loop-test.true (row_alone _ (λ x. refl) (after-read-plain.read_plain.ensures _ plain_value)),
       after-read-plain.read_plain.auto.1.1.0 ∙ turn.loop.invariant.1,
     )
 
@@ -57,7 +57,7 @@ same-length-2 c = search rules
 returns-2 : tie.Need-returns-2 invariant-loop decreases-loop
 returns-2 c =
     let turn = c.before in
-    repeats-over _ _ _ turn.loop.invariant.0 c.loop-test.false
+    repeats_over _ _ _ turn.loop.invariant.0 c.loop-test.false
 
 pub read-values-spec : {M : Type 1} → statement M
 read-values-spec =

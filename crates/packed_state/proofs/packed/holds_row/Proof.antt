@@ -1,7 +1,7 @@
 -- `holds_row` meets its contract. The loop's invariant: so many of the variables before v lack what the row asks for. The measure is the number of variables
 -- left. Assumes nothing.
 use Prim.Native.Nat.{◌-◌}
-use Rattle.packed_state.proofs.PackedLaws.{Missing, missing-start, missing-more, missing-end}
+use Rattle.packed_state.proofs.PackedLaws.{Missing, missing_start, missing_more, missing_end}
 use borrow.Author.Rules.{rules}
 use Rattle.packed_state.proofs.packed.holds_row.Statement.{statement}
 use Rattle.packed_state.proofs.packed.holds_row.Tie as tie
@@ -17,7 +17,7 @@ mul-from : tie.Need-overflow-mul-from invariant-loop decreases-loop
 mul-from c = search rules
 
 loop-holds : tie.Need-loop-init invariant-loop decreases-loop
-loop-holds c = missing-start _ _ _
+loop-holds c = missing_start _ _ _
 
 add-lacks : tie.Need-overflow-add-lacks invariant-loop decreases-loop
 add-lacks c = search rules
@@ -51,11 +51,11 @@ loop-less c = search rules
 
 loop-again : tie.Need-loop-preserved invariant-loop decreases-loop
 loop-again c =
-    missing-more _ _ _ _ _ c.before.before.before.before.before.loop.invariant c.before.before.before.before.loop-test.true _
+    missing_more _ _ _ _ _ c.before.before.before.before.before.loop.invariant c.before.before.before.before.loop-test.true _
     c.lacks.ensures.0 c.lacks.ensures.1
 
 returns : tie.Need-returns invariant-loop decreases-loop
-returns c = missing-end _ _ _ _ _ c.before.loop.invariant c.loop-test.false
+returns c = missing_end _ _ _ _ _ c.before.loop.invariant c.loop-test.false
 
 pub holds-row-spec : {M : Type 1} → statement M
 holds-row-spec =

@@ -1,9 +1,9 @@
 -- `start` meets its contract. The loop's invariant: what is packed and what the values left are packed to are the whole. The measure is the number of values
 -- left. Assumes nothing.
 use Prim.Native.Nat.{◌-◌}
-use Rattle.packed_state.proofs.PackedLaws.{Narrowing, narrowing-start, narrowing-more, narrowing-end}
+use Rattle.packed_state.proofs.PackedLaws.{Narrowing, narrowing_start, narrowing_more, narrowing_end}
 use mathlib.Core.Path.{◌∙◌, ap}
-use Rattle.packed_state.specs.between.Packed.{packed_start}
+use Rattle.packed_state.specs.Between.Packed.{packed_start}
 use borrow.Author.Rules.{rules}
 use Rattle.packed_state.proofs.packed.start.Statement.{statement}
 use Rattle.packed_state.proofs.packed.start.Tie as tie
@@ -19,7 +19,7 @@ initial-requires : tie.Need-initial-requires invariant-loop decreases-loop
 initial-requires c κs = search rules
 
 loop-holds : tie.Need-loop-init invariant-loop decreases-loop
-loop-holds c = narrowing-start _ (search rules)
+loop-holds c = narrowing_start _ (search rules)
 
 mul-state : tie.Need-overflow-mul-state invariant-loop decreases-loop
 mul-state c = search rules
@@ -46,10 +46,10 @@ loop-less : tie.Need-loop-smaller invariant-loop decreases-loop
 loop-less c = search rules
 
 loop-again : tie.Need-loop-preserved invariant-loop decreases-loop
-loop-again c = narrowing-more _ (search rules) _ _ c.before.loop.invariant c.loop-test.true
+loop-again c = narrowing_more _ (search rules) _ _ c.before.loop.invariant c.loop-test.true
 
 returns : tie.Need-returns invariant-loop decreases-loop
-returns c = narrowing-end _ (search rules) _ _ c.before.loop.invariant c.loop-test.false ∙ ap packed_start c.before.before.initial.ensures
+returns c = narrowing_end _ (search rules) _ _ c.before.loop.invariant c.loop-test.false ∙ ap packed_start c.before.before.initial.ensures
 
 pub start_spec : {M : Type 1} → statement M
 start_spec =

@@ -1,7 +1,7 @@
 -- `write_row` meets its contract. The loop's invariant: what is written and what the row still writes over the state are the whole. The measure is the number
 -- of variables left. Assumes nothing.
 use Prim.Native.Nat.{◌-◌}
-use Rattle.packed_state.proofs.PackedLaws.{Writing, writing_start, writing_more, writing-end}
+use Rattle.packed_state.proofs.PackedLaws.{Writing, writing_start, writing_more, writing_end}
 use borrow.Author.Rules.{rules}
 use Rattle.packed_state.proofs.packed.write_row.Statement.{statement}
 use Rattle.packed_state.proofs.packed.write_row.Tie as tie
@@ -54,7 +54,7 @@ loop-again c =
     writing_more _ _ _ _ _ c.before.before.before.before.before.loop.invariant c.before.before.before.before.loop-test.true _ c.takes.ensures
 
 returns : tie.Need-returns invariant-loop decreases-loop
-returns c = writing-end _ _ _ _ _ c.before.loop.invariant c.loop-test.false
+returns c = writing_end _ _ _ _ _ c.before.loop.invariant c.loop-test.false
 
 pub write-row-spec : {M : Type 1} → statement M
 write-row-spec =

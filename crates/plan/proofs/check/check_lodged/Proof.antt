@@ -1,7 +1,7 @@
 -- `check_lodged` meets its contract: each way to a return is a case of what the check answers. Assumes nothing.
 use Rattle.step.proofs.StateLaws.{lent_length}
 use mathlib.Core.Path.{refl}
-use Rattle.plan.proofs.CheckedLaws.{read-refused, besides-refused, not_valid, valid}
+use Rattle.plan.proofs.CheckedLaws.{read_refused, besides_refused, not_valid, valid}
 use borrow.Author.Rules.{rules}
 use Rattle.plan.proofs.check.check_lodged.Statement.{statement}
 use Rattle.plan.proofs.check.check_lodged.Tie as tie
@@ -16,7 +16,7 @@ refused-requires : tie.Need-refused-requires
 refused-requires c κs = search rules
 
 returns : tie.Need-returns
-returns c = rw (c.refused.ensures.0, c.refused.ensures.1) (read-refused _ c.before.before.before.before.before.before.before.requires _ _ _ _ c.before.before.before.before.check-read.ensures _ c.before.before.read.given.1)
+returns c = rw (c.refused.ensures.0, c.refused.ensures.1) (read_refused _ c.before.before.before.before.before.before.before.requires _ _ _ _ c.before.before.before.before.check-read.ensures _ c.before.before.read.given.1)
 
 enum_told : tie.Need-enum-told
 enum_told c = search rules
@@ -28,7 +28,7 @@ refused-requires-2 : tie.Need-refused-requires-2
 refused-requires-2 c κs = search rules
 
 returns-2 : tie.Need-returns-2
-returns-2 c = rw (c.refused2.ensures.0, c.refused2.ensures.1) (besides-refused _ c.before.before.before.before.before.before.before.before.before.requires _ _ _ _ c.before.before.before.before.before.before.check-read.ensures c.before.before.before.before.enum_told.given.1 _ c.before.before.besides.given.1)
+returns-2 c = rw (c.refused2.ensures.0, c.refused2.ensures.1) (besides_refused _ c.before.before.before.before.before.before.before.before.before.requires _ _ _ _ c.before.before.before.before.before.before.check-read.ensures c.before.before.before.before.enum_told.given.1 _ c.before.before.besides.given.1)
 
 enum-told-2 : tie.Need-enum-told-2
 enum-told-2 c = search rules

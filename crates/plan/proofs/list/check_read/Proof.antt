@@ -1,5 +1,5 @@
 -- `check_read` meets its contract: the sheet's refusal, or else the list's. Assumes nothing.
-use Rattle.plan.proofs.PlanLaws.{sheet-answers, list-answers}
+use Rattle.plan.proofs.PlanLaws.{sheet_answers, list_answers}
 use Rattle.refusal.specs.Refusal.{told}
 use mathlib.Core.Path.{sym, ◌∙◌, ap}
 use borrow.Author.Rules.{rules}
@@ -19,10 +19,10 @@ check-list-requires : tie.Need-check-list-requires
 check-list-requires c κs = search rules
 
 returns : tie.Need-returns
-returns c = sym (sheet-answers _ _ _ (sym c.before.before.before.check-sheet.ensures ∙ ap told c.before.sheet.given.1))
+returns c = sym (sheet_answers _ _ _ (sym c.before.before.before.check-sheet.ensures ∙ ap told c.before.sheet.given.1))
 
 returns-2 : tie.Need-returns-2
-returns-2 c = c.check-list.ensures ∙ sym (list-answers _ _ _ (sym c.before.before.before.check-sheet.ensures ∙ ap told c.before.enum_told.given.1))
+returns-2 c = c.check-list.ensures ∙ sym (list_answers _ _ _ (sym c.before.before.before.check-sheet.ensures ∙ ap told c.before.enum_told.given.1))
 
 pub check-read-spec : {M : Type 1} → statement M
 check-read-spec =

@@ -5,8 +5,8 @@ use mathlib.Core.Path.{◌≡◌, refl, sym}
 use borrow.Author.Rules.{rules}
 use lib.ListN.{length}
 use lib.Seq.{length-take-le}
-use Rattle.records.specs.between.Needed.{most_bytes}
-use Rattle.program.proofs.PrintedLaws.{read-nothing, read-enough, read_short}
+use Rattle.records.specs.Between.Needed.{most_bytes}
+use Rattle.program.proofs.PrintedLaws.{read_nothing, read_enough, read_short}
 use Rattle.program.proofs.input.read.Statement.{statement}
 use Rattle.program.proofs.input.read.Tie as tie
 
@@ -26,7 +26,7 @@ add-if1-2 : tie.Need-overflow-add-if1-2 invariant-loop decreases-loop
 add-if1-2 c = search rules
 
 returns : tie.Need-returns invariant-loop decreases-loop
-returns c = read-nothing _ _ _
+returns c = read_nothing _ _ _
 
 loop-holds : tie.Need-loop-init invariant-loop decreases-loop
 loop-holds c = search rules
@@ -44,7 +44,7 @@ same_length : tie.Need-same-length invariant-loop decreases-loop
 same_length c = search rules
 
 returns-2 : tie.Need-returns-2 invariant-loop decreases-loop
-returns-2 c = read-enough _ _ _ _ _ (search rules) c.before.bytes-to-read.ensures.0 c.if2.true
+returns-2 c = read_enough _ _ _ _ _ (search rules) c.before.bytes_to_read.ensures.0 c.if2.true
 
 sub-read-full : tie.Need-overflow-sub-read-full invariant-loop decreases-loop
 sub-read-full c = search rules
@@ -65,7 +65,7 @@ same-length-2 : tie.Need-same-length-2 invariant-loop decreases-loop
 same-length-2 c = search rules
 
 returns-3 : tie.Need-returns-3 invariant-loop decreases-loop
-returns-3 c = read_short _ _ _ _ _ c.before.before.before.before.before.before.before.before.loop.invariant.0 c.before.before.before.before.before.before.bytes-to-read.ensures.0 _ _ _ refl (search rules) c.if3.true
+returns-3 c = read_short _ _ _ _ _ c.before.before.before.before.before.before.before.before.loop.invariant.0 c.before.before.before.before.before.before.bytes_to_read.ensures.0 _ _ _ refl (search rules) c.if3.true
 
 loop-less : tie.Need-loop-smaller invariant-loop decreases-loop
 loop-less c = search rules

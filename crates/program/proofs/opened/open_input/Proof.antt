@@ -1,6 +1,6 @@
 -- `open_input` meets its contract: each form of the input is a case of what is found. Assumes nothing.
-use Rattle.refusal.specs.Refusal.{told-refusal}
-use Rattle.program.proofs.OpeningLaws.{opens-broken, opens-long, opens-whole}
+use Rattle.refusal.specs.Refusal.{told_refusal}
+use Rattle.program.proofs.OpeningLaws.{opens_broken, opens_long, opens_whole}
 use borrow.Author.Rules.{rules}
 use Rattle.program.proofs.opened.open_input.Statement.{statement}
 use Rattle.program.proofs.opened.open_input.Tie as tie
@@ -30,19 +30,19 @@ same_length : tie.Need-same-length
 same_length c = search rules
 
 returns : tie.Need-returns
-returns c = let framed = c.before.before in let unpacks = framed.before.before.before.unpack.ensures in (opens-broken _ _ _ _ framed.before.before.before.before.before.before.before.requires unpacks _ framed.frame-input.ensures c.enum_told.given.1, unpacks)
+returns c = let framed = c.before.before in let unpacks = framed.before.before.before.unpack.ensures in (opens_broken _ _ _ _ framed.before.before.before.before.before.before.before.requires unpacks _ framed.frame-input.ensures c.enum_told.given.1, unpacks)
 
 same-length-2 : tie.Need-same-length-2
 same-length-2 c = search rules
 
 returns-2 : tie.Need-returns-2
-returns-2 c = let framed = c.before.before.before.before.before.before in let unpacks = framed.before.before.before.unpack.ensures in (opens-long _ _ _ _ framed.before.before.before.before.before.before.before.requires unpacks _ framed.frame-input.ensures _ _ (told-refusal c.refuse-long.result) c.before.before.before.before.framed.given.1 c.before.front.ensures c.refuse-long.ensures, unpacks)
+returns-2 c = let framed = c.before.before.before.before.before.before in let unpacks = framed.before.before.before.unpack.ensures in (opens_long _ _ _ _ framed.before.before.before.before.before.before.before.requires unpacks _ framed.frame-input.ensures _ _ (told_refusal c.refuse-long.result) c.before.before.before.before.framed.given.1 c.before.front.ensures c.refuse-long.ensures, unpacks)
 
 same-length-3 : tie.Need-same-length-3
 same-length-3 c = search rules
 
 returns-3 : tie.Need-returns-3
-returns-3 c = let framed = c.before.before.before in let unpacks = framed.before.before.before.unpack.ensures in (opens-whole _ _ _ _ framed.before.before.before.before.before.before.before.requires unpacks _ framed.frame-input.ensures _ _ _ c.before.framed2.given.1, unpacks)
+returns-3 c = let framed = c.before.before.before in let unpacks = framed.before.before.before.unpack.ensures in (opens_whole _ _ _ _ framed.before.before.before.before.before.before.before.requires unpacks _ framed.frame-input.ensures _ _ _ c.before.framed2.given.1, unpacks)
 
 pub open-input-spec : {M : Type 1} → statement M
 open-input-spec =

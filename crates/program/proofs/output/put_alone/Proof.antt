@@ -1,5 +1,5 @@
 -- `put_alone` meets its contract: a line, and how long it is at most. Assumes nothing.
-use Rattle.program.proofs.RoomLaws.{none-fit}
+use Rattle.program.proofs.RoomLaws.{none_fit}
 use borrow.Author.Rules.{rules}
 use Rattle.program.proofs.output.put_alone.Statement.{statement}
 use Rattle.program.proofs.output.put_alone.Tie as tie
@@ -14,7 +14,7 @@ same_length : tie.Need-same-length
 same_length c = search rules
 
 returns : tie.Need-returns
-returns c = (c.before.before.put-line.ensures, none-fit c.before.before.before.before.before.before.before.args.word.now)
+returns c = (c.before.before.put-line.ensures, none_fit c.before.before.before.before.before.before.before.args.word.now)
 
 pub put-alone-spec : {M : Type 1} → statement M
 put-alone-spec = tie.close (tie.spec slice-aggregate-put-line put-line-requires same_length returns)

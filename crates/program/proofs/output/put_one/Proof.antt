@@ -1,5 +1,5 @@
 -- `put_one` meets its contract: a line, and how long it is at most. Assumes nothing.
-use Rattle.program.proofs.RoomLaws.{one-fits}
+use Rattle.program.proofs.RoomLaws.{one_fits}
 use borrow.Author.Rules.{rules}
 use Rattle.program.proofs.output.put_one.Statement.{statement}
 use Rattle.program.proofs.output.put_one.Tie as tie
@@ -14,7 +14,7 @@ same_length : tie.Need-same-length
 same_length c = search rules
 
 returns : tie.Need-returns
-returns c = (c.before.before.put-line.ensures, one-fits c.before.before.before.before.before.before.before.args.word.now _ c.before.before.before.before.before.before.before.ranges.number.fits)
+returns c = (c.before.before.put-line.ensures, one_fits c.before.before.before.before.before.before.before.args.word.now _ c.before.before.before.before.before.before.before.ranges.number.fits)
 
 pub put-one-spec : {M : Type 1} → statement M
 put-one-spec = tie.close (tie.spec slice-aggregate-put-line put-line-requires same_length returns)

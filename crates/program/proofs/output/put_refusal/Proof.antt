@@ -1,5 +1,5 @@
 -- `put_refusal` meets its contract: a line of a word and two numbers. Assumes nothing.
-use Rattle.program.proofs.PrintedLaws.{refusal-printed, refusal-fits}
+use Rattle.program.proofs.PrintedLaws.{refusal_printed, refusal_fits}
 use lib.Dec.{lit≤}
 use borrow.Author.Rules.{rules}
 use Rattle.program.proofs.output.put_refusal.Statement.{statement}
@@ -28,7 +28,7 @@ returns c =
     let put = c.before.before.put_two.ensures in
     let numbered = c.before.before.before.before.number.ensures in
     let placed = c.before.before.before.place.ensures in
-    (refusal-printed _ numbered placed put.0, refusal-fits _ numbered placed (put.1 (lit≤ tt)))
+    (refusal_printed _ numbered placed put.0, refusal_fits _ numbered placed (put.1 (lit≤ tt)))
 
 pub put-refusal-spec : {M : Type 1} → statement M
 put-refusal-spec =

@@ -3,7 +3,7 @@
 use native.Mathlib.Omega.{arith}
 use mathlib.Core.Path.{sym}
 use borrow.Author.Rules.{rules}
-use Rattle.records.proofs.FormLaws.{reads-from, untold-low, end_low}
+use Rattle.records.proofs.FormLaws.{reads_from, untold_low, end_low}
 use Rattle.records.proofs.framing.bytes_to_read.Statement.{statement}
 use Rattle.records.proofs.framing.bytes_to_read.Tie as tie
 
@@ -31,19 +31,19 @@ returns : tie.Need-returns
 returns c =
     let found = c.before.before.before.find-end.ensures in
     let is = c.before.ending.given.1 in
-    (sym (reads-from _ _ _ found _ _ is), untold-low _ _ _ _ found _ is)
+    (sym (reads_from _ _ _ found _ _ is), untold_low _ _ _ _ found _ is)
 
 returns-2 : tie.Need-returns-2
-returns-2 c = (sym (reads-from _ _ _ c.before.before.find-end.ensures _ _ c.enum_told.given.1), omega arith)
+returns-2 c = (sym (reads_from _ _ _ c.before.before.find-end.ensures _ _ c.enum_told.given.1), omega arith)
 
 returns-3 : tie.Need-returns-3
-returns-3 c = (sym (reads-from _ _ _ c.before.before.find-end.ensures _ _ c.enum-told2.given.1), omega arith)
+returns-3 c = (sym (reads_from _ _ _ c.before.before.find-end.ensures _ _ c.enum-told2.given.1), omega arith)
 
 returns-4 : tie.Need-returns-4
 returns-4 c =
     let found = c.before.before.before.find-end.ensures in
     let is = c.before.ending2.given.1 in
-    (sym (reads-from _ _ _ found _ _ is), end_low _ _ _ _ found _ _ _ is)
+    (sym (reads_from _ _ _ found _ _ is), end_low _ _ _ _ found _ _ _ is)
 
 pub bytes-to-read-spec : {M : Type 1} → statement M
 bytes-to-read-spec =

@@ -4,26 +4,26 @@ use mathlib.Core.Path.{◌≡◌, sym, ◌∙◌}
 use mathlib.Core.Bool.{false}
 use borrow.Author.Rules.{rules}
 use lib.ListN.{length}
-use Rattle.records.specs.RecordForm.{task-length, outside, header-bytes}
-use Rattle.records.proofs.FormLaws.{ending-header, ending-outside, ending-cut, ending-long, ending-found}
+use Rattle.records.specs.RecordForm.{task_length, outside, header_bytes}
+use Rattle.records.proofs.FormLaws.{ending_header, ending_outside, ending_cut, ending_long, ending_found}
 use Rattle.records.proofs.framing.find_end.Statement.{statement}
 use Rattle.records.proofs.framing.find_end.Tie as tie
 
 -- word 3 is there, is read, and is not outside its limits
-header : (c : tie.Else2) → header-bytes ≤ length c.before.before.before.before.before.args.bytes.now
+header : (c : tie.Else2) → header_bytes ≤ length c.before.before.before.before.before.args.bytes.now
 header c = c.before.before.before.if1.false
 
-says : (c : tie.Else2) → c.before.before.task-length.result ≡ task-length c.before.before.before.before.before.args.bytes.now
-says c = c.before.before.task-length.ensures.0
+says : (c : tie.Else2) → c.before.before.task_length.result ≡ task_length c.before.before.before.before.before.args.bytes.now
+says c = c.before.before.task_length.ensures.0
 
-inside : (c : tie.Else2) → outside c.before.before.task-length.result ≡ false
+inside : (c : tie.Else2) → outside c.before.before.task_length.result ≡ false
 inside c = sym c.before.outside.ensures ∙ c.if2.false
 
 mul-header : tie.Need-overflow-mul-header
 mul-header c = search rules
 
 returns : tie.Need-returns
-returns c = sym (ending-header _ _ c.if1.true)
+returns c = sym (ending_header _ _ c.if1.true)
 
 task-length-requires : tie.Need-task-length-requires
 task-length-requires c κs = search rules
@@ -33,7 +33,7 @@ outside-requires c κs = search rules
 
 returns-2 : tie.Need-returns-2
 returns-2 c =
-    sym (ending-outside _ _ c.before.before.before.if1.false _ c.before.before.task-length.ensures.0 (sym c.before.outside.ensures ∙ c.if2.true))
+    sym (ending_outside _ _ c.before.before.before.if1.false _ c.before.before.task_length.ensures.0 (sym c.before.outside.ensures ∙ c.if2.true))
 
 add_start : tie.Need-overflow-add-start
 add_start c = search rules
@@ -44,7 +44,7 @@ mul-start c = search rules
 returns-3 : tie.Need-returns-3
 returns-3 c =
     let framed = c.before in
-    sym (ending-cut _ _ (header framed) _ (says framed) (inside framed) c.if3.true)
+    sym (ending_cut _ _ (header framed) _ (says framed) (inside framed) c.if3.true)
 
 word-at-requires : tie.Need-word-at-requires
 word-at-requires c κs = search rules
@@ -55,7 +55,7 @@ cast-plan c = search rules
 returns-4 : tie.Need-returns-4
 returns-4 c =
     let framed = c.before.before.before in
-    sym (ending-long _ _ (header framed) _ (says framed) (inside framed) c.before.before.if3.false _ c.before.word_at.ensures.0 c.if4.true)
+    sym (ending_long _ _ (header framed) _ (says framed) (inside framed) c.before.before.if3.false _ c.before.word_at.ensures.0 c.if4.true)
 
 add-end : tie.Need-overflow-add-end
 add-end c = search rules
@@ -69,7 +69,7 @@ add-end-2 c = search rules
 returns-5 : tie.Need-returns-5
 returns-5 c =
     let framed = c.before.before.before in
-    sym (ending-found _ _ (header framed) _ (says framed) (inside framed) c.before.before.if3.false _ c.before.word_at.ensures.0 c.if4.false)
+    sym (ending_found _ _ (header framed) _ (says framed) (inside framed) c.before.before.if3.false _ c.before.word_at.ensures.0 c.if4.false)
 
 pub find-end-spec : {M : Type 1} → statement M
 find-end-spec =

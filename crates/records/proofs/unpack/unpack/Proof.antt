@@ -8,7 +8,7 @@ use borrow.Author.Rules.{rules}
 use lib.ListN.{length}
 use lib.Seq.{sets}
 use Rattle.sheet.specs.Decode.{table}
-use Rattle.sheet.proofs.TableLaws.{stores-over, stores-next, stores-whole}
+use Rattle.sheet.proofs.TableLaws.{stores_over, stores_next, stores_whole}
 use Rattle.records.specs.RecordForm.{word_at, unpacked}
 use Rattle.records.proofs.unpack.unpack.Statement.{statement}
 use Rattle.records.proofs.unpack.unpack.Tie as tie
@@ -20,7 +20,7 @@ abbrev decreases-loop : tie.decreases-loop
 decreases-loop bytes words₀ i₀ words i = length words₀ - i
 
 loop-holds : tie.Need-loop-init invariant-loop decreases-loop
-loop-holds c = (rw sub-zero (stores-whole _ c.before.before.args.words.now _ refl), refl)
+loop-holds c = (rw sub-zero (stores_whole _ c.before.before.args.words.now _ refl), refl)
 
 word-at-requires : tie.Need-word-at-requires invariant-loop decreases-loop
 word-at-requires c κs = search rules
@@ -41,7 +41,7 @@ loop-again : tie.Need-loop-preserved invariant-loop decreases-loop
 loop-again c =
     let turn = c.before.before in
     let start = turn.before.before.before.args in
-    (cc (stores-next (word_at start.bytes.now) turn.loop.words turn.loop.i (length turn.loop.words) c.before.loop-test.true), search rules)
+    (cc (stores_next (word_at start.bytes.now) turn.loop.words turn.loop.i (length turn.loop.words) c.before.loop-test.true), search rules)
 
 same_length : tie.Need-same-length invariant-loop decreases-loop
 same_length c = search rules
@@ -50,7 +50,7 @@ returns : tie.Need-returns invariant-loop decreases-loop
 returns c =
     let turn = c.before in
     let start = turn.before.before.before.args in
-    cc (stores-over (word_at start.bytes.now) turn.loop.words turn.loop.i (length start.words.now) (omega arith))
+    cc (stores_over (word_at start.bytes.now) turn.loop.words turn.loop.i (length start.words.now) (omega arith))
 
 pub unpack-spec : {M : Type 1} → statement M
 unpack-spec =

@@ -3,7 +3,7 @@ use Prim.Native.Nat.{◌*◌}
 use native.Mathlib.Omega.{arith}
 use mathlib.Core.Path.{refl}
 use Rattle.records.specs.RecordForm.{word_bytes}
-use Rattle.records.proofs.InputWordLaws.{word-of-bytes}
+use Rattle.records.proofs.InputWordLaws.{word_of_bytes}
 use borrow.Author.Rules.{rules}
 use Rattle.records.proofs.word.word_at.Statement.{statement}
 use Rattle.records.proofs.word.word_at.Tie as tie
@@ -63,7 +63,7 @@ add-result-2 : tie.Need-overflow-add-result-2
 add-result-2 c = search rules
 
 returns : tie.Need-returns
-returns c = let start = c.before.before.before.before.before.args in omega (arith, word-of-bytes start.bytes.now start.i (word_bytes * start.i) refl)
+returns c = let start = c.before.before.before.before.before.args in omega (arith, word_of_bytes start.bytes.now start.i (word_bytes * start.i) refl)
 
 pub word-at-spec : {M : Type 1} → statement M
 word-at-spec =

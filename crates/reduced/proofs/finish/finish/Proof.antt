@@ -24,7 +24,7 @@ returns c =
     record {
       costs = ap (λ t. t.cost) c.before.before.before.before.before.tally-of.ensures;
       steps = c.before.before.before.before.count.ensures;
-      told-by = c.before.before.before.before.before.before.mask-of.ensures;
+      told_by = c.before.before.before.before.before.before.mask-of.ensures;
       written = c.before.before.write-Kept.ensures.0;
     }
 

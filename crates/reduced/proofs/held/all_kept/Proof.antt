@@ -3,13 +3,13 @@ use Prim.Native.Nat.{◌<◌, ◌-◌, ◌≤◌, min}
 use borrow.Author.Rules.{rules}
 use native.Mathlib.Omega.{arith}
 use mathlib.Core.Path.{◌≡◌, refl, ◌∙◌}
-use Rattle.plan.specs.Limits.{most-steps}
-use Rattle.reduced.proofs.HeldLaws.{raised, raised-more, all-raised}
+use Rattle.plan.specs.Limits.{most_steps}
+use Rattle.reduced.proofs.HeldLaws.{raised, raised_more, all_raised}
 use Rattle.reduced.proofs.held.all_kept.Statement.{statement}
 use Rattle.reduced.proofs.held.all_kept.Tie as tie
 
 abbrev invariant-loop : tie.invariant-loop
-invariant-loop n up flags₀ i₀ flags i = (i ≤ up) × (flags ≡ raised most-steps i)
+invariant-loop n up flags₀ i₀ flags i = (i ≤ up) × (flags ≡ raised most_steps i)
 
 abbrev decreases-loop : tie.decreases-loop
 decreases-loop n up flags₀ i₀ flags i = up - i
@@ -30,13 +30,13 @@ loop-less : tie.Need-loop-smaller invariant-loop decreases-loop
 loop-less c = search rules
 
 loop-again : tie.Need-loop-preserved invariant-loop decreases-loop
-loop-again c = let room : c.before.loop.i < most-steps = omega (arith, c.before.before.shorter.ensures) in (search rules, rw c.before.loop.invariant.1 (raised-more 255 c.before.loop.i room))
+loop-again c = let room : c.before.loop.i < most_steps = omega (arith, c.before.before.shorter.ensures) in (search rules, rw c.before.loop.invariant.1 (raised_more 255 c.before.loop.i room))
 
 returns : tie.Need-returns invariant-loop decreases-loop
 returns c =
     let start = c.before.before in
-    let all : c.before.loop.i ≡ min start.before.args.n most-steps = omega (arith, start.shorter.ensures) in
-    c.before.loop.invariant.1 ∙ rw all (all-raised start.before.args.n)
+    let all : c.before.loop.i ≡ min start.before.args.n most_steps = omega (arith, start.shorter.ensures) in
+    c.before.loop.invariant.1 ∙ rw all (all_raised start.before.args.n)
 
 pub all-kept-spec : {M : Type 1} → statement M
 all-kept-spec =

@@ -6,7 +6,7 @@ use mathlib.Core.Path.{sym}
 use borrow.Author.Rules.{rules}
 use lib.ListN.{length}
 use lib.Seq.{length-take-le}
-use Rattle.reduced.proofs.ThroughLaws.{Through, through-start, through-more, through-next, through-all}
+use Rattle.reduced.proofs.ThroughLaws.{Through, through_start, through_more, through_next, through_all}
 use Rattle.reduced.proofs.through.mask_through.Statement.{statement}
 use Rattle.reduced.proofs.through.mask_through.Tie as tie
 
@@ -17,7 +17,7 @@ abbrev decreases-loop : tie.decreases-loop
 decreases-loop flags second n both₀ left₀ i₀ both left i = length flags - i
 
 loop-holds : tie.Need-loop-init invariant-loop decreases-loop
-loop-holds c = through-start _ _
+loop-holds c = through_start _ _
 
 shared-slice-read-if1 : tie.Need-shared-slice-read-if1 invariant-loop decreases-loop
 shared-slice-read-if1 c = search rules
@@ -38,7 +38,7 @@ loop-less : tie.Need-loop-smaller invariant-loop decreases-loop
 loop-less c = search rules
 
 loop-again : tie.Need-loop-preserved invariant-loop decreases-loop
-loop-again c = through-more _ _ _ _ _ c.before.before.before.before.loop.invariant c.before.before.before.loop-test.true c.before.before.before.before.before.before.requires _ c.before.if1.true c.keeps.ensures
+loop-again c = through_more _ _ _ _ _ c.before.before.before.before.loop.invariant c.before.before.before.loop-test.true c.before.before.before.before.before.before.requires _ c.before.if1.true c.keeps.ensures
 
 add-i-2 : tie.Need-overflow-add-i-2 invariant-loop decreases-loop
 add-i-2 c = search rules
@@ -47,7 +47,7 @@ loop-less-2 : tie.Need-loop-smaller-2 invariant-loop decreases-loop
 loop-less-2 c = search rules
 
 loop-again-2 : tie.Need-loop-preserved-2 invariant-loop decreases-loop
-loop-again-2 c = through-next _ _ _ _ _ c.before.before.before.loop.invariant c.before.before.loop-test.true c.before.before.before.before.before.requires c.if1.false
+loop-again-2 c = through_next _ _ _ _ _ c.before.before.before.loop.invariant c.before.before.loop-test.true c.before.before.before.before.before.requires c.if1.false
 
 array-share-prefix-both : tie.Need-array-share-prefix-both invariant-loop decreases-loop
 array-share-prefix-both c = search rules
@@ -59,7 +59,7 @@ mask-of-requires : tie.Need-mask-of-requires invariant-loop decreases-loop
 mask-of-requires c κs = search rules
 
 returns : tie.Need-returns invariant-loop decreases-loop
-returns c = through-all _ _ _ _ _ c.before.before.before.loop.invariant c.before.before.loop-test.false _ c.mask-of.ensures
+returns c = through_all _ _ _ _ _ c.before.before.before.loop.invariant c.before.before.loop-test.false _ c.mask-of.ensures
 
 pub mask-through-spec : {M : Type 1} → statement M
 mask-through-spec =

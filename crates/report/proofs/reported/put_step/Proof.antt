@@ -1,5 +1,5 @@
 -- `put_step` meets its contract: a row of three numbers. Assumes nothing.
-use Rattle.report.proofs.ReportLaws.{step-printed}
+use Rattle.report.proofs.ReportLaws.{step_printed}
 use borrow.Author.Rules.{rules}
 use Rattle.report.proofs.reported.put_step.Statement.{statement}
 use Rattle.report.proofs.reported.put_step.Tie as tie
@@ -29,7 +29,7 @@ returns : tie.Need-returns
 returns c =
     let start = c.before.before.before.before.before.before.before.before.before.args in
     let put = c.before.before.put_three.ensures in
-    step-printed start.words.now start.plan.now start.i c.before.before.before.before.before.word.ensures.0 c.before.before.before.cost.ensures.0 put.0 put.1
+    step_printed start.words.now start.plan.now start.i c.before.before.before.before.before.word.ensures.0 c.before.before.before.cost.ensures.0 put.0 put.1
 
 pub put-step-spec : {M : Type 1} → statement M
 put-step-spec =

@@ -5,19 +5,19 @@ use native.Mathlib.Omega.{arith}
 use mathlib.Core.Path.{◌≡◌, refl, sym, ◌∙◌}
 use borrow.Author.Rules.{rules}
 use lib.ListN.{length}
-use Rattle.lines.proofs.PrintLaws.{prints-length}
-use Rattle.report.proofs.ReportLaws.{Steps-put, steps-nothing, steps-kept, steps-struck, steps_all}
+use Rattle.lines.proofs.PrintLaws.{prints_length}
+use Rattle.report.proofs.ReportLaws.{StepsPut, steps_nothing, steps_kept, steps_struck, steps_all}
 use Rattle.report.proofs.reported.put_steps.Statement.{statement}
 use Rattle.report.proofs.reported.put_steps.Tie as tie
 
 abbrev invariant-loop : tie.invariant-loop
-invariant-loop words plan mask out₀ at end₀ i₀ out end i = Steps-put words plan mask at out₀ i out end × (i ≤ length plan) × (length out ≡ length out₀)
+invariant-loop words plan mask out₀ at end₀ i₀ out end i = StepsPut words plan mask at out₀ i out end × (i ≤ length plan) × (length out ≡ length out₀)
 
 abbrev decreases-loop : tie.decreases-loop
 decreases-loop words plan mask out₀ at end₀ i₀ out end i = length plan - i
 
 loop-holds : tie.Need-loop-init invariant-loop decreases-loop
-loop-holds c = (steps-nothing _ _ _ _ _, search rules, refl)
+loop-holds c = (steps_nothing _ _ _ _ _, search rules, refl)
 
 keeps-requires : tie.Need-keeps-requires invariant-loop decreases-loop
 keeps-requires c κs = search rules
@@ -37,7 +37,7 @@ loop-again c =
     let turn = test.before in
     let puts = c.before.before.put_step.ensures in
     let up = sym c.before.before.before.before.before.keeps.ensures ∙ c.before.before.before.before.if1.true in
-    (steps-kept _ _ _ _ _ _ turn.loop.i _ test.loop-test.true turn.loop.invariant.0 up puts, search rules, prints-length puts.prints ∙ turn.loop.invariant.2)
+    (steps_kept _ _ _ _ _ _ turn.loop.i _ test.loop-test.true turn.loop.invariant.0 up puts, search rules, prints_length puts.prints ∙ turn.loop.invariant.2)
 
 add-i-2 : tie.Need-overflow-add-i-2 invariant-loop decreases-loop
 add-i-2 c = search rules
@@ -48,7 +48,7 @@ loop-less-2 c = search rules
 loop-again-2 : tie.Need-loop-preserved-2 invariant-loop decreases-loop
 loop-again-2 c =
     let turn = c.before.before.before in
-    (steps-struck _ _ _ _ _ _ turn.loop.i _ c.before.before.loop-test.true turn.loop.invariant.0 (sym c.before.keeps.ensures ∙ c.if1.false), search rules, search rules)
+    (steps_struck _ _ _ _ _ _ turn.loop.i _ c.before.before.loop-test.true turn.loop.invariant.0 (sym c.before.keeps.ensures ∙ c.if1.false), search rules, search rules)
 
 same_length : tie.Need-same-length invariant-loop decreases-loop
 same_length c = search rules

@@ -1,6 +1,6 @@
 -- `put_shortened` meets its contract: the service over an output that has room for the longest list, and what is printed of its answer. Assumes nothing.
 use mathlib.Core.Path.{refl}
-use Rattle.report.proofs.ShortenedLaws.{reports-minimal, shortened-report, shortened-refusal}
+use Rattle.report.proofs.ShortenedLaws.{reports_minimal, shortened_report, shortened_refusal}
 use borrow.Author.Rules.{rules}
 use Rattle.report.proofs.shortened.put_shortened.Statement.{statement}
 use Rattle.report.proofs.shortened.put_shortened.Tie as tie
@@ -30,13 +30,13 @@ returns : tie.Need-returns
 returns c =
     let minimises = c.before.before.before.before.before.before.before.before.minimal-reduction.ensures.0 in
     let is = c.before.before.before.before.before.answer.given.1 in
-    shortened-report _ _ _ _ _ refl minimises _ is (c.before.before.put-report.ensures _ (reports-minimal _ _ _ _ _ refl minimises _ is))
+    shortened_report _ _ _ _ _ refl minimises _ is (c.before.before.put-report.ensures _ (reports_minimal _ _ _ _ _ refl minimises _ is))
 
 same-length-2 : tie.Need-same-length-2
 same-length-2 c = search rules
 
 returns-2 : tie.Need-returns-2
-returns-2 c = shortened-refusal _ _ _ _ _ refl c.before.before.before.before.before.before.before.before.minimal-reduction.ensures.0 _ c.before.before.before.before.before.answer2.given.1 c.before.before.put-refusal.ensures.0 c.before.before.put-refusal.ensures.1
+returns-2 c = shortened_refusal _ _ _ _ _ refl c.before.before.before.before.before.before.before.before.minimal-reduction.ensures.0 _ c.before.before.before.before.before.answer2.given.1 c.before.before.put-refusal.ensures.0 c.before.before.put-refusal.ensures.1
 
 pub put-shortened-spec : {M : Type 1} → statement M
 put-shortened-spec =

@@ -1,7 +1,7 @@
 -- `all_chosen` meets its contract. Assumes nothing.
 use native.Mathlib.Omega.{arith}
 use borrow.Author.Rules.{rules}
-use Rattle.search.proofs.BestLaws.{some-bit, all_ones}
+use Rattle.search.proofs.BestLaws.{some_bit, all_ones}
 use Rattle.search.proofs.best.all_chosen.Statement.{statement}
 use Rattle.search.proofs.best.all_chosen.Tie as tie
 
@@ -12,7 +12,7 @@ shl-result : tie.Need-overflow-shl-result
 shl-result c = search rules
 
 sub-result : tie.Need-overflow-sub-result
-sub-result c = omega (arith, some-bit c.args.count c.requires)
+sub-result c = omega (arith, some_bit c.args.count c.requires)
 
 returns : tie.Need-returns
 returns c = all_ones _ c.requires

@@ -2,7 +2,7 @@
 use native.Mathlib.Omega.{arith}
 use mathlib.Core.Path.{refl, sym}
 use Rattle.turns.proofs.TurnsLaws.{both_told}
-use Rattle.search.proofs.BestLaws.{begins, too_many, costs-counted}
+use Rattle.search.proofs.BestLaws.{begins, too_many, costs_counted}
 use borrow.Author.Rules.{rules}
 use Rattle.search.proofs.best.choose.Statement.{statement}
 use Rattle.search.proofs.best.choose.Tie as tie
@@ -44,19 +44,19 @@ array-share-prefix-costs : tie.Need-array-share-prefix-costs
 array-share-prefix-costs c = search rules
 
 slice-aggregate-strike : tie.Need-slice-aggregate-strike
-slice-aggregate-strike c = sym (costs-counted _ _ _ _ _ _ _ _ _ c.before.before.before.before.before.before.before.before.before.before.fill-rows.ensures c.before.before.before.before.before.before.before.if1.false)
+slice-aggregate-strike c = sym (costs_counted _ _ _ _ _ _ _ _ _ c.before.before.before.before.before.before.before.before.before.before.fill-rows.ensures c.before.before.before.before.before.before.before.if1.false)
 
 strike-requires : tie.Need-strike-requires
-strike-requires c κs = omega (arith, costs-counted _ _ _ _ _ _ _ _ _ c.before.before.before.before.before.before.before.before.before.before.before.before.fill-rows.ensures c.before.before.before.before.before.before.before.before.before.if1.false, c.before.before.before.before.before.before.before.before.before.if1.false)
+strike-requires c κs = omega (arith, costs_counted _ _ _ _ _ _ _ _ _ c.before.before.before.before.before.before.before.before.before.before.before.before.fill-rows.ensures c.before.before.before.before.before.before.before.before.before.if1.false, c.before.before.before.before.before.before.before.before.before.if1.false)
 
 array-share-prefix-costs-2 : tie.Need-array-share-prefix-costs-2
 array-share-prefix-costs-2 c = search rules
 
 slice-aggregate-keep : tie.Need-slice-aggregate-keep
-slice-aggregate-keep c = sym (costs-counted _ _ _ _ _ _ _ _ _ c.before.before.before.before.before.before.before.before.before.before.before.before.before.before.fill-rows.ensures c.before.before.before.before.before.before.before.before.before.before.before.if1.false)
+slice-aggregate-keep c = sym (costs_counted _ _ _ _ _ _ _ _ _ c.before.before.before.before.before.before.before.before.before.before.before.before.before.before.fill-rows.ensures c.before.before.before.before.before.before.before.before.before.before.before.if1.false)
 
 keep-requires : tie.Need-keep-requires
-keep-requires c κs = omega (arith, costs-counted _ _ _ _ _ _ _ _ _ c.before.before.before.before.before.before.before.before.before.before.before.before.before.before.before.before.fill-rows.ensures c.before.before.before.before.before.before.before.before.before.before.before.before.before.if1.false, c.before.before.before.before.before.before.before.before.before.before.before.before.before.if1.false)
+keep-requires c κs = omega (arith, costs_counted _ _ _ _ _ _ _ _ _ c.before.before.before.before.before.before.before.before.before.before.before.before.before.before.before.before.fill-rows.ensures c.before.before.before.before.before.before.before.before.before.before.before.before.before.if1.false, c.before.before.before.before.before.before.before.before.before.before.before.before.before.if1.false)
 
 returns-2 : tie.Need-returns-2
 returns-2 c =

@@ -1,6 +1,6 @@
 -- `is_chosen` meets its contract. Assumes nothing.
 use borrow.Author.Rules.{rules}
-use Rattle.search.proofs.UnpackLaws.{chosen-low, chosen_none}
+use Rattle.search.proofs.UnpackLaws.{chosen_low, chosen_none}
 use Rattle.search.proofs.unpack.is_chosen.Statement.{statement}
 use Rattle.search.proofs.unpack.is_chosen.Tie as tie
 
@@ -11,7 +11,7 @@ shr-result : tie.Need-overflow-shr-result
 shr-result c = search rules
 
 returns : tie.Need-returns
-returns c = chosen-low _ _ c.if1.true
+returns c = chosen_low _ _ c.if1.true
 
 returns-2 : tie.Need-returns-2
 returns-2 c = chosen_none _ _ c.if1.false

@@ -2,7 +2,7 @@
 use Prim.Native.Nat.{◌-◌}
 use native.Mathlib.Omega.{arith}
 use borrow.Author.Rules.{rules}
-use Rattle.search.proofs.UnpackLaws.{Unpacking, unpacking-start, unpacking-more, unpacked-all}
+use Rattle.search.proofs.UnpackLaws.{Unpacking, unpacking_start, unpacking_more, unpacked_all}
 use Rattle.search.proofs.unpack.unpack.Statement.{statement}
 use Rattle.search.proofs.unpack.unpack.Tie as tie
 
@@ -16,7 +16,7 @@ shorter-requires : tie.Need-shorter-requires invariant-loop decreases-loop
 shorter-requires c κs = search rules
 
 loop-holds : tie.Need-loop-init invariant-loop decreases-loop
-loop-holds c = unpacking-start _ _
+loop-holds c = unpacking_start _ _
 
 flag-requires : tie.Need-flag-requires invariant-loop decreases-loop
 flag-requires c κs = search rules
@@ -41,11 +41,11 @@ loop-less c = search rules
 
 loop-again : tie.Need-loop-preserved invariant-loop decreases-loop
 loop-again c =
-    unpacking-more _ _ _ _ _ c.before.before.before.before.loop.invariant _ c.before.before.before.before.before.shorter.ensures c.before.before.before.loop-test.true _ _ _ c.before.before.flag.ensures c.before.is-kept.ensures
+    unpacking_more _ _ _ _ _ c.before.before.before.before.loop.invariant _ c.before.before.before.before.before.shorter.ensures c.before.before.before.loop-test.true _ _ _ c.before.before.flag.ensures c.before.is_kept.ensures
     c.«open».ensures
 
 returns : tie.Need-returns invariant-loop decreases-loop
-returns c = unpacked-all _ _ _ _ _ c.before.loop.invariant _ c.before.before.shorter.ensures c.loop-test.false
+returns c = unpacked_all _ _ _ _ _ c.before.loop.invariant _ c.before.before.shorter.ensures c.loop-test.false
 
 pub unpack-spec : {M : Type 1} → statement M
 unpack-spec =

@@ -34,7 +34,7 @@ returns : tie.Need-returns
 returns c =
     let from = c.before.before.before.offset.ensures.0 in
     let many = c.before.before.number.ensures.0 in
-    (rw (many, from), rw (many, c.before.size.ensures.0, c.has-conditions.ensures, from))
+    (rw (many, from), rw (many, c.before.size.ensures.0, c.has_conditions.ensures, from))
 
 pub facts-of-spec : {M : Type 1} → statement M
 facts-of-spec =

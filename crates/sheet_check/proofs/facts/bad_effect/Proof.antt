@@ -1,5 +1,5 @@
 -- `bad_effect` meets its contract: each return is decided by the tests that led there. Assumes nothing.
-use Rattle.sheet.specs.Causes.{bad-effect}
+use Rattle.sheet.specs.Causes.{bad_effect}
 use borrow.Author.Tests.{le-ltb, lt-ltb, le-leb, lt-leb}
 use mathlib.Core.Path.{◌≡◌, sym, ◌∙◌}
 use borrow.Author.Rules.{rules}
@@ -7,18 +7,18 @@ use mathlib.Core.Bool.{◌&&◌}
 use lib.Dec.{ltb}
 use Prim.Native.Nat.{◌-◌}
 use Rattle.sheet.specs.Layout.{word}
-use Rattle.sheet_check.proofs.BadFactLaws.{bad-if-falls}
+use Rattle.sheet_check.proofs.BadFactLaws.{bad_if_falls}
 use Rattle.sheet_check.proofs.facts.bad_effect.Statement.{statement}
 use Rattle.sheet_check.proofs.facts.bad_effect.Tie as tie
 
 -- past the tests of the variable and the value, what is left is whether the fact falls
 falls : (c : tie.Else2)
     → let start = c.before.before.before.before.before.before.before.args in
-    bad-effect start.w.now start.from start.end start.i
+    bad_effect start.w.now start.from start.end start.i
     ≡ (ltb start.from start.i && ltb c.before.before.before.before.number.result (word start.w.now (start.i - 1)))
 falls c =
     let read = c.before.before.before.before in
-    bad-if-falls _ _ _ _ _ _ read.before.effect-fact.ensures read.number.ensures.0 _ _ c.before.before.before.variables.ensures.0 c.before.before.if1.false c.before.domain.ensures.0 c.if2.false
+    bad_if_falls _ _ _ _ _ _ read.before.effect_fact.ensures read.number.ensures.0 _ _ c.before.before.before.variables.ensures.0 c.before.before.if1.false c.before.domain.ensures.0 c.if2.false
 
 effect-fact-requires : tie.Need-effect-fact-requires
 effect-fact-requires c κs = search rules
@@ -30,15 +30,15 @@ variables-requires : tie.Need-variables-requires
 variables-requires c κs = search rules
 
 returns : tie.Need-returns
-unfolding bad-effect
-returns c = simp (sym c.before.before.before.effect-fact.ensures, sym c.before.before.number.ensures.0, sym c.before.variables.ensures.0, le-leb _ _ c.if1.true)
+unfolding bad_effect
+returns c = simp (sym c.before.before.before.effect_fact.ensures, sym c.before.before.number.ensures.0, sym c.before.variables.ensures.0, le-leb _ _ c.if1.true)
 
 domain-requires : tie.Need-domain-requires
 domain-requires c κs = search rules
 
 returns-2 : tie.Need-returns-2
-unfolding bad-effect
-returns-2 c = simp (sym c.before.before.before.before.before.effect-fact.ensures, sym c.before.before.before.before.number.ensures.0, sym c.before.before.before.variables.ensures.0, lt-leb _ _ c.before.before.if1.false, sym c.before.domain.ensures.0, le-leb _ _ c.if2.true)
+unfolding bad_effect
+returns-2 c = simp (sym c.before.before.before.before.before.effect_fact.ensures, sym c.before.before.before.before.number.ensures.0, sym c.before.before.before.variables.ensures.0, lt-leb _ _ c.before.before.if1.false, sym c.before.domain.ensures.0, le-leb _ _ c.if2.true)
 
 sub_number : tie.Need-overflow-sub-number
 sub_number c = search rules

@@ -1,5 +1,5 @@
 -- `bad_fact_place` meets its contract: a bad fact of the goal, or else the first of the actions. Assumes nothing.
-use Rattle.sheet_check.proofs.BadFactLaws.{in-goal, not-in-goal}
+use Rattle.sheet_check.proofs.BadFactLaws.{in_goal, not_in_goal}
 use borrow.Author.Rules.{rules}
 use Rattle.sheet_check.proofs.facts.bad_fact_place.Statement.{statement}
 use Rattle.sheet_check.proofs.facts.bad_fact_place.Tie as tie
@@ -20,10 +20,10 @@ bad-in-actions-requires : tie.Need-bad-in-actions-requires
 bad-in-actions-requires c κs = search rules
 
 returns : tie.Need-returns
-returns c = in-goal _ _ _ c.before.before.before.before.goal.ensures c.before.before.before.bad-in-group.ensures _ c.before.found.given.1
+returns c = in_goal _ _ _ c.before.before.before.before.goal.ensures c.before.before.before.bad-in-group.ensures _ c.before.found.given.1
 
 returns-2 : tie.Need-returns-2
-returns-2 c = not-in-goal _ _ _ c.before.before.before.before.goal.ensures c.before.before.before.bad-in-group.ensures _ c.before.enum_told.given.1 c.bad-in-actions.ensures
+returns-2 c = not_in_goal _ _ _ c.before.before.before.before.goal.ensures c.before.before.before.bad-in-group.ensures _ c.before.enum_told.given.1 c.bad-in-actions.ensures
 
 pub bad-fact-place-spec : {M : Type 1} → statement M
 bad-fact-place-spec =

@@ -1,5 +1,5 @@
 -- `bad_in_action` meets its contract: a bad fact of the precondition, or else the first of the effects. Assumes nothing.
-use Rattle.sheet_check.proofs.BadFactLaws.{in-precondition, not-in-precondition}
+use Rattle.sheet_check.proofs.BadFactLaws.{in_precondition, not_in_precondition}
 use borrow.Author.Rules.{rules}
 use Rattle.sheet_check.proofs.facts.bad_in_action.Statement.{statement}
 use Rattle.sheet_check.proofs.facts.bad_in_action.Tie as tie
@@ -20,12 +20,12 @@ bad-in-effects-requires : tie.Need-bad-in-effects-requires
 bad-in-effects-requires c κs = search rules
 
 returns : tie.Need-returns
-returns c = in-precondition _ _ _ _ c.before.before.before.before.facts-of.ensures.0 c.before.before.before.bad-in-group.ensures _ c.before.found.given.1
+returns c = in_precondition _ _ _ _ c.before.before.before.before.facts_of.ensures.0 c.before.before.before.bad-in-group.ensures _ c.before.found.given.1
 
 returns-2 : tie.Need-returns-2
 returns-2 c =
     let found = c.before.before.before in
-    not-in-precondition _ _ _ _ found.before.facts-of.ensures.0 found.bad-in-group.ensures _ _ c.before.enum_told.given.1 found.before.facts-of.ensures.1 c.bad-in-effects.ensures
+    not_in_precondition _ _ _ _ found.before.facts_of.ensures.0 found.bad-in-group.ensures _ _ c.before.enum_told.given.1 found.before.facts_of.ensures.1 c.bad-in-effects.ensures
 
 pub bad-in-action-spec : {M : Type 1} → statement M
 bad-in-action-spec =

@@ -1,5 +1,5 @@
 -- `bad_in_effect` meets its contract: a bad fact of the condition, or else the effect's own. Assumes nothing.
-use Rattle.sheet_check.proofs.BadFactLaws.{in-condition, in-fact, not-in-effect}
+use Rattle.sheet_check.proofs.BadFactLaws.{in_condition, in_fact, not_in_effect}
 use borrow.Author.Rules.{rules}
 use Rattle.sheet_check.proofs.facts.bad_in_effect.Statement.{statement}
 use Rattle.sheet_check.proofs.facts.bad_in_effect.Tie as tie
@@ -25,15 +25,15 @@ bad-effect-requires c κs = search rules
 returns : tie.Need-returns
 returns c =
     let found = c.before.before.before.before in
-    in-fact _ _ _ _ _ _ found.before.effect-fact.ensures found.bad-in-group.ensures _ c.before.before.enum_told.given.1 c.before.bad-effect.ensures c.if1.true
+    in_fact _ _ _ _ _ _ found.before.effect_fact.ensures found.bad-in-group.ensures _ c.before.before.enum_told.given.1 c.before.bad_effect.ensures c.if1.true
 
 returns-2 : tie.Need-returns-2
-returns-2 c = in-condition _ _ _ _ _ _ c.before.before.before.before.effect-fact.ensures c.before.before.before.bad-in-group.ensures _ c.before.found.given.1
+returns-2 c = in_condition _ _ _ _ _ _ c.before.before.before.before.effect_fact.ensures c.before.before.before.bad-in-group.ensures _ c.before.found.given.1
 
 returns-3 : tie.Need-returns-3
 returns-3 c =
     let found = c.before.before.before.before in
-    not-in-effect _ _ _ _ _ _ found.before.effect-fact.ensures found.bad-in-group.ensures _ c.before.before.enum_told.given.1 c.before.bad-effect.ensures c.if1.false
+    not_in_effect _ _ _ _ _ _ found.before.effect_fact.ensures found.bad-in-group.ensures _ c.before.before.enum_told.given.1 c.before.bad_effect.ensures c.if1.false
 
 pub bad-in-effect-spec : {M : Type 1} → statement M
 bad-in-effect-spec =

@@ -3,26 +3,26 @@ use borrow.Author.Rules.{rules}
 use mathlib.Core.Path.{◌≡◌, refl, sym, ◌∙◌}
 use Prim.Native.Nat.{◌-◌}
 use Rattle.refusal.specs.Place.{first}
-use Rattle.refusal.proofs.PlaceLaws.{first-over, first-here, first_more}
-use Rattle.sheet.specs.Causes.{bad-fact, group-place}
+use Rattle.refusal.proofs.PlaceLaws.{first_over, first_here, first_more}
+use Rattle.sheet.specs.Causes.{bad_fact, group_place}
 use Rattle.sheet_check.proofs.facts.bad_in_group.Statement.{statement}
 use Rattle.sheet_check.proofs.facts.bad_in_group.Tie as tie
 
 abbrev invariant-loop : tie.invariant-loop
-invariant-loop w from end i₀ i = first (bad-fact w from) i end ≡ group-place w from end
+invariant-loop w from end i₀ i = first (bad_fact w from) i end ≡ group_place w from end
 
 abbrev decreases-loop : tie.decreases-loop
 decreases-loop w from end i₀ i = end - i
 
 loop-holds : tie.Need-loop-init invariant-loop decreases-loop
-unfolding group-place
+unfolding group_place
 loop-holds c = refl
 
 bad-fact-requires : tie.Need-bad-fact-requires invariant-loop decreases-loop
 bad-fact-requires c κs = search rules
 
 returns : tie.Need-returns invariant-loop decreases-loop
-returns c = sym (first-here _ _ _ c.before.before.loop-test.true (sym c.before.bad-fact.ensures ∙ c.if1.true)) ∙ c.before.before.before.loop.invariant
+returns c = sym (first_here _ _ _ c.before.before.loop-test.true (sym c.before.bad_fact.ensures ∙ c.if1.true)) ∙ c.before.before.before.loop.invariant
 
 add-i : tie.Need-overflow-add-i invariant-loop decreases-loop
 add-i c = search rules
@@ -31,10 +31,10 @@ loop-less : tie.Need-loop-smaller invariant-loop decreases-loop
 loop-less c = search rules
 
 loop-again : tie.Need-loop-preserved invariant-loop decreases-loop
-loop-again c = sym (first_more _ _ _ c.before.before.loop-test.true (sym c.before.bad-fact.ensures ∙ c.if1.false)) ∙ c.before.before.before.loop.invariant
+loop-again c = sym (first_more _ _ _ c.before.before.loop-test.true (sym c.before.bad_fact.ensures ∙ c.if1.false)) ∙ c.before.before.before.loop.invariant
 
 returns-2 : tie.Need-returns-2 invariant-loop decreases-loop
-returns-2 c = sym (first-over _ _ _ c.loop-test.false) ∙ c.before.loop.invariant
+returns-2 c = sym (first_over _ _ _ c.loop-test.false) ∙ c.before.loop.invariant
 
 pub bad-in-group-spec : {M : Type 1} → statement M
 bad-in-group-spec =

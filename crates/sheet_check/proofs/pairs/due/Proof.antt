@@ -1,5 +1,5 @@
 -- `due` meets its contract, by whether the pair is the first. Assumes nothing.
-use Rattle.sheet.proofs.PairLaws.{due-first, due-later}
+use Rattle.sheet.proofs.PairLaws.{due_first, due_later}
 use mathlib.Core.Path.{◌∙◌, sym}
 use borrow.Author.Rules.{rules}
 use Rattle.sheet_check.proofs.pairs.due.Statement.{statement}
@@ -9,7 +9,7 @@ pairs-end-requires : tie.Need-pairs-end-requires
 pairs-end-requires c κs = search rules
 
 returns : tie.Need-returns
-returns c = c.pairs_end.ensures.0 ∙ sym (due-first _ _ c.before.if1.true)
+returns c = c.pairs_end.ensures.0 ∙ sym (due_first _ _ c.before.if1.true)
 
 sub-offset : tie.Need-overflow-sub-offset
 sub-offset c = search rules
@@ -27,7 +27,7 @@ add-result : tie.Need-overflow-add-result
 add-result c = search rules
 
 returns-2 : tie.Need-returns-2
-returns-2 c = rw (due-later _ _ c.before.before.if1.false, c.before.offset.ensures.0, c.size.ensures.0)
+returns-2 c = rw (due_later _ _ c.before.before.if1.false, c.before.offset.ensures.0, c.size.ensures.0)
 
 pub due-spec : {M : Type 1} → statement M
 due-spec =

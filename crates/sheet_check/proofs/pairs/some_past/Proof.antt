@@ -2,12 +2,12 @@
 use Prim.Native.Nat.{◌-◌}
 use mathlib.Core.Path.{◌≡◌, refl, sym, ◌∙◌}
 use borrow.Author.Rules.{rules}
-use Rattle.sheet_check.proofs.PastLaws.{some-past, past-over, past-here, past_more}
+use Rattle.sheet_check.proofs.PastLaws.{some_past, past_over, past_here, past_more}
 use Rattle.sheet_check.proofs.pairs.some_past.Statement.{statement}
 use Rattle.sheet_check.proofs.pairs.some_past.Tie as tie
 
 abbrev invariant-loop : tie.invariant-loop
-invariant-loop w end from i₀ i = some-past w end i ≡ some-past w end from
+invariant-loop w end from i₀ i = some_past w end i ≡ some_past w end from
 
 abbrev decreases-loop : tie.decreases-loop
 decreases-loop w end from i₀ i = end - i
@@ -29,7 +29,7 @@ add-if1-2 c = search rules
 
 returns : tie.Need-returns invariant-loop decreases-loop
 returns c =
-    sym (past-here _ _ _ _ c.before.before.loop-test.true c.before.number.ensures.0 c.if1.true)
+    sym (past_here _ _ _ _ c.before.before.loop-test.true c.before.number.ensures.0 c.if1.true)
     ∙ c.before.before.before.loop.invariant
 
 effect-fact-requires : tie.Need-effect-fact-requires invariant-loop decreases-loop
@@ -44,11 +44,11 @@ loop-less c = search rules
 loop-again : tie.Need-loop-preserved invariant-loop decreases-loop
 loop-again c =
     let turn = c.before.before in
-    sym (past_more _ _ _ _ _ turn.before.loop-test.true turn.number.ensures.0 c.before.if1.false c.effect-fact.ensures)
+    sym (past_more _ _ _ _ _ turn.before.loop-test.true turn.number.ensures.0 c.before.if1.false c.effect_fact.ensures)
     ∙ turn.before.before.loop.invariant
 
 returns-2 : tie.Need-returns-2 invariant-loop decreases-loop
-returns-2 c = sym (past-over _ _ _ c.loop-test.false) ∙ c.before.loop.invariant
+returns-2 c = sym (past_over _ _ _ c.loop-test.false) ∙ c.before.loop.invariant
 
 pub some-past-spec : {M : Type 1} → statement M
 some-past-spec =

@@ -2,7 +2,7 @@
 use Prim.Native.Nat.{ℕ, ◌<◌}
 use native.Mathlib.Omega.{arith}
 use Rattle.sheet.specs.Causes.{wrong_size}
-use Rattle.sheet_check.proofs.PastLaws.{no_header, no-needs, no-effects}
+use Rattle.sheet_check.proofs.PastLaws.{no_header, no_needs, no_effects}
 use borrow.Author.Tests.{le-ltb, lt-ltb, lt-leb, eq-eqb, ne_eqb}
 use mathlib.Core.Path.{sym}
 use borrow.Author.Rules.{rules}
@@ -45,7 +45,7 @@ number-requires c κs = search rules
 returns-5 : tie.Need-returns-5
 returns-5 c =
     let start = c.before.before.before in
-    no-needs _ _ _ start.before.if3.false start.before.before.before.size.ensures.0 _ _ c.before.before.offset.ensures.0 c.before.number.ensures.0 start.if4.false c.if5.true
+    no_needs _ _ _ start.before.if3.false start.before.before.before.size.ensures.0 _ _ c.before.before.offset.ensures.0 c.before.number.ensures.0 start.if4.false c.if5.true
 
 add-past-part : tie.Need-overflow-add-past-part
 add-past-part c = search rules
@@ -62,8 +62,8 @@ past-part-requires c κs = search rules
 returns-6 : tie.Need-returns-6
 returns-6 c =
     let start = c.before.before.before.before in
-    no-effects _ _ _ start.before.if3.false start.before.before.before.size.ensures.0 _ _ c.before.before.before.offset.ensures.0 c.before.before.number.ensures.0 start.if4.false _
-    c.before.if5.false c.past-part.ensures
+    no_effects _ _ _ start.before.if3.false start.before.before.before.size.ensures.0 _ _ c.before.before.before.offset.ensures.0 c.before.before.number.ensures.0 start.if4.false _
+    c.before.if5.false c.past_part.ensures
 
 pub wrong-size-spec : {M : Type 1} → statement M
 wrong-size-spec =

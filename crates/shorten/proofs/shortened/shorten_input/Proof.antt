@@ -1,9 +1,9 @@
 -- `shorten_input` meets its contract: the input is refused, or the plan is shortened. Assumes nothing.
 use native.Mathlib.Omega.{arith}
 use mathlib.Core.Path.{refl}
-use Rattle.program.specs.between.Room.{Text-put}
-use Rattle.report.specs.between.Reported.{report-room}
-use Rattle.program.proofs.ReplyLaws.{reply-refused, reply-lodged}
+use Rattle.program.specs.Between.Room.{TextPut}
+use Rattle.report.specs.Between.Reported.{report_room}
+use Rattle.program.proofs.ReplyLaws.{reply_refused, reply_lodged}
 use borrow.Author.Rules.{rules}
 use Rattle.shorten.proofs.shortened.shorten_input.Statement.{statement}
 use Rattle.shorten.proofs.shortened.shorten_input.Tie as tie
@@ -44,14 +44,14 @@ same_length c = search rules
 returns : tie.Need-returns
 returns c =
     let put = c.before.before.put-refusal.ensures in
-    reply-refused _ _ _ _ c.before.before.before.before.before.before.before.before.open-input.ensures.0 _ _ (Text-put report-room _ _ _) _ c.before.before.before.before.before.opened.given.1 (put.0, omega (arith, put.1))
+    reply_refused _ _ _ _ c.before.before.before.before.before.before.before.before.open-input.ensures.0 _ _ (TextPut report_room _ _ _) _ c.before.before.before.before.before.opened.given.1 (put.0, omega (arith, put.1))
 
 same-length-2 : tie.Need-same-length-2
 same-length-2 c = search rules
 
 returns-2 : tie.Need-returns-2
 returns-2 c =
-    reply-lodged _ _ _ _ c.before.before.before.before.before.before.before.before.before.before.before.before.open-input.ensures.0 _ _ (Text-put report-room _ _ _) _ _ _ _ _ c.before.before.before.before.before.before.before.before.before.opened2.given.1 c.before.before.before.before.before.before.front.ensures c.before.before.before.before.plan-part.ensures refl
+    reply_lodged _ _ _ _ c.before.before.before.before.before.before.before.before.before.before.before.before.open-input.ensures.0 _ _ (TextPut report_room _ _ _) _ _ _ _ _ c.before.before.before.before.before.before.before.before.before.opened2.given.1 c.before.before.before.before.before.before.front.ensures c.before.before.before.before.plan-part.ensures refl
     c.before.before.put-shortened.ensures
 
 pub shorten-input-spec : {M : Type 1} → statement M

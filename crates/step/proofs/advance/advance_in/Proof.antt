@@ -1,5 +1,5 @@
 -- `advance_in` meets its contract: the front is lent, or all where there is no more. Assumes nothing.
-use Rattle.step.proofs.AdvanceLaws.{part_length, advances-part, advances-whole}
+use Rattle.step.proofs.AdvanceLaws.{part_length, advances_part, advances_whole}
 use borrow.Author.Rules.{rules}
 use Rattle.step.proofs.advance.advance_in.Statement.{statement}
 use Rattle.step.proofs.advance.advance_in.Tie as tie
@@ -20,7 +20,7 @@ same_length : tie.Need-same-length
 same_length c = search rules
 
 returns : tie.Need-returns
-returns c = advances-part _ _ _ c.before.before.before.before.before.size.ensures.0 c.before.before.before.before.if1.true _ _ _ c.before.before.advance.ensures
+returns c = advances_part _ _ _ c.before.before.before.before.before.size.ensures.0 c.before.before.before.before.if1.true _ _ _ c.before.before.advance.ensures
 
 advance-requires-2 : tie.Need-advance-requires-2
 advance-requires-2 c κs = search rules
@@ -29,7 +29,7 @@ same-length-2 : tie.Need-same-length-2
 same-length-2 c = search rules
 
 returns-2 : tie.Need-returns-2
-returns-2 c = advances-whole _ _ _ c.before.before.before.before.before.size.ensures.0 c.before.before.before.before.if1.false _ _ _ c.before.before.advance2.ensures
+returns-2 c = advances_whole _ _ _ c.before.before.before.before.before.size.ensures.0 c.before.before.before.before.if1.false _ _ _ c.before.before.advance2.ensures
 
 pub advance-in-spec : {M : Type 1} → statement M
 advance-in-spec =

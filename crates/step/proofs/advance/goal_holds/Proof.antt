@@ -1,5 +1,5 @@
 -- `goal_holds` meets its contract: the goal holds just where its test finds no failing fact. Assumes nothing.
-use Rattle.step.proofs.AdvanceLaws.{goal-unmet, goal-met}
+use Rattle.step.proofs.AdvanceLaws.{goal_unmet, goal_met}
 use borrow.Author.Rules.{rules}
 use Rattle.step.proofs.advance.goal_holds.Statement.{statement}
 use Rattle.step.proofs.advance.goal_holds.Tie as tie
@@ -17,10 +17,10 @@ enum-told-2 : tie.Need-enum-told-2
 enum-told-2 c = search rules
 
 returns : tie.Need-returns
-returns c = goal-unmet _ _ _ _ c.before.before.before.goal.ensures c.before.before.find-failing.ensures _ c.enum_told.given.1
+returns c = goal_unmet _ _ _ _ c.before.before.before.goal.ensures c.before.before.find-failing.ensures _ c.enum_told.given.1
 
 returns-2 : tie.Need-returns-2
-returns-2 c = goal-met _ _ _ _ c.before.before.before.goal.ensures c.before.before.find-failing.ensures c.enum-told2.given.1
+returns-2 c = goal_met _ _ _ _ c.before.before.before.goal.ensures c.before.before.find-failing.ensures c.enum-told2.given.1
 
 pub goal-holds-spec : {M : Type 1} → statement M
 goal-holds-spec =

@@ -1,8 +1,8 @@
 -- `find_failing` meets its contract. The loop's invariant: the last failing fact of what is left is that of the group. The measure is the number of words left. Assumes nothing.
-use Rattle.sheet.proofs.GroupLaws.{front-shorter}
-use Rattle.step.proofs.FailingLaws.{failing-over, failing-here, failing-more, tests}
-use Rattle.sheet.specs.between.Group.{facts-in}
-use Rattle.step.specs.between.Failing.{last-failing}
+use Rattle.sheet.proofs.GroupLaws.{front_shorter}
+use Rattle.step.proofs.FailingLaws.{failing_over, failing_here, failing_more, tests}
+use Rattle.sheet.specs.Between.Group.{facts_in}
+use Rattle.step.specs.Between.Failing.{last_failing}
 use Prim.Native.Nat.{◌-◌}
 use mathlib.Core.Path.{◌≡◌, refl, sym, ◌∙◌}
 use borrow.Author.Rules.{rules}
@@ -10,7 +10,7 @@ use Rattle.step.proofs.facts.find_failing.Statement.{statement}
 use Rattle.step.proofs.facts.find_failing.Tie as tie
 
 abbrev invariant-loop : tie.invariant-loop
-invariant-loop words state rest₀ rest = last-failing state (facts-in words rest) ≡ last-failing state (facts-in words rest₀)
+invariant-loop words state rest₀ rest = last_failing state (facts_in words rest) ≡ last_failing state (facts_in words rest₀)
 
 abbrev decreases-loop : tie.decreases-loop
 decreases-loop words state rest₀ rest = rest.end - rest.at
@@ -31,22 +31,22 @@ returns : tie.Need-returns invariant-loop decreases-loop
 returns c =
     let read = c.before.before in
     tests _ _ _
-    (sym (failing-here _ _ _ read.before.if1.true _ read.next.ensures (sym c.before.holds.ensures ∙ c.if2.false))
+    (sym (failing_here _ _ _ read.before.if1.true _ read.next.ensures (sym c.before.holds.ensures ∙ c.if2.false))
     ∙ read.before.before.before.loop.invariant)
 
 returns-2 : tie.Need-returns-2 invariant-loop decreases-loop
-returns-2 c = tests _ _ _ (sym (failing-over _ _ _ c.if1.false) ∙ c.before.before.loop.invariant)
+returns-2 c = tests _ _ _ (sym (failing_over _ _ _ c.if1.false) ∙ c.before.before.loop.invariant)
 
 loop-again : tie.Need-loop-preserved invariant-loop decreases-loop
 loop-again c =
     let held = c.before in
     let read = held.before.before in
     rw c.after_next.ensures
-    (sym (failing-more _ _ _ read.before.if1.true _ read.next.ensures (sym held.before.holds.ensures ∙ held.if2.true))
+    (sym (failing_more _ _ _ read.before.if1.true _ read.next.ensures (sym held.before.holds.ensures ∙ held.if2.true))
     ∙ read.before.before.before.loop.invariant)
 
 loop-less : tie.Need-loop-smaller invariant-loop decreases-loop
-loop-less c = front-shorter _ _ c.after_next.ensures c.before.before.before.before.if1.true
+loop-less c = front_shorter _ _ c.after_next.ensures c.before.before.before.before.if1.true
 
 pub find-failing-spec : {M : Type 1} → statement M
 find-failing-spec =

@@ -1,7 +1,7 @@
 -- `write_effects` meets its contract: conditions are read in a copy of the state, and effects without conditions are a group of facts. Assumes nothing.
 use mathlib.Core.Path.{refl, sym, ◌∙◌, ap}
 use Rattle.sas.specs.Plan.{assign}
-use Rattle.step.proofs.FailingLaws.{acted-beside, group-acting}
+use Rattle.step.proofs.FailingLaws.{acted_beside, group_acting}
 use borrow.Author.Rules.{rules}
 use Rattle.step.proofs.facts.write_effects.Statement.{statement}
 use Rattle.step.proofs.facts.write_effects.Tie as tie
@@ -27,7 +27,7 @@ same_length c = search rules
 returns : tie.Need-returns
 returns c =
     let copied = c.before.before.before.before in
-    acted-beside _ _ _ _ _ _ _ refl c.before.before.before.before.before.before.before.before.before.before.before.before.before.requires copied.before.before.before.put_all_lem.ensures copied.front.ensures c.before.before.write-acting.ensures
+    acted_beside _ _ _ _ _ _ _ refl c.before.before.before.before.before.before.before.before.before.before.before.before.before.requires copied.before.before.before.put_all_lem.ensures copied.front.ensures c.before.before.write-acting.ensures
 
 write-group-requires : tie.Need-write-group-requires
 write-group-requires c κs = search rules
@@ -36,7 +36,7 @@ same-length-2 : tie.Need-same-length-2
 same-length-2 c = search rules
 
 returns-2 : tie.Need-returns-2
-returns-2 c = c.before.before.write-group.ensures ∙ ap (assign _) (sym (group-acting _ _ _ c.before.before.before.before.if1.false))
+returns-2 c = c.before.before.write-group.ensures ∙ ap (assign _) (sym (group_acting _ _ _ c.before.before.before.before.if1.false))
 
 pub write-effects-spec : {M : Type 1} → statement M
 write-effects-spec =

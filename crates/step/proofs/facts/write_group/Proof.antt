@@ -3,15 +3,15 @@ use Prim.Native.Nat.{◌-◌}
 use mathlib.Core.Path.{◌≡◌, refl, sym, ◌∙◌}
 use lib.ListN.{length}
 use Rattle.sas.specs.Plan.{assign}
-use Rattle.sheet.specs.between.Group.{facts-in}
-use Rattle.sheet.proofs.GroupLaws.{rest-shorter}
-use Rattle.step.proofs.FailingLaws.{assign-over, assign-next}
+use Rattle.sheet.specs.Between.Group.{facts_in}
+use Rattle.sheet.proofs.GroupLaws.{rest_shorter}
+use Rattle.step.proofs.FailingLaws.{assign_over, assign_next}
 use borrow.Author.Rules.{rules}
 use Rattle.step.proofs.facts.write_group.Statement.{statement}
 use Rattle.step.proofs.facts.write_group.Tie as tie
 
 abbrev invariant-loop : tie.invariant-loop
-invariant-loop words state₀ rest₀ state rest = (assign state (facts-in words rest) ≡ assign state₀ (facts-in words rest₀)) × (length state ≡ length state₀)
+invariant-loop words state₀ rest₀ state rest = (assign state (facts_in words rest) ≡ assign state₀ (facts_in words rest₀)) × (length state ≡ length state₀)
 
 abbrev decreases-loop : tie.decreases-loop
 decreases-loop words state₀ rest₀ state rest = rest.end - rest.at
@@ -29,18 +29,18 @@ rest-requires : tie.Need-rest-requires invariant-loop decreases-loop
 rest-requires c κs = search rules
 
 loop-less : tie.Need-loop-smaller invariant-loop decreases-loop
-loop-less c = rest-shorter _ _ c.rest.ensures c.before.before.before.before.before.before.if1.true
+loop-less c = rest_shorter _ _ c.rest.ensures c.before.before.before.before.before.before.if1.true
 
 loop-again : tie.Need-loop-preserved invariant-loop decreases-loop
 loop-again c =
     let turn = c.before.before.before in
-    (rw c.rest.ensures (sym (assign-next _ _ _ turn.before.before.before.if1.true _ turn.before.first.ensures.0 _ turn.put-fact.ensures) ∙ turn.before.before.before.before.before.loop.invariant.0), search rules)
+    (rw c.rest.ensures (sym (assign_next _ _ _ turn.before.before.before.if1.true _ turn.before.first.ensures.0 _ turn.put-fact.ensures) ∙ turn.before.before.before.before.before.loop.invariant.0), search rules)
 
 same_length : tie.Need-same-length invariant-loop decreases-loop
 same_length c = search rules
 
 returns : tie.Need-returns invariant-loop decreases-loop
-returns c = sym (assign-over _ _ _ c.if1.false) ∙ c.before.before.loop.invariant.0
+returns c = sym (assign_over _ _ _ c.if1.false) ∙ c.before.before.loop.invariant.0
 
 pub write-group-spec : {M : Type 1} → statement M
 write-group-spec =

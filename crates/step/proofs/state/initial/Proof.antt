@@ -1,6 +1,6 @@
 -- `initial` meets its contract. The loop's invariant: storing the values from v on makes what storing all makes. Assumes nothing.
 use lib.ListN.{length-set, length, replicate}
-use Rattle.step.proofs.StateLaws.{started-whole, started, started-over, started-more}
+use Rattle.step.proofs.StateLaws.{started_whole, started, started_over, started_more}
 use Rattle.step.specs.State.{in_array}
 use borrow.Author.Rules.{rules}
 use mathlib.Core.Path.{◌≡◌, refl, sym, ◌∙◌}
@@ -42,11 +42,11 @@ loop-less : tie.Need-loop-smaller invariant-loop decreases-loop
 loop-less c = search rules
 
 loop-again : tie.Need-loop-preserved invariant-loop decreases-loop
-loop-again c = (rw (c.before.put.ensures, length-set) c.before.before.before.before.before.loop.invariant.0, rw (c.before.put.ensures, c.before.before.word.ensures.0, c.before.before.before.before.before.before.before.start-at.ensures.0) (sym (started-more _ _ _ _ c.before.before.before.before.loop-test.true) ∙ c.before.before.before.before.before.loop.invariant.1))
+loop-again c = (rw (c.before.put.ensures, length-set) c.before.before.before.before.before.loop.invariant.0, rw (c.before.put.ensures, c.before.before.word.ensures.0, c.before.before.before.before.before.before.before.start_at.ensures.0) (sym (started_more _ _ _ _ c.before.before.before.before.loop-test.true) ∙ c.before.before.before.before.before.loop.invariant.1))
 
 returns : tie.Need-returns invariant-loop decreases-loop
 unfolding in_array
-returns c = sym (started-over _ _ _ _ c.loop-test.false) ∙ c.before.loop.invariant.1 ∙ started-whole _ _ _ c.before.before.variables.ensures.0
+returns c = sym (started_over _ _ _ _ c.loop-test.false) ∙ c.before.loop.invariant.1 ∙ started_whole _ _ _ c.before.before.variables.ensures.0
 
 pub initial-spec : {M : Type 1} → statement M
 initial-spec =

@@ -3,7 +3,7 @@ use native.Mathlib.Omega.{arith}
 use mathlib.Core.Path.{◌≡◌}
 use mathlib.Core.Bool.{true}
 use borrow.Author.Tests.{not-true, not-false}
-use Rattle.task_sheet.proofs.PartLaws.{action-unneeded, action-dear, action-written}
+use Rattle.task_sheet.proofs.PartLaws.{action_unneeded, action_dear, action_written}
 use borrow.Author.Rules.{rules}
 use Rattle.task_sheet.proofs.action.write_action.Statement.{statement}
 use Rattle.task_sheet.proofs.action.write_action.Tie as tie
@@ -26,7 +26,7 @@ same-length-2 c = search rules
 returns : tie.Need-returns
 returns c =
     let after-write-precondition = c.before.before.before.before.before.before.before in
-    action-unneeded _ _ _ _ _ _ _ after-write-precondition.write-precondition.ensures _
+    action_unneeded _ _ _ _ _ _ _ after-write-precondition.write-precondition.ensures _
     (not-true after-write-precondition.write-precondition.result.fits c.before.if1.true)
     c.unfit.ensures
 
@@ -45,7 +45,7 @@ same-length-4 c = search rules
 returns-2 : tie.Need-returns-2
 returns-2 c =
     let after-write-precondition = c.before.before.before.before.before.before.before.before.before in
-    action-dear _ _ _ _ _ _ _ after-write-precondition.write-precondition.ensures _
+    action_dear _ _ _ _ _ _ _ after-write-precondition.write-precondition.ensures _
     (omega (arith, c.before.before.cost.ensures, c.before.if2.true)) c.unfit2.ensures
 
 -- the precondition fits, and ends where it must
@@ -77,7 +77,7 @@ write-lines-requires c κs =
     let needed = after-write-precondition.write-precondition in
     let fits = not-false after-write-precondition.write-precondition.result.fits after-if1.if1.false in (
       start.requires.0,
-      c.before.before.effect-lines.ensures.1,
+      c.before.before.effect_lines.ensures.1,
       omega (arith, start.requires.2, needed.auto.1.1.0),
       omega (arith, start.requires.3, needed.ensures.end fits, needed.ensures.few fits),
     )
@@ -98,9 +98,9 @@ returns-3 c =
     let after-if1 = after-cost.before in
     let after-write-precondition = after-if1.before.before.before.before.before.before in
     let needed = after-write-precondition.write-precondition in
-    action-written _ _ _ _ _ _ _ needed.ensures _ (not-false needed.result.fits after-if1.if1.false) _ after-cost.cost.ensures
+    action_written _ _ _ _ _ _ _ needed.ensures _ (not-false needed.result.fits after-if1.if1.false) _ after-cost.cost.ensures
     after-if2.if2.false _
-    after-header.write-action-header.ensures _ after-effect-lines.effect-lines.ensures.0 _ after-write-lines.write-lines.ensures
+    after-header.write-action-header.ensures _ after-effect-lines.effect_lines.ensures.0 _ after-write-lines.write-lines.ensures
 
 pub write-action-spec : {M : Type 1} → statement M
 write-action-spec =

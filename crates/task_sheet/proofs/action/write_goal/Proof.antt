@@ -1,5 +1,5 @@
 -- `write_goal` meets its contract: the goal is a group of facts. Assumes nothing.
-use Rattle.task_sheet.proofs.PartLaws.{goal-written}
+use Rattle.task_sheet.proofs.PartLaws.{goal_written}
 use borrow.Author.Rules.{rules}
 use Rattle.task_sheet.proofs.action.write_goal.Statement.{statement}
 use Rattle.task_sheet.proofs.action.write_goal.Tie as tie
@@ -24,7 +24,7 @@ returns c =
     let after-write-lines = c.before.before.before.before in
     let after-fact-lines = after-write-lines.before.before.before in
     let after-goal-at = after-fact-lines.before in
-    goal-written _ _ _ _ _ _ _ _ after-fact-lines.fact-lines.ensures.0 after-goal-at.goal-at.ensures.0 after-write-lines.write-lines.ensures
+    goal_written _ _ _ _ _ _ _ _ after-fact-lines.fact_lines.ensures.0 after-goal-at.goal_at.ensures.0 after-write-lines.write-lines.ensures
 
 pub write-goal-spec : {M : Type 1} → statement M
 write-goal-spec =

@@ -1,5 +1,5 @@
 -- `write_precondition` meets its contract, by whether the prevail conditions fit. Assumes nothing.
-use Rattle.task_sheet.proofs.PartLaws.{prevail-unfit, needed-written}
+use Rattle.task_sheet.proofs.PartLaws.{prevail_unfit, needed_written}
 use borrow.Author.Rules.{rules}
 use Rattle.task_sheet.proofs.action.write_precondition.Statement.{statement}
 use Rattle.task_sheet.proofs.action.write_precondition.Tie as tie
@@ -29,8 +29,8 @@ returns c =
     let after-if1 = after-effect-lines.before in
     let after-gather = after-if1.before.before.before in
     let after-fact-lines = after-gather.before.before in
-    needed-written _ _ _ after-fact-lines.fact-lines.ensures.0 _ _ _ after-gather.gather.ensures _ _ _ _ after-if1.if1.true _
-    after-effect-lines.effect-lines.ensures.0
+    needed_written _ _ _ after-fact-lines.fact_lines.ensures.0 _ _ _ after-gather.gather.ensures _ _ _ _ after-if1.if1.true _
+    after-effect-lines.effect_lines.ensures.0
     after-write-lines.write-lines.ensures
 
 unfit-requires : tie.Need-unfit-requires
@@ -43,7 +43,7 @@ returns-2 : tie.Need-returns-2
 returns-2 c =
     let after-gather = c.before.before.before.before in
     let after-fact-lines = after-gather.before.before in
-    prevail-unfit _ _ _ after-fact-lines.fact-lines.ensures.0 _ _ _ after-gather.gather.ensures _ _ _ _ c.before.if1.false c.unfit.ensures
+    prevail_unfit _ _ _ after-fact-lines.fact_lines.ensures.0 _ _ _ after-gather.gather.ensures _ _ _ _ c.before.if1.false c.unfit.ensures
 
 pub write-precondition-spec : {M : Type 1} → statement M
 write-precondition-spec =

@@ -3,10 +3,10 @@ use Prim.Native.Nat.{◌+◌}
 use native.Mathlib.Omega.{arith}
 use mathlib.Core.Path.{sym, ◌∙◌, ap}
 use borrow.Author.Tests.{not-true, not-false}
-use Rattle.meaning.specs.between.Sections.{number_at}
-use Rattle.meaning.proofs.GatherLaws.{ranges-length}
+use Rattle.meaning.specs.Between.Sections.{number_at}
+use Rattle.meaning.proofs.GatherLaws.{ranges_length}
 use Rattle.meaning.proofs.SectionLaws.{fit_small}
-use Rattle.task_sheet.proofs.BuildLaws.{builds-unfit, no-variables, many-variables, many-actions, variables-unfit, parts-unfit, words-over, sheet-built}
+use Rattle.task_sheet.proofs.BuildLaws.{builds_unfit, no_variables, many_variables, many_actions, variables_unfit, parts_unfit, words_over, sheet_built}
 use borrow.Author.Rules.{rules}
 use Rattle.task_sheet.proofs.build.build.Statement.{statement}
 use Rattle.task_sheet.proofs.build.build.Tie as tie
@@ -26,8 +26,8 @@ unwritable-requires c κs = search rules
 returns : tie.Need-returns
 returns c =
     let after-before = c.before in
-    let after-variables = after-before.before.before.before in
-    builds-unfit (no-variables _ (rw after-variables.variables.ensures.0 at after-before.if1.true)) c.unwritable.ensures
+    let after_variables = after-before.before.before.before in
+    builds_unfit (no_variables _ (rw after_variables.variables.ensures.0 at after-before.if1.true)) c.unwritable.ensures
 
 unwritable-requires-2 : tie.Need-unwritable-requires-2
 unwritable-requires-2 c κs = search rules
@@ -35,8 +35,8 @@ unwritable-requires-2 c κs = search rules
 returns-2 : tie.Need-returns-2
 returns-2 c =
     let after-before = c.before in
-    let after-variables = after-before.before.before.before.before in
-    builds-unfit (many-variables _ (rw after-variables.variables.ensures.0 at after-before.if2.true)) c.unwritable2.ensures
+    let after_variables = after-before.before.before.before.before in
+    builds_unfit (many_variables _ (rw after_variables.variables.ensures.0 at after-before.if2.true)) c.unwritable2.ensures
 
 unwritable-requires-3 : tie.Need-unwritable-requires-3
 unwritable-requires-3 c κs = search rules
@@ -47,8 +47,8 @@ returns-3 c =
     let after-number = after-before.before.before.before in
     let after-before-5 = after-number.before in
     let start = after-before-5.before.before.before.before in
-    builds-unfit
-    (many-actions _ (rw (after-number.number.ensures.0 ∙ ap (number_at start.args.x.now) after-before-5.operators-at.ensures.0) at after-before.if3.true))
+    builds_unfit
+    (many_actions _ (rw (after-number.number.ensures.0 ∙ ap (number_at start.args.x.now) after-before-5.operators_at.ensures.0) at after-before.if3.true))
     c.unwritable3.ensures
 
 variables-fit-requires : tie.Need-variables-fit-requires
@@ -61,7 +61,7 @@ returns-4 : tie.Need-returns-4
 returns-4 c =
     let after-before = c.before in
     let after-variables-fit = after-before.before in
-    builds-unfit (variables-unfit _ (sym after-variables-fit.variables-fit.ensures ∙ not-true _ after-before.if4.true)) c.unwritable4.ensures
+    builds_unfit (variables_unfit _ (sym after-variables-fit.variables_fit.ensures ∙ not-true _ after-before.if4.true)) c.unwritable4.ensures
 
 add-write-parts : tie.Need-overflow-add-write-parts
 add-write-parts c = search rules
@@ -74,9 +74,9 @@ write-parts-requires c κs =
     let after-before-4 = after-before-3.before in
     let after-before-6 = after-before-4.before.before in
     let after-before-7 = after-before-6.before in
-    let after-variables = after-before-7.before in
-    let start = after-variables.before.before.before in
-    (fit_small _ (rw after-variables.variables.ensures.0 at after-before-4.if2.false) (sym after-before-2.variables-fit.ensures ∙ not-false _ after-before.if4.false), after-variables.variables.ensures.0 ∙ sym (ranges-length _), after-before-3.if3.false, ap (λ k. k + 1) after-before-7.operators-at.ensures.0, (after-before-6.number.ensures.0 ∙ ap (number_at start.args.x.now) after-before-7.operators-at.ensures.0), omega (arith, after-before-7.operators-at.ensures.1))
+    let after_variables = after-before-7.before in
+    let start = after_variables.before.before.before in
+    (fit_small _ (rw after_variables.variables.ensures.0 at after-before-4.if2.false) (sym after-before-2.variables_fit.ensures ∙ not-false _ after-before.if4.false), after_variables.variables.ensures.0 ∙ sym (ranges_length _), after-before-3.if3.false, ap (λ k. k + 1) after-before-7.operators_at.ensures.0, (after-before-6.number.ensures.0 ∙ ap (number_at start.args.x.now) after-before-7.operators_at.ensures.0), omega (arith, after-before-7.operators_at.ensures.1))
 
 unwritable-requires-5 : tie.Need-unwritable-requires-5
 unwritable-requires-5 c κs = search rules
@@ -91,8 +91,8 @@ returns-5 c =
     let after-number = after-before-5.before.before.before.before.before.before.before in
     let after-before-13 = after-number.before in
     let start = after-before-13.before.before.before.before in
-    builds-unfit
-    (parts-unfit _ _ (after-number.number.ensures.0 ∙ ap (number_at start.args.x.now) after-before-13.operators-at.ensures.0) _ _ _ after-before-5.write-parts.ensures (not-true _ after-before.if5.true))
+    builds_unfit
+    (parts_unfit _ _ (after-number.number.ensures.0 ∙ ap (number_at start.args.x.now) after-before-13.operators_at.ensures.0) _ _ _ after-before-5.write-parts.ensures (not-true _ after-before.if5.true))
     c.unwritable5.ensures
 
 unwritable-requires-6 : tie.Need-unwritable-requires-6
@@ -109,8 +109,8 @@ returns-6 c =
     let after-number = after-before-6.before.before.before.before.before.before.before in
     let after-before-14 = after-number.before in
     let start = after-before-14.before.before.before.before in
-    builds-unfit
-    (words-over _ _ (after-number.number.ensures.0 ∙ ap (number_at start.args.x.now) after-before-14.operators-at.ensures.0) _ _ _ after-before-6.write-parts.ensures (not-false _ after-before-2.if5.false) after-before.if6.true)
+    builds_unfit
+    (words_over _ _ (after-number.number.ensures.0 ∙ ap (number_at start.args.x.now) after-before-14.operators_at.ensures.0) _ _ _ after-before-6.write-parts.ensures (not-false _ after-before-2.if5.false) after-before.if6.true)
     c.unwritable6.ensures
 
 cast-write-header : tie.Need-overflow-cast-write-header
@@ -141,10 +141,10 @@ returns-7 c =
     let after-before-17 = after-number.before in
     let after-before-18 = after-before-17.before in
     let start = after-before-18.before.before.before in
-    sheet-built _ _ (after-number.number.ensures.0 ∙ ap (number_at start.args.x.now) after-before-17.operators-at.ensures.0) _ _ _
+    sheet_built _ _ (after-number.number.ensures.0 ∙ ap (number_at start.args.x.now) after-before-17.operators_at.ensures.0) _ _ _
     after-before-9.write-parts.ensures (not-false _ after-before-5.if5.false) _ after-before-18.variables.ensures.0 _
     after-before.write-header.ensures after-before-15.if1.false after-before-14.if2.false after-before-13.if3.false
-    (sym after-before-12.variables-fit.ensures ∙ not-false _ after-before-11.if4.false) after-before-4.if6.false
+    (sym after-before-12.variables_fit.ensures ∙ not-false _ after-before-11.if4.false) after-before-4.if6.false
 
 pub build-spec : {M : Type 1} → statement M
 build-spec =

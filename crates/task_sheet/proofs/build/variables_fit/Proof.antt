@@ -3,14 +3,14 @@ use borrow.Author.Rules.{rules}
 use native.Mathlib.Omega.{arith}
 use Prim.Native.Nat.{◌-◌}
 use mathlib.Core.Path.{◌≡◌, sym, ◌∙◌}
-use Rattle.meaning.specs.between.Sections.{ranges, state}
-use Rattle.meaning.specs.between.Writable.{variables-fit}
-use Rattle.meaning.proofs.SectionLaws.{fits-from, fits_whole, fits-over, fits-wide, fits-beyond, fits_next}
+use Rattle.meaning.specs.Between.Sections.{ranges, state}
+use Rattle.meaning.specs.Between.Writable.{variables_fit}
+use Rattle.meaning.proofs.SectionLaws.{fits_from, fits_whole, fits_over, fits_wide, fits_beyond, fits_next}
 use Rattle.task_sheet.proofs.build.variables_fit.Statement.{statement}
 use Rattle.task_sheet.proofs.build.variables_fit.Tie as tie
 
 abbrev invariant-loop : tie.invariant-loop
-invariant-loop x v k₀ k = fits-from x v k ≡ variables-fit (ranges x) (state x)
+invariant-loop x v k₀ k = fits_from x v k ≡ variables_fit (ranges x) (state x)
 
 abbrev decreases-loop : tie.decreases-loop
 decreases-loop x v k₀ k = v - k
@@ -29,7 +29,7 @@ number-requires c κs = search rules
 
 returns : tie.Need-returns invariant-loop decreases-loop
 returns c =
-    sym (fits-wide _ _ _ c.before.before.loop-test.true (omega (arith, c.before.number.ensures.0, c.if1.true))) ∙ c.before.before.before.loop.invariant
+    sym (fits_wide _ _ _ c.before.before.loop-test.true (omega (arith, c.before.number.ensures.0, c.if1.true))) ∙ c.before.before.before.loop.invariant
 
 add-number-2 : tie.Need-overflow-add-number-2 invariant-loop decreases-loop
 add-number-2 c = search rules
@@ -43,7 +43,7 @@ number-requires-2 c κs = search rules
 returns-2 : tie.Need-returns-2 invariant-loop decreases-loop
 returns-2 c =
     sym
-    (fits-beyond _ _ _ c.before.before.before.before.loop-test.true (omega (arith, c.before.before.before.number.ensures.0, c.before.before.if1.false))
+    (fits_beyond _ _ _ c.before.before.before.before.loop-test.true (omega (arith, c.before.before.before.number.ensures.0, c.before.before.if1.false))
     (omega (arith, c.before.before.before.number.ensures.0, c.before.number2.ensures.0, c.if2.true)))
     ∙ c.before.before.before.before.before.loop.invariant
 
@@ -61,7 +61,7 @@ loop-again c =
     ∙ c.before.before.before.before.before.loop.invariant
 
 returns-3 : tie.Need-returns-3 invariant-loop decreases-loop
-returns-3 c = sym (fits-over _ _ _ c.loop-test.false) ∙ c.before.loop.invariant
+returns-3 c = sym (fits_over _ _ _ c.loop-test.false) ∙ c.before.loop.invariant
 
 pub variables-fit-spec : {M : Type 1} → statement M
 variables-fit-spec =

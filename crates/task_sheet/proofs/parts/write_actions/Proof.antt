@@ -5,16 +5,16 @@ use native.Mathlib.Omega.{arith}
 use mathlib.Core.Path.{◌≡◌, refl, ◌∙◌}
 use lib.ListN.{length}
 use borrow.Author.Tests.{not-true, not-false}
-use Rattle.sheet_writer.specs.between.Laid.{first_word, part-most}
-use Rattle.task_sheet.proofs.PartsLaws.{Laying-actions, actions-start, actions-on, actions-unfit, actions-over}
+use Rattle.sheet_writer.specs.Between.Laid.{first_word, part_most}
+use Rattle.task_sheet.proofs.PartsLaws.{LayingActions, actions_start, actions_on, actions_unfit, actions_over}
 use Rattle.task_sheet.proofs.parts.write_actions.Statement.{statement}
 use Rattle.task_sheet.proofs.parts.write_actions.Tie as tie
 
 abbrev invariant-loop : tie.invariant-loop
 invariant-loop x from n slots₀ sheet₀ at i₀ to₀ a₀ slots sheet i to a =
-    Laying-actions x from n sheet₀ at sheet i to a
+    LayingActions x from n sheet₀ at sheet i to a
     × (first_word n ≤ to)
-    × (to ≤ at + part-most * a)
+    × (to ≤ at + part_most * a)
     × (i ≤ from + 2 ^ 36 * a)
     × (a ≤ n)
     × (length slots ≡ length slots₀)
@@ -24,7 +24,7 @@ abbrev decreases-loop : tie.decreases-loop
 decreases-loop x from n slots₀ sheet₀ at i₀ to₀ a₀ slots sheet i to a = n - a
 
 loop-holds : tie.Need-loop-init invariant-loop decreases-loop
-loop-holds c = (actions-start _ _ _ _ _, c.before.before.before.requires.4, omega arith, omega arith, omega arith, refl, refl)
+loop-holds c = (actions_start _ _ _ _ _, c.before.before.before.requires.4, omega arith, omega arith, omega arith, refl, refl)
 
 write-action-requires : tie.Need-write-action-requires invariant-loop decreases-loop
 write-action-requires c κs =
@@ -52,7 +52,7 @@ returns c =
     let after-write-action = c.before.before.before.before.before.before in
     let written = after-write-action.write-action in
     let in-turn = after-write-action.before.before.before in
-    actions-unfit _ _ _ _ _ _ _ _ _ in-turn.loop-test.true in-turn.before.loop.invariant.0 _ _ written.ensures
+    actions_unfit _ _ _ _ _ _ _ _ _ in-turn.loop-test.true in-turn.before.loop.invariant.0 _ _ written.ensures
     (not-true written.result.fits c.if1.true)
 
 add-write-pair : tie.Need-overflow-add-write-pair invariant-loop decreases-loop
@@ -83,7 +83,7 @@ add-i : tie.Need-overflow-add-i invariant-loop decreases-loop
 add-i c =
     let in-turn = c.before.before.before.before.before.before.before.before.before.before.before.before.before.before in
     let pre = in-turn.before.before.before.before.before.requires in
-    omega (arith, pre.1, pre.2, in-turn.before.loop.invariant.3, in-turn.loop-test.true, c.cost-at.ensures.1)
+    omega (arith, pre.1, pre.2, in-turn.before.loop.invariant.3, in-turn.loop-test.true, c.cost_at.ensures.1)
 
 add_a : tie.Need-overflow-add-a invariant-loop decreases-loop
 add_a c =
@@ -101,8 +101,8 @@ loop-again c =
     let written = c.before.before.before.before.before.before.before.before.before.before.before.write-action in
     let pair = c.before.before.before.write-pair in
     let fits = not-false written.result.fits c.before.before.before.before.before.if1.false in
-    let next = c.cost-at.ensures in (
-      actions-on _ _ _ _ _ _ _ _ _ more here.invariant.0 _ _ written.ensures fits here.invariant.1 _ pair.ensures _ (cc next.0),
+    let next = c.cost_at.ensures in (
+      actions_on _ _ _ _ _ _ _ _ _ more here.invariant.0 _ _ written.ensures fits here.invariant.1 _ pair.ensures _ (cc next.0),
       omega (arith, here.invariant.1, written.ensures.end fits),
       omega (arith, here.invariant.2, written.ensures.end fits, written.ensures.few fits),
       omega (arith, here.invariant.3, next.1),
@@ -118,7 +118,7 @@ same-length-4 : tie.Need-same-length-4 invariant-loop decreases-loop
 same-length-4 c = c.before.loop.invariant.6
 
 returns-2 : tie.Need-returns-2 invariant-loop decreases-loop
-returns-2 c = actions-over _ _ _ _ _ _ _ _ _ c.loop-test.false c.before.loop.invariant.0
+returns-2 c = actions_over _ _ _ _ _ _ _ _ _ c.loop-test.false c.before.loop.invariant.0
 
 pub write-actions-spec : {M : Type 1} → statement M
 write-actions-spec =

@@ -7,16 +7,16 @@ use lib.ListN.{length}
 use borrow.Author.Rules.{rules}
 use borrow.Author.Tests.{not-true, not-false}
 use Rattle.sheet.specs.Limits.{limits}
-use Rattle.meaning.specs.between.Sections.{ranges}
-use Rattle.meaning.specs.between.Gathered.{Small}
-use Rattle.sheet_writer.specs.between.Laid.{first_word}
-use Rattle.meaning.proofs.GatherLaws.{ranges-length}
-use Rattle.task_sheet.proofs.PartsLaws.{goal-unfit, parts-laid}
+use Rattle.meaning.specs.Between.Sections.{ranges}
+use Rattle.meaning.specs.Between.Gathered.{Small}
+use Rattle.sheet_writer.specs.Between.Laid.{first_word}
+use Rattle.meaning.proofs.GatherLaws.{ranges_length}
+use Rattle.task_sheet.proofs.PartsLaws.{goal_unfit, parts_laid}
 use Rattle.task_sheet.proofs.parts.write_parts.Statement.{statement}
 use Rattle.task_sheet.proofs.parts.write_parts.Tie as tie
 
-few-variables : {x : List ℕ} {v : ℕ} → Small x → v ≡ length (ranges x) → v ≤ limits.variables
-few-variables {x} small many = omega (arith, small.few, ranges-length x)
+few_variables : {x : List ℕ} {v : ℕ} → Small x → v ≡ length (ranges x) → v ≤ limits.variables
+few_variables {x} small many = omega (arith, small.few, ranges_length x)
 
 add-initial : tie.Need-overflow-add-initial
 add-initial c = search rules
@@ -30,12 +30,12 @@ add-initial-2 c = search rules
 add-initial-3 : tie.Need-overflow-add-initial-3
 add-initial-3 c =
     let pre = c.before.before.requires in
-    omega (arith, pre.2, few-variables pre.0 pre.1)
+    omega (arith, pre.2, few_variables pre.0 pre.1)
 
 add-goal : tie.Need-overflow-add-goal
 add-goal c =
     let pre = c.before.before.requires in
-    omega (arith, pre.2, few-variables pre.0 pre.1)
+    omega (arith, pre.2, few_variables pre.0 pre.1)
 
 sub-write-words : tie.Need-overflow-sub-write-words
 sub-write-words c = search rules
@@ -43,7 +43,7 @@ sub-write-words c = search rules
 write-words-requires : tie.Need-write-words-requires
 write-words-requires c κs =
     let pre = c.before.before.before.requires in
-    let few = few-variables pre.0 pre.1 in
+    let few = few_variables pre.0 pre.1 in
     (omega arith, omega (arith, few), omega (arith, pre.2))
 
 sub-write-pair : tie.Need-overflow-sub-write-pair
@@ -52,24 +52,24 @@ sub-write-pair c = search rules
 write-pair-requires : tie.Need-write-pair-requires
 write-pair-requires c κs =
     let pre = c.before.before.before.before.before.before.before.requires in
-    let few = few-variables pre.0 pre.1 in
+    let few = few_variables pre.0 pre.1 in
     (omega arith, omega arith, omega (arith, pre.2, few))
 
 add-write-words : tie.Need-overflow-add-write-words
 add-write-words c =
     let pre = c.before.before.before.before.before.before.before.before.before.before.requires in
-    omega (arith, few-variables pre.0 pre.1)
+    omega (arith, few_variables pre.0 pre.1)
 
 write-words-requires-2 : tie.Need-write-words-requires-2
 write-words-requires-2 c κs =
     let pre = c.before.before.before.before.before.before.before.before.before.before.before.requires in
-    let few = few-variables pre.0 pre.1 in
+    let few = few_variables pre.0 pre.1 in
     (omega (arith, few), omega (arith, few), omega (arith, pre.2, few))
 
 write-pair-requires-2 : tie.Need-write-pair-requires-2
 write-pair-requires-2 c κs =
     let pre = c.before.before.before.before.before.before.before.before.before.before.before.before.before.before.before.requires in
-    let few = few-variables pre.0 pre.1 in
+    let few = few_variables pre.0 pre.1 in
     (omega arith, omega arith, omega (arith, pre.2, few))
 
 slice-aggregate-write-goal : tie.Need-slice-aggregate-write-goal
@@ -79,7 +79,7 @@ write-goal-requires : tie.Need-write-goal-requires
 write-goal-requires c κs =
     let after-start = c.before.before.before.before.before.before.before.before in
     let pre = after-start.before.before.before.before.before.before.before.before.before.before.before.before.requires in
-    let few = few-variables pre.0 pre.1 in
+    let few = few_variables pre.0 pre.1 in
     (pre.0, omega arith, omega (arith, pre.2, few))
 
 same_length : tie.Need-same-length
@@ -97,7 +97,7 @@ returns c =
     let initial = first_word args.n + args.v in
     let goal = after-goal.write-goal in
     let fits = not-true goal.result.fits c.if1.true in
-    goal-unfit args.x.now args.sheet.now args.n args.v args.from (initial - args.v) initial (initial + args.v) pre.1 pre.4 pre.3
+    goal_unfit args.x.now args.sheet.now args.n args.v args.from (initial - args.v) initial (initial + args.v) pre.1 pre.4 pre.3
     (omega arith) refl refl _ _ after-ranges.write-words.ensures after-ranges-pair.write-pair.ensures _ _ after-start.write-words2.ensures
     after-start-pair.write-pair2.ensures _ _ goal.ensures fits
 
@@ -106,7 +106,7 @@ write-pair-requires-3 c κs =
     let after-goal = c.before.before.before.before.before.before in
     let start = after-goal.before.before.before.before.before.before.before.before.before.before.before.before.before in
     let pre = start.before.before.before.before.before.before.before.before.requires in
-    let few = few-variables pre.0 pre.1 in
+    let few = few_variables pre.0 pre.1 in
     let goal = after-goal.write-goal in
     let fits = not-false goal.result.fits c.before.if1.false in (
       omega arith,
@@ -122,7 +122,7 @@ write-actions-requires c κs =
     let after-goal = c.before.before.before.before.before.before.before.before.before.before.before in
     let start = after-goal.before.before.before.before.before.before.before.before.before.before.before.before.before in
     let pre = start.before.before.before.before.before.before.before.before.requires in
-    let few = few-variables pre.0 pre.1 in
+    let few = few_variables pre.0 pre.1 in
     let goal = after-goal.write-goal in
     let fits = not-false goal.result.fits c.before.before.before.before.before.before.if1.false in (
       pre.0,
@@ -155,7 +155,7 @@ returns-2 c =
     let initial = first_word args.n + args.v in
     let goal = after-goal.write-goal in
     let fits = not-false goal.result.fits c.before.before.before.before.before.before.before.before.before.before.if1.false in
-    parts-laid args.x.now args.sheet.now args.n args.v args.from (initial - args.v) initial (initial + args.v) pre.1 pre.4 pre.3
+    parts_laid args.x.now args.sheet.now args.n args.v args.from (initial - args.v) initial (initial + args.v) pre.1 pre.4 pre.3
     (omega arith) refl refl _ _ after-ranges.write-words.ensures after-ranges-pair.write-pair.ensures _ _ after-start.write-words2.ensures
     after-start-pair.write-pair2.ensures _ _ goal.ensures fits
     _ _ c.before.before.before.before.before.before.before.before.write-pair3.ensures _ c.before.before.before.write-actions.ensures

@@ -5,8 +5,8 @@ use mathlib.Core.Path.{◌≡◌, refl}
 use borrow.Author.Rules.{rules}
 use lib.ListN.{length, take, length-take}
 use lib.Seq.{take_all}
-use Rattle.text.specs.between.Reading.{Reads}
-use Rattle.text.proofs.ReaderLaws.{reads_nothing, reads-one-more}
+use Rattle.text.specs.Between.Reading.{Reads}
+use Rattle.text.proofs.ReaderLaws.{reads_nothing, reads_one_more}
 use Rattle.text.proofs.reader.feed_all.Statement.{statement}
 use Rattle.text.proofs.reader.feed_all.Tie as tie
 
@@ -36,7 +36,7 @@ loop-less c = search rules
 loop-again : tie.Need-loop-preserved invariant-loop decreases-loop
 loop-again c =
     let turn = c.before.before.before.before.before in
-    (reads-one-more _ _ _ _ _ _ _ turn.before.loop.i turn.loop-test.true turn.before.loop.invariant.0 c.before.before.feed.ensures, search rules, search rules)
+    (reads_one_more _ _ _ _ _ _ _ turn.before.loop.i turn.loop-test.true turn.before.loop.invariant.0 c.before.before.feed.ensures, search rules, search rules)
 
 same_length : tie.Need-same-length invariant-loop decreases-loop
 same_length c = search rules

@@ -2,9 +2,9 @@
 use native.Mathlib.Omega.{arith}
 use mathlib.Core.List.{[], ◌∷◌}
 use Rattle.fields.specs.declared.word.Behind.TheVariants.{Space, LineEnd}
-use Rattle.fields.proofs.NumberLaws.{other-behind}
-use Rattle.number_rows.proofs.FactRowLaws.{next-inside}
-use Rattle.text_effects.proofs.EffectLaws.{old-inside, new-inside, change-ended, change-old-ended, change-on, change-read, changed, unchanged}
+use Rattle.fields.proofs.NumberLaws.{other_behind}
+use Rattle.number_rows.proofs.FactRowLaws.{next_inside}
+use Rattle.text_effects.proofs.EffectLaws.{old_inside, new_inside, change_ended, change_old_ended, change_on, change_read, changed, unchanged}
 use borrow.Author.Rules.{rules}
 use Rattle.text_effects.proofs.effects.read_change.Statement.{statement}
 use Rattle.text_effects.proofs.effects.read_change.Tie as tie
@@ -16,12 +16,12 @@ enum_told : tie.Need-enum-told
 enum_told c = search rules
 
 returns : tie.Need-returns
-returns c = unchanged (change-ended _ c.before.read_number.ensures (other-behind (1 ∷ 2 ∷ []) _ Space tt c.match.keys2))
+returns c = unchanged (change_ended _ c.before.read_number.ensures (other_behind (1 ∷ 2 ∷ []) _ Space tt c.match.keys2))
 
 add-read-word : tie.Need-overflow-add-read-word
 add-read-word c =
     let number = c.before.before.before in
-    omega (arith, next-inside number.read_number.ensures c.before.enum_told.given.1)
+    omega (arith, next_inside number.read_number.ensures c.before.enum_told.given.1)
 
 read-word-requires : tie.Need-read-word-requires
 read-word-requires c κs = search rules
@@ -33,14 +33,14 @@ returns-2 : tie.Need-returns-2
 returns-2 c =
     let told = c.before.before.before in
     let number = told.before.before in
-    unchanged (change-old-ended _ number.read_number.ensures told.enum_told.given.1 _ c.before.read_word.ensures (other-behind (1 ∷ 2 ∷ []) _ Space tt c.match2.keys2))
+    unchanged (change_old_ended _ number.read_number.ensures told.enum_told.given.1 _ c.before.read_word.ensures (other_behind (1 ∷ 2 ∷ []) _ Space tt c.match2.keys2))
 
 add-read-number : tie.Need-overflow-add-read-number
 add-read-number c =
     let word = c.before.before.before in
     let told = word.before.before in
     let number = told.before.before in
-    omega (arith, old-inside _ number.read_number.ensures told.enum_told.given.1 _ word.read_word.ensures c.before.enum-told2.given.1)
+    omega (arith, old_inside _ number.read_number.ensures told.enum_told.given.1 _ word.read_word.ensures c.before.enum-told2.given.1)
 
 read-number-requires-2 : tie.Need-read-number-requires-2
 read-number-requires-2 c κs = search rules
@@ -54,7 +54,7 @@ returns-3 c =
     let word = told2.before.before in
     let told = word.before.before in
     let number = told.before.before in
-    unchanged (change-on _ number.read_number.ensures told.enum_told.given.1 _ word.read_word.ensures told2.enum-told2.given.1 _ c.before.read-number2.ensures (other-behind (0 ∷ 2 ∷ []) _ LineEnd tt c.match3.keys2))
+    unchanged (change_on _ number.read_number.ensures told.enum_told.given.1 _ word.read_word.ensures told2.enum-told2.given.1 _ c.before.read-number2.ensures (other_behind (0 ∷ 2 ∷ []) _ LineEnd tt c.match3.keys2))
 
 put-requires : tie.Need-put-requires
 put-requires c κs = search rules
@@ -80,7 +80,7 @@ add-t11 c =
     let told = word.before.before in
     let number = told.before.before in
     let start = number.before.before.before in
-    omega (arith, new-inside _ number.read_number.ensures told.enum_told.given.1 _ word.read_word.ensures told2.enum-told2.given.1 _ next-number.read-number2.ensures told3.enum-told3.given.1, start.well-formed.0)
+    omega (arith, new_inside _ number.read_number.ensures told.enum_told.given.1 _ word.read_word.ensures told2.enum-told2.given.1 _ next-number.read-number2.ensures told3.enum-told3.given.1, start.well_formed.0)
 
 same_length : tie.Need-same-length
 same_length c = search rules
@@ -96,7 +96,7 @@ returns-4 c =
     let word = told2.before.before in
     let told = word.before.before in
     let number = told.before.before in
-    changed (change-read _ number.read_number.ensures told.enum_told.given.1 _ word.read_word.ensures told2.enum-told2.given.1 _ next-number.read-number2.ensures told3.enum-told3.given.1 _ _ _ _ _ stored.put.ensures stored2.put2.ensures stored3.put3.ensures)
+    changed (change_read _ number.read_number.ensures told.enum_told.given.1 _ word.read_word.ensures told2.enum-told2.given.1 _ next-number.read-number2.ensures told3.enum-told3.given.1 _ _ _ _ _ stored.put.ensures stored2.put2.ensures stored3.put3.ensures)
 
 pub read-change-spec : {M : Type 1} → statement M
 read-change-spec =

@@ -2,10 +2,10 @@
 use native.Mathlib.Omega.{arith}
 use mathlib.Core.List.{[], ◌∷◌}
 use Rattle.fields.specs.declared.word.Behind.TheVariants.{Space}
-use Rattle.fields.proofs.NumberLaws.{other-behind}
+use Rattle.fields.proofs.NumberLaws.{other_behind}
 use Rattle.form.proofs.ReadsLaws.{reads_as}
-use Rattle.number_rows.proofs.FactRowLaws.{next-ahead, next-inside}
-use Rattle.text_effects.proofs.EffectLaws.{effect-ended, effect-short, run_inside, effect-cut, effect-ahead, effect-read}
+use Rattle.number_rows.proofs.FactRowLaws.{next_ahead, next_inside}
+use Rattle.text_effects.proofs.EffectLaws.{effect_ended, effect_short, run_inside, effect_cut, effect_ahead, effect_read}
 use borrow.Author.Tests.{not-true, not-false}
 use borrow.Author.Rules.{rules}
 use Rattle.text_effects.proofs.effects.read_effect.Statement.{statement}
@@ -24,7 +24,7 @@ returns : tie.Need-returns
 returns c =
     let number = c.before.before in
     let start = number.before.before.before in
-    reads_as c.stopped.ensures (effect-ended start.requires.0 start.requires.2 _ _ number.read_number.ensures (other-behind (1 ∷ 2 ∷ []) _ Space tt c.before.match.keys2) _)
+    reads_as c.stopped.ensures (effect_ended start.requires.0 start.requires.2 _ _ number.read_number.ensures (other_behind (1 ∷ 2 ∷ []) _ Space tt c.before.match.keys2) _)
 
 add-from : tie.Need-overflow-add-from
 add-from c = search rules
@@ -43,14 +43,14 @@ add-read-run c =
     let told = c.before.before.before.before.before.before.before in
     let number = told.before.before in
     let start = number.before.before.before in
-    omega (arith, next-inside number.read_number.ensures told.enum_told.given.1, start.well-formed.0)
+    omega (arith, next_inside number.read_number.ensures told.enum_told.given.1, start.well_formed.0)
 
 read-run-requires : tie.Need-read-run-requires
 read-run-requires c κs =
     let told = c.before.before.before.before.before.before.before.before in
     let number = told.before.before in
     let start = number.before.before.before in
-    (omega (arith, next-inside number.read_number.ensures told.enum_told.given.1), omega (arith, next-inside number.read_number.ensures told.enum_told.given.1, next-ahead number.read_number.ensures told.enum_told.given.1, start.requires.0.count), omega arith)
+    (omega (arith, next_inside number.read_number.ensures told.enum_told.given.1), omega (arith, next_inside number.read_number.ensures told.enum_told.given.1, next_ahead number.read_number.ensures told.enum_told.given.1, start.requires.0.count), omega arith)
 
 stopped-requires-2 : tie.Need-stopped-requires-2
 stopped-requires-2 c κs = search rules
@@ -64,7 +64,7 @@ returns-2 c =
     let told = run.before.before.before.before.before.before.before.before.before in
     let number = told.before.before in
     let start = number.before.before.before in
-    reads_as c.stopped2.ensures (effect-short start.requires.0 start.requires.2 _ _ number.read_number.ensures told.enum_told.given.1 _ _ _ run.read-run.ensures (not-true run.read-run.result.reads c.before.if1.true) _)
+    reads_as c.stopped2.ensures (effect_short start.requires.0 start.requires.2 _ _ number.read_number.ensures told.enum_told.given.1 _ _ _ run.read-run.ensures (not-true run.read-run.result.reads c.before.if1.true) _)
 
 add-read-change : tie.Need-overflow-add-read-change
 add-read-change c = search rules
@@ -75,12 +75,12 @@ read-change-requires c κs =
     let told = run.before.before.before.before.before.before.before.before.before in
     let number = told.before.before in
     let start = number.before.before.before in
-    (run_inside start.requires.0 start.requires.2 start.args.tape.now _ number.read_number.ensures told.enum_told.given.1 _ _ _ run.read-run.ensures (not-false run.read-run.result.reads c.before.if1.false), omega (arith, start.requires.0.count, start.requires.0.at, start.well-formed.0))
+    (run_inside start.requires.0 start.requires.2 start.args.tape.now _ number.read_number.ensures told.enum_told.given.1 _ _ _ run.read-run.ensures (not-false run.read-run.result.reads c.before.if1.false), omega (arith, start.requires.0.count, start.requires.0.at, start.well_formed.0))
 
 stopped-requires-3 : tie.Need-stopped-requires-3
 stopped-requires-3 c κs =
     let start = c.before.before.before.before.before.before.before.before.before.before.before.before.before.before.before.before.before.before.before.before.before.before.before.before in
-    omega (arith, start.requires.0.line, start.requires.0.at, start.well-formed.0)
+    omega (arith, start.requires.0.line, start.requires.0.at, start.well_formed.0)
 
 same-length-2 : tie.Need-same-length-2
 same-length-2 c = search rules
@@ -93,17 +93,17 @@ returns-3 c =
     let told = run.before.before.before.before.before.before.before.before.before in
     let number = told.before.before in
     let start = number.before.before.before in
-    reads_as c.stopped3.ensures (effect-cut start.requires.0 start.requires.2 _ _ number.read_number.ensures told.enum_told.given.1 _ _ _ run.read-run.ensures (not-false run.read-run.result.reads test.if1.false) (change.read-change.ensures.missed (not-true change.read-change.result.reads c.before.if2.true)) _)
+    reads_as c.stopped3.ensures (effect_cut start.requires.0 start.requires.2 _ _ number.read_number.ensures told.enum_told.given.1 _ _ _ run.read-run.ensures (not-false run.read-run.result.reads test.if1.false) (change.read-change.ensures.missed (not-true change.read-change.result.reads c.before.if2.true)) _)
 
 add-past-barred : tie.Need-overflow-add-past-barred
 add-past-barred c =
     let start = c.before.before.before.before.before.before.before.before.before.before.before.before.before.before.before.before.before.before.before.before.before.before.before.before in
-    omega (arith, start.requires.0.count, start.requires.0.at, start.well-formed.0)
+    omega (arith, start.requires.0.count, start.requires.0.at, start.well_formed.0)
 
 add-past-barred-2 : tie.Need-overflow-add-past-barred-2
 add-past-barred-2 c =
     let start = c.before.before.before.before.before.before.before.before.before.before.before.before.before.before.before.before.before.before.before.before.before.before.before.before in
-    omega (arith, start.requires.0.count, start.requires.0.at, start.well-formed.0)
+    omega (arith, start.requires.0.count, start.requires.0.at, start.well_formed.0)
 
 past-barred-requires : tie.Need-past-barred-requires
 past-barred-requires c κs =
@@ -113,7 +113,7 @@ past-barred-requires c κs =
     let told = run.before.before.before.before.before.before.before.before.before in
     let number = told.before.before in
     let start = number.before.before.before in
-    omega (arith, effect-ahead start.requires.0 start.requires.2 start.args.tape.now _ number.read_number.ensures told.enum_told.given.1 _ _ _ run.read-run.ensures (not-false run.read-run.result.reads test.if1.false) _ _ (change.read-change.ensures.found (not-false change.read-change.result.reads c.before.if2.false)), start.requires.0.line)
+    omega (arith, effect_ahead start.requires.0 start.requires.2 start.args.tape.now _ number.read_number.ensures told.enum_told.given.1 _ _ _ run.read-run.ensures (not-false run.read-run.result.reads test.if1.false) _ _ (change.read-change.ensures.found (not-false change.read-change.result.reads c.before.if2.false)), start.requires.0.line)
 
 same-length-3 : tie.Need-same-length-3
 same-length-3 c = search rules
@@ -128,7 +128,7 @@ returns-4 c =
     let told = stored.before.before.before.before in
     let number = told.before.before in
     let start = number.before.before.before in
-    reads_as c.past-barred.ensures.0 (effect-read start.requires.0 start.requires.2 _ _ number.read_number.ensures told.enum_told.given.1 _ _ _ run.read-run.ensures (not-false run.read-run.result.reads test.if1.false) _ _ (change.read-change.ensures.found (not-false change.read-change.result.reads test2.if2.false)) start.requires.1 stored.put.ensures _ c.past-barred.ensures.1)
+    reads_as c.past-barred.ensures.0 (effect_read start.requires.0 start.requires.2 _ _ number.read_number.ensures told.enum_told.given.1 _ _ _ run.read-run.ensures (not-false run.read-run.result.reads test.if1.false) _ _ (change.read-change.ensures.found (not-false change.read-change.result.reads test2.if2.false)) start.requires.1 stored.put.ensures _ c.past-barred.ensures.1)
 
 pub read-effect-spec : {M : Type 1} → statement M
 read-effect-spec =

@@ -4,8 +4,8 @@ use Prim.Native.Nat.{◌-◌}
 use lib.ListN.{length}
 use mathlib.Core.Path.{◌≡◌, refl, ◌∙◌}
 use mathlib.Core.List.{[], ◌∷◌}
-use Rattle.form.specs.between.Form.{numbers, Effect}
-use Rattle.form.proofs.ReadsLaws.{Left, repeats-begin, repeats-more, repeats-stopped, repeats-over}
+use Rattle.form.specs.Between.Form.{numbers, Effect}
+use Rattle.form.proofs.ReadsLaws.{Left, repeats_begin, repeats_more, repeats_stopped, repeats_over}
 use borrow.Author.Rules.{rules}
 use native.Mathlib.Omega.{arith}
 use Rattle.text_effects.proofs.effects.read_effects.Statement.{statement}
@@ -18,7 +18,7 @@ abbrev decreases-loop : tie.decreases-loop
 decreases-loop text tape₀ n current₀ i₀ tape current i = n - i
 
 loop-holds : tie.Need-loop-init invariant-loop decreases-loop
-loop-holds c = (repeats-begin _ _ c.before.before.requires.0, refl)
+loop-holds c = (repeats_begin _ _ c.before.before.requires.0, refl)
 
 same_length : tie.Need-same-length invariant-loop decreases-loop
 same_length c = search rules
@@ -26,7 +26,7 @@ same_length c = search rules
 returns : tie.Need-returns invariant-loop decreases-loop
 returns c =
     let turn = c.before.before.before in
-    repeats-stopped _ _ _ turn.loop.invariant.0 c.if1.true
+    repeats_stopped _ _ _ turn.loop.invariant.0 c.if1.true
 
 read-effect-requires : tie.Need-read-effect-requires invariant-loop decreases-loop
 read-effect-requires c κs =
@@ -46,7 +46,7 @@ loop-again c =
     let after-read-effect = c.before.before in
     let after-loop-test = after-read-effect.before.before.before.before in
     let turn = after-loop-test.before in (
-      repeats-more _ _ _ turn.loop.invariant.0 after-loop-test.loop-test.true after-read-effect.read-effect.ensures,
+      repeats_more _ _ _ turn.loop.invariant.0 after-loop-test.loop-test.true after-read-effect.read-effect.ensures,
       after-read-effect.read-effect.auto.1.1.0 ∙ turn.loop.invariant.1,
     )
 
@@ -56,7 +56,7 @@ same-length-2 c = search rules
 returns-2 : tie.Need-returns-2 invariant-loop decreases-loop
 returns-2 c =
     let turn = c.before in
-    repeats-over _ _ _ turn.loop.invariant.0 c.loop-test.false
+    repeats_over _ _ _ turn.loop.invariant.0 c.loop-test.false
 
 pub read-effects-spec : {M : Type 1} → statement M
 read-effects-spec =

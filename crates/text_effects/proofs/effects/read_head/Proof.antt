@@ -1,7 +1,7 @@
 -- `read_head` meets its contract: a law for each way to a return, by whether the line is a change. Assumes nothing.
 use native.Mathlib.Omega.{arith}
-use Rattle.form.proofs.ReadsLaws.{reads_as, reads-stopped}
-use Rattle.text_effects.proofs.EffectLaws.{head-lacks, head_read}
+use Rattle.form.proofs.ReadsLaws.{reads_as, reads_stopped}
+use Rattle.text_effects.proofs.EffectLaws.{head_lacks, head_read}
 use borrow.Author.Rules.{rules}
 use Rattle.text_effects.proofs.effects.read_head.Statement.{statement}
 use Rattle.text_effects.proofs.effects.read_head.Tie as tie
@@ -9,7 +9,7 @@ use Rattle.text_effects.proofs.effects.read_head.Tie as tie
 returns : tie.Need-returns
 returns c =
     let start = c.before.before.before.before in
-    reads-stopped _ _ _ _ c.if1.true start.requires.0
+    reads_stopped _ _ _ _ c.if1.true start.requires.0
 
 read-change-requires : tie.Need-read-change-requires
 read-change-requires c κs = search rules
@@ -41,7 +41,7 @@ returns-3 c =
     let change = c.before.before.before.before in
     let test = change.before.before in
     let start = test.before.before.before.before in
-    reads_as c.stopped.ensures (head-lacks start.requires.0 test.if1.false _ (change.read-change.ensures.missed c.before.if2.false) _)
+    reads_as c.stopped.ensures (head_lacks start.requires.0 test.if1.false _ (change.read-change.ensures.missed c.before.if2.false) _)
 
 pub read-head-spec : {M : Type 1} → statement M
 read-head-spec =

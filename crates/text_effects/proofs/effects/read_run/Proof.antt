@@ -7,15 +7,15 @@ use mathlib.Core.List.{[], ◌∷◌}
 use lib.ListN.{length}
 use borrow.Author.Rules.{rules}
 use Rattle.fields.specs.declared.word.Behind.TheVariants.{Space}
-use Rattle.fields.proofs.NumberLaws.{other-behind}
-use Rattle.text_effects.specs.between.Runs.{Has-run}
-use Rattle.number_rows.proofs.FactRowLaws.{next-inside}
-use Rattle.text_effects.proofs.EffectLaws.{run-begins, run_more, run-missed, run-read-all, run-unread}
+use Rattle.fields.proofs.NumberLaws.{other_behind}
+use Rattle.text_effects.specs.Between.Runs.{HasRun}
+use Rattle.number_rows.proofs.FactRowLaws.{next_inside}
+use Rattle.text_effects.proofs.EffectLaws.{run_begins, run_more, run_missed, run_read_all, run_unread}
 use Rattle.text_effects.proofs.effects.read_run.Statement.{statement}
 use Rattle.text_effects.proofs.effects.read_run.Tie as tie
 
 abbrev invariant-loop : tie.invariant-loop
-invariant-loop text at tape₀ from n to₀ k₀ tape to k = Has-run text at tape₀ from k to tape × (k ≤ n) × (length tape ≡ length tape₀)
+invariant-loop text at tape₀ from n to₀ k₀ tape to k = HasRun text at tape₀ from k to tape × (k ≤ n) × (length tape ≡ length tape₀)
 
 abbrev decreases-loop : tie.decreases-loop
 decreases-loop text at tape₀ from n to₀ k₀ tape to k = n - k
@@ -23,7 +23,7 @@ decreases-loop text at tape₀ from n to₀ k₀ tape to k = n - k
 loop-holds : tie.Need-loop-init invariant-loop decreases-loop
 loop-holds c =
     let start = c.before.before in
-    (run-begins _ _ _ _ start.requires.0, omega arith, refl)
+    (run_begins _ _ _ _ start.requires.0, omega arith, refl)
 
 read-number-requires : tie.Need-read-number-requires invariant-loop decreases-loop
 read-number-requires c κs = search rules
@@ -35,7 +35,7 @@ add-put : tie.Need-overflow-add-put invariant-loop decreases-loop
 add-put c =
     let turn-test = c.before.before.before.before in
     let start = turn-test.before.before.before.before in
-    omega (arith, turn-test.loop-test.true, start.requires.1, start.requires.2, start.well-formed.0)
+    omega (arith, turn-test.loop-test.true, start.requires.1, start.requires.2, start.well_formed.0)
 
 put-requires : tie.Need-put-requires invariant-loop decreases-loop
 put-requires c κs = search rules
@@ -45,7 +45,7 @@ add-to c =
     let told = c.before.before.before.before.before in
     let number = told.before.before in
     let start = number.before.before.before.before.before in
-    omega (arith, next-inside number.read_number.ensures told.enum_told.given.1, start.well-formed.0)
+    omega (arith, next_inside number.read_number.ensures told.enum_told.given.1, start.well_formed.0)
 
 add-k : tie.Need-overflow-add-k invariant-loop decreases-loop
 add-k c =
@@ -74,13 +74,13 @@ returns : tie.Need-returns invariant-loop decreases-loop
 returns c =
     let turn-test = c.before.before in
     let turn = turn-test.before in
-    run-unread (run-missed turn.loop.invariant.0 _ c.before.read_number.ensures _ turn-test.loop-test.true (other-behind (1 ∷ 2 ∷ []) _ Space tt c.match.keys2))
+    run_unread (run_missed turn.loop.invariant.0 _ c.before.read_number.ensures _ turn-test.loop-test.true (other_behind (1 ∷ 2 ∷ []) _ Space tt c.match.keys2))
 
 same-length-2 : tie.Need-same-length-2 invariant-loop decreases-loop
 same-length-2 c = search rules
 
 returns-2 : tie.Need-returns-2 invariant-loop decreases-loop
-returns-2 c = run-read-all c.before.loop.invariant.0 c.before.loop.invariant.1 c.loop-test.false
+returns-2 c = run_read_all c.before.loop.invariant.0 c.before.loop.invariant.1 c.loop-test.false
 
 pub read-run-spec : {M : Type 1} → statement M
 read-run-spec =

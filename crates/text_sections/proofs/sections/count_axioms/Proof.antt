@@ -1,6 +1,6 @@
 -- `count_axioms` meets its contract: the number is followed by so many axioms. Assumes nothing.
-use Rattle.text_sections.proofs.CountLaws.{axioms-follow}
-use Rattle.form.proofs.ReadsLaws.{row-counted}
+use Rattle.text_sections.proofs.CountLaws.{axioms_follow}
+use Rattle.form.proofs.ReadsLaws.{row_counted}
 use borrow.Author.Rules.{rules}
 use native.Mathlib.Omega.{arith}
 use Rattle.text_sections.proofs.sections.count_axioms.Statement.{statement}
@@ -29,8 +29,8 @@ returns c =
     let after-read-blocks = c.before.before in
     let after-word = after-read-blocks.before in
     let after-read-axiom-count = after-word.before.before.before.before.before in
-    row-counted _ _ _ after-read-axiom-count.read-axiom-count.ensures
-    after-word.word.ensures.0 (axioms-follow _) after-read-blocks.read-blocks.ensures
+    row_counted _ _ _ after-read-axiom-count.read-axiom-count.ensures
+    after-word.word.ensures.0 (axioms_follow _) after-read-blocks.read-blocks.ensures
 
 pub count-axioms-spec : {M : Type 1} → statement M
 count-axioms-spec =

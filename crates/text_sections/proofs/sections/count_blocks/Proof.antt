@@ -1,6 +1,6 @@
 -- `count_blocks` meets its contract: the number is followed by so many blocks. Assumes nothing.
-use Rattle.form.proofs.ReadsLaws.{row-counted}
-use Rattle.text_sections.proofs.CountLaws.{plain-within}
+use Rattle.form.proofs.ReadsLaws.{row_counted}
+use Rattle.text_sections.proofs.CountLaws.{plain_within}
 use borrow.Author.Rules.{rules}
 use native.Mathlib.Omega.{arith}
 use Rattle.text_sections.proofs.sections.count_blocks.Statement.{statement}
@@ -19,7 +19,7 @@ read-blocks-requires : tie.Need-read-blocks-requires
 read-blocks-requires c κs =
     let after-read-plain = c.before.before.before.before.before in
     let start = after-read-plain.before.before.before.before in
-    (plain-within _ after-read-plain.read_plain.ensures, omega (arith, start.requires.1, after-read-plain.read_plain.auto.1.1.0))
+    (plain_within _ after-read-plain.read_plain.ensures, omega (arith, start.requires.1, after-read-plain.read_plain.auto.1.1.0))
 
 same_length : tie.Need-same-length
 same_length c = search rules
@@ -29,7 +29,7 @@ returns c =
     let after-read-blocks = c.before.before in
     let after-word = after-read-blocks.before in
     let after-read-plain = after-word.before.before.before.before.before in
-    λ what counted. row-counted _ _ _ (after-read-plain.read_plain.ensures _ counted.plain-count)
+    λ what counted. row_counted _ _ _ (after-read-plain.read_plain.ensures _ counted.plain_count)
     after-word.word.ensures.0 (counted.lines _) after-read-blocks.read-blocks.ensures
 
 pub count-blocks-spec : {M : Type 1} → statement M

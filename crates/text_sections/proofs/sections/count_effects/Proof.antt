@@ -1,6 +1,6 @@
 -- `count_effects` meets its contract: the number is followed by so many effects. Assumes nothing.
-use Rattle.text_sections.proofs.CountLaws.{plain-effects, effects-follow}
-use Rattle.form.proofs.ReadsLaws.{row-counted}
+use Rattle.text_sections.proofs.CountLaws.{plain_effects, effects_follow}
+use Rattle.form.proofs.ReadsLaws.{row_counted}
 use borrow.Author.Rules.{rules}
 use native.Mathlib.Omega.{arith}
 use Rattle.text_sections.proofs.sections.count_effects.Statement.{statement}
@@ -19,7 +19,7 @@ read-effects-requires : tie.Need-read-effects-requires
 read-effects-requires c κs =
     let after-read-plain = c.before.before.before.before.before in
     let start = after-read-plain.before.before.before.before in
-    ((after-read-plain.read_plain.ensures _ plain-effects).within, omega (arith, start.requires.1, after-read-plain.read_plain.auto.1.1.0))
+    ((after-read-plain.read_plain.ensures _ plain_effects).within, omega (arith, start.requires.1, after-read-plain.read_plain.auto.1.1.0))
 
 same_length : tie.Need-same-length
 same_length c = search rules
@@ -29,8 +29,8 @@ returns c =
     let after-read-effects = c.before.before in
     let after-word = after-read-effects.before in
     let after-read-plain = after-word.before.before.before.before.before in
-    row-counted _ _ _ (after-read-plain.read_plain.ensures _ plain-effects)
-    after-word.word.ensures.0 (effects-follow _) after-read-effects.read-effects.ensures
+    row_counted _ _ _ (after-read-plain.read_plain.ensures _ plain_effects)
+    after-word.word.ensures.0 (effects_follow _) after-read-effects.read-effects.ensures
 
 pub count-effects-spec : {M : Type 1} → statement M
 count-effects-spec =

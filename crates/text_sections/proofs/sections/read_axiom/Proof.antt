@@ -1,7 +1,7 @@
 -- `read_axiom` meets its contract: its lines are read in turn. Assumes nothing.
 use mathlib.Core.Path.{refl}
 use mathlib.Core.List.{[]}
-use Rattle.text_sections.proofs.CountLaws.{counted-conditions}
+use Rattle.text_sections.proofs.CountLaws.{counted_conditions}
 use Rattle.form.proofs.ReadsLaws.{reads_then}
 use borrow.Author.Rules.{rules}
 use native.Mathlib.Omega.{arith}
@@ -24,7 +24,7 @@ read-head-requires : tie.Need-read-head-requires
 read-head-requires c κs =
     let after-count-facts = c.before.before.before in
     let start = after-count-facts.before.before.before.before.before.before in (
-      (after-count-facts.count-facts.ensures _ counted-conditions).within,
+      (after-count-facts.count-facts.ensures _ counted_conditions).within,
       omega (arith, start.requires.1, after-count-facts.count-facts.auto.1.1.0),
     )
 
@@ -43,7 +43,7 @@ returns c =
     let after-count-facts = after-read-head.before.before.before.before in
     let after-keyword = after-count-facts.before.before in
     reads_then (after-keyword.keyword.ensures _)
-    (reads_then (after-count-facts.count-facts.ensures _ counted-conditions)
+    (reads_then (after-count-facts.count-facts.ensures _ counted_conditions)
     (reads_then after-read-head.read_head.ensures (c.keyword2.ensures _)))
 
 pub read-axiom-spec : {M : Type 1} → statement M

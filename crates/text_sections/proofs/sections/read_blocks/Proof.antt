@@ -3,21 +3,21 @@
 use Prim.Native.Nat.{◌-◌}
 use lib.ListN.{length}
 use mathlib.Core.Path.{◌≡◌, refl, ◌∙◌}
-use Rattle.text_sections.specs.between.Sections.{block-lines}
-use Rattle.form.proofs.ReadsLaws.{Left, repeats-begin, repeats-more, repeats-stopped, repeats-over}
+use Rattle.text_sections.specs.Between.Sections.{block_lines}
+use Rattle.form.proofs.ReadsLaws.{Left, repeats_begin, repeats_more, repeats_stopped, repeats_over}
 use borrow.Author.Rules.{rules}
 use native.Mathlib.Omega.{arith}
 use Rattle.text_sections.proofs.sections.read_blocks.Statement.{statement}
 use Rattle.text_sections.proofs.sections.read_blocks.Tie as tie
 
 abbrev invariant-loop : tie.invariant-loop
-invariant-loop text tape₀ block n current₀ i₀ tape current i = Left i n (block-lines block) text current₀ tape₀ current tape × (length tape ≡ length tape₀)
+invariant-loop text tape₀ block n current₀ i₀ tape current i = Left i n (block_lines block) text current₀ tape₀ current tape × (length tape ≡ length tape₀)
 
 abbrev decreases-loop : tie.decreases-loop
 decreases-loop text tape₀ block n current₀ i₀ tape current i = n - i
 
 loop-holds : tie.Need-loop-init invariant-loop decreases-loop
-loop-holds c = (repeats-begin _ _ c.before.before.requires.0, refl)
+loop-holds c = (repeats_begin _ _ c.before.before.requires.0, refl)
 
 same_length : tie.Need-same-length invariant-loop decreases-loop
 same_length c = search rules
@@ -25,7 +25,7 @@ same_length c = search rules
 returns : tie.Need-returns invariant-loop decreases-loop
 returns c =
     let turn = c.before.before.before in
-    repeats-stopped _ _ _ turn.loop.invariant.0 c.if1.true
+    repeats_stopped _ _ _ turn.loop.invariant.0 c.if1.true
 
 read-block-requires : tie.Need-read-block-requires invariant-loop decreases-loop
 read-block-requires c κs =
@@ -44,7 +44,7 @@ loop-again c =
     let after-read-block = c.before.before in
     let after-loop-test = after-read-block.before.before.before.before in
     let turn = after-loop-test.before in (
-      repeats-more _ _ _ turn.loop.invariant.0 after-loop-test.loop-test.true after-read-block.read-block.ensures,
+      repeats_more _ _ _ turn.loop.invariant.0 after-loop-test.loop-test.true after-read-block.read-block.ensures,
       after-read-block.read-block.auto.1.1.0 ∙ turn.loop.invariant.1,
     )
 
@@ -54,7 +54,7 @@ same-length-2 c = search rules
 returns-2 : tie.Need-returns-2 invariant-loop decreases-loop
 returns-2 c =
     let turn = c.before in
-    repeats-over _ _ _ turn.loop.invariant.0 c.loop-test.false
+    repeats_over _ _ _ turn.loop.invariant.0 c.loop-test.false
 
 pub read-blocks-spec : {M : Type 1} → statement M
 read-blocks-spec =

@@ -1,7 +1,7 @@
 -- `read_goal` meets its contract: its lines are read in turn. Assumes nothing.
 use mathlib.Core.Path.{refl}
 use mathlib.Core.List.{[]}
-use Rattle.text_sections.proofs.CountLaws.{counted-facts}
+use Rattle.text_sections.proofs.CountLaws.{counted_facts}
 use Rattle.form.proofs.ReadsLaws.{reads_then}
 use borrow.Author.Rules.{rules}
 use Rattle.text_sections.proofs.sections.read_goal.Statement.{statement}
@@ -23,7 +23,7 @@ slice-aggregate-keyword-2 : tie.Need-slice-aggregate-keyword-2
 slice-aggregate-keyword-2 c = search rules
 
 keyword-requires-2 : tie.Need-keyword-requires-2
-keyword-requires-2 c κs = ((c.before.before.before.count-facts.ensures _ counted-facts).within, refl)
+keyword-requires-2 c κs = ((c.before.before.before.count-facts.ensures _ counted_facts).within, refl)
 
 same_length : tie.Need-same-length
 same_length c = search rules
@@ -32,7 +32,7 @@ returns : tie.Need-returns
 returns c =
     let after-count-facts = c.before.before.before.before in
     let after-keyword = after-count-facts.before.before in
-    reads_then (after-keyword.keyword.ensures _) (reads_then (after-count-facts.count-facts.ensures _ counted-facts) (c.keyword2.ensures _))
+    reads_then (after-keyword.keyword.ensures _) (reads_then (after-count-facts.count-facts.ensures _ counted_facts) (c.keyword2.ensures _))
 
 pub read-goal-spec : {M : Type 1} → statement M
 read-goal-spec =

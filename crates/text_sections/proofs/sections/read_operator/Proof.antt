@@ -2,8 +2,8 @@
 use mathlib.Core.Path.{refl}
 use mathlib.Core.List.{[]}
 use Rattle.number_rows.proofs.RowLaws.{plain_value}
-use Rattle.text_sections.proofs.CountLaws.{counted-facts}
-use Rattle.form.proofs.ReadsLaws.{reads_then, row-alone}
+use Rattle.text_sections.proofs.CountLaws.{counted_facts}
+use Rattle.form.proofs.ReadsLaws.{reads_then, row_alone}
 use borrow.Author.Rules.{rules}
 use native.Mathlib.Omega.{arith}
 use Rattle.text_sections.proofs.sections.read_operator.Statement.{statement}
@@ -28,7 +28,7 @@ count-effects-requires : tie.Need-count-effects-requires
 count-effects-requires c κs =
     let after-count-facts = c.before.before.before in
     let start = after-count-facts.before.before.before.before.before.before.before in
-    ((after-count-facts.count-facts.ensures _ counted-facts).within, omega (arith, start.requires.1, after-count-facts.count-facts.auto.1.1.0))
+    ((after-count-facts.count-facts.ensures _ counted_facts).within, omega (arith, start.requires.1, after-count-facts.count-facts.auto.1.1.0))
 
 read-plain-requires : tie.Need-read-plain-requires
 read-plain-requires c κs =
@@ -57,9 +57,9 @@ returns c =
     let after-keyword = after-name.before in
     reads_then (after-keyword.keyword.ensures _)
     (reads_then (after-name.name.ensures _)
-    (reads_then (after-count-facts.count-facts.ensures _ counted-facts)
+    (reads_then (after-count-facts.count-facts.ensures _ counted_facts)
     (reads_then after-count-effects.count-effects.ensures
-    (reads_then (row-alone _ (λ x. refl) (after-read-plain.read_plain.ensures _ plain_value)) (c.keyword2.ensures _)))))
+    (reads_then (row_alone _ (λ x. refl) (after-read-plain.read_plain.ensures _ plain_value)) (c.keyword2.ensures _)))))
 
 pub read-operator-spec : {M : Type 1} → statement M
 read-operator-spec =

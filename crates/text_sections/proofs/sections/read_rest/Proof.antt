@@ -1,6 +1,6 @@
 -- `read_rest` meets its contract: the sections are read in turn. Assumes nothing.
 use mathlib.Core.Path.{◌∙◌}
-use Rattle.text_sections.proofs.CountLaws.{counted-groups, counted-operators}
+use Rattle.text_sections.proofs.CountLaws.{counted_groups, counted_operators}
 use Rattle.form.proofs.ReadsLaws.{reads_then}
 use native.Mathlib.Omega.{arith}
 use Rattle.text_sections.proofs.sections.read_rest.Statement.{statement}
@@ -22,7 +22,7 @@ read-state-requires c κs =
     let after-count-blocks = c.before.before.before in
     let after-read-blocks = after-count-blocks.before.before.before.before in
     let start = after-read-blocks.before.before.before.before in (
-      (after-count-blocks.count-blocks.ensures _ counted-groups).within,
+      (after-count-blocks.count-blocks.ensures _ counted_groups).within,
       omega (arith, start.requires.1, after-read-blocks.read-blocks.auto.1.1.0, after-count-blocks.count-blocks.auto.1.1.0),
     )
 
@@ -55,7 +55,7 @@ count-axioms-requires c κs =
     let after-count-blocks = after-read-state.before.before.before.before in
     let after-read-blocks = after-count-blocks.before.before.before.before in
     let start = after-read-blocks.before.before.before.before in (
-      (after-count-blocks2.count-blocks2.ensures _ counted-operators).within,
+      (after-count-blocks2.count-blocks2.ensures _ counted_operators).within,
       omega (arith, start.requires.1, after-read-blocks.read-blocks.auto.1.1.0, after-count-blocks.count-blocks.auto.1.1.0, after-read-state.read-state.auto.1.1.0, after-read-goal.read-goal.auto.1.1.0, after-count-blocks2.count-blocks2.auto.1.1.0),
     )
 
@@ -83,10 +83,10 @@ returns c =
     let after-count-blocks = after-read-state.before.before.before.before in
     let after-read-blocks = after-count-blocks.before.before.before.before in
     reads_then after-read-blocks.read-blocks.ensures
-    (reads_then (after-count-blocks.count-blocks.ensures _ counted-groups)
+    (reads_then (after-count-blocks.count-blocks.ensures _ counted_groups)
     (reads_then after-read-state.read-state.ensures
     (reads_then after-read-goal.read-goal.ensures
-    (reads_then (after-count-blocks2.count-blocks2.ensures _ counted-operators) after-count-axioms.count-axioms.ensures))))
+    (reads_then (after-count-blocks2.count-blocks2.ensures _ counted_operators) after-count-axioms.count-axioms.ensures))))
 
 pub read-rest-spec : {M : Type 1} → statement M
 read-rest-spec =

@@ -1,6 +1,6 @@
 -- `read_all` meets its contract: what comes before the number of variables, that number, and what follows it are read in turn. Assumes nothing.
-use Rattle.text_sections.proofs.CountLaws.{plain-variables, variables-follow}
-use Rattle.form.proofs.ReadsLaws.{reads_then, row-counted}
+use Rattle.text_sections.proofs.CountLaws.{plain_variables, variables_follow}
+use Rattle.form.proofs.ReadsLaws.{reads_then, row_counted}
 use borrow.Author.Rules.{rules}
 use native.Mathlib.Omega.{arith}
 use Rattle.text_sections.proofs.text.read_all.Statement.{statement}
@@ -26,7 +26,7 @@ read-rest-requires c κs =
     let after-read-plain = c.before.before.before.before.before in
     let after-read-front = after-read-plain.before.before.before.before in
     let start = after-read-front.before.before.before.before in (
-      (after-read-plain.read_plain.ensures _ plain-variables).within,
+      (after-read-plain.read_plain.ensures _ plain_variables).within,
       omega (arith, start.requires.1, after-read-front.read-front.auto.1.1.0, after-read-plain.read_plain.auto.1.1.0),
     )
 
@@ -40,7 +40,7 @@ returns c =
     let after-read-plain = after-word.before.before.before.before.before in
     let after-read-front = after-read-plain.before.before.before.before in
     reads_then after-read-front.read-front.ensures
-    (row-counted _ _ _ (after-read-plain.read_plain.ensures _ plain-variables) after-word.word.ensures.0 (variables-follow _) after-read-rest.read-rest.ensures)
+    (row_counted _ _ _ (after-read-plain.read_plain.ensures _ plain_variables) after-word.word.ensures.0 (variables_follow _) after-read-rest.read-rest.ensures)
 
 pub read-all-spec : {M : Type 1} → statement M
 read-all-spec =

@@ -1,5 +1,5 @@
 -- `read_text` meets its contract: a law for each way to a return, by the length of the text and where its reading ends. Assumes nothing.
-use Rattle.text_sections.proofs.FormLaws.{within-start, found-long, found-broken, found-over, found-whole}
+use Rattle.text_sections.proofs.FormLaws.{within_start, found_long, found_broken, found_over, found_whole}
 use borrow.Author.Rules.{rules}
 use Rattle.text_sections.proofs.text.read_text.Statement.{statement}
 use Rattle.text_sections.proofs.text.read_text.Tie as tie
@@ -8,7 +8,7 @@ mul-if1 : tie.Need-overflow-mul-if1
 mul-if1 c = search rules
 
 returns : tie.Need-returns
-returns c = found-long _ _ c.if1.true
+returns c = found_long _ _ c.if1.true
 
 start-requires : tie.Need-start-requires
 start-requires c κs = search rules
@@ -17,7 +17,7 @@ read-all-requires : tie.Need-read-all-requires
 read-all-requires c κs =
     let after-start = c.before in
     let after-if1 = after-start.before in
-    (within-start _ after-start.start.ensures, after-if1.if1.false)
+    (within_start _ after-start.start.ensures, after-if1.if1.false)
 
 same_length : tie.Need-same-length
 same_length c = search rules
@@ -27,7 +27,7 @@ returns-2 c =
     let after-read-all = c.before.before.before.before in
     let after-start = after-read-all.before.before in
     let after-if1 = after-start.before in
-    found-broken _ after-if1.if1.false after-start.start.ensures after-read-all.read_all.ensures c.if2.true
+    found_broken _ after-if1.if1.false after-start.start.ensures after-read-all.read_all.ensures c.if2.true
 
 add-t11 : tie.Need-overflow-add-t11
 add-t11 c = search rules
@@ -42,7 +42,7 @@ returns-3 c =
     let after-read-all = after-if2.before.before.before.before in
     let after-start = after-read-all.before.before in
     let after-if1 = after-start.before in
-    found-over _ after-if1.if1.false after-start.start.ensures after-read-all.read_all.ensures after-if2.if2.false after-if3.if3.true
+    found_over _ after-if1.if1.false after-start.start.ensures after-read-all.read_all.ensures after-if2.if2.false after-if3.if3.true
 
 same-length-3 : tie.Need-same-length-3
 same-length-3 c = search rules
@@ -53,7 +53,7 @@ returns-4 c =
     let after-read-all = after-if2.before.before.before.before in
     let after-start = after-read-all.before.before in
     let after-if1 = after-start.before in
-    found-whole _ after-if1.if1.false after-start.start.ensures after-read-all.read_all.ensures after-if2.if2.false c.if3.false
+    found_whole _ after-if1.if1.false after-start.start.ensures after-read-all.read_all.ensures after-if2.if2.false c.if3.false
 
 pub read-text-spec : {M : Type 1} → statement M
 read-text-spec =

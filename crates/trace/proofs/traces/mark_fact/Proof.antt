@@ -1,5 +1,5 @@
 -- `mark_fact` meets its contract: three words of the variable are put. Assumes nothing.
-use Rattle.trace.proofs.TraceLaws.{latest-put}
+use Rattle.trace.proofs.TraceLaws.{latest_put}
 use borrow.Author.Rules.{rules}
 use Rattle.trace.proofs.traces.mark_fact.Statement.{statement}
 use Rattle.trace.proofs.traces.mark_fact.Tie as tie
@@ -32,7 +32,7 @@ same_length : tie.Need-same-length
 same_length c = search rules
 
 returns : tie.Need-returns
-returns c = latest-put _ _ _ _ _ _ _ c.before.before.before.before.before.before.before.before.before.before.before.before.until.ensures c.before.before.before.before.before.before.before.before.before.before.put.ensures c.before.before.before.before.before.before.put2.ensures c.before.before.put3.ensures
+returns c = latest_put _ _ _ _ _ _ _ c.before.before.before.before.before.before.before.before.before.before.before.before.until.ensures c.before.before.before.before.before.before.before.before.before.before.put.ensures c.before.before.before.before.before.before.put2.ensures c.before.before.put3.ensures
 
 pub mark-fact-spec : {M : Type 1} → statement M
 mark-fact-spec =

@@ -1,5 +1,5 @@
 -- `mark_first` meets its contract, by whether the effect has a condition. Assumes nothing.
-use Rattle.trace.proofs.TraceLaws.{marked-not, marked-first}
+use Rattle.trace.proofs.TraceLaws.{marked_not, marked_first}
 use borrow.Author.Rules.{rules}
 use Rattle.trace.proofs.traces.mark_first.Statement.{statement}
 use Rattle.trace.proofs.traces.mark_first.Tie as tie
@@ -8,7 +8,7 @@ condition-requires : tie.Need-condition-requires
 condition-requires c κs = search rules
 
 returns : tie.Need-returns
-returns c = marked-not _ _ _ _ _ c.before.before.condition.ensures c.if1.true
+returns c = marked_not _ _ _ _ _ c.before.before.condition.ensures c.if1.true
 
 first-requires : tie.Need-first-requires
 first-requires c κs = search rules
@@ -21,7 +21,7 @@ same_length c = search rules
 
 returns-2 : tie.Need-returns-2
 returns-2 c =
-    marked-first _ _ _ _ _ c.before.before.before.before.before.before.before.condition.ensures c.before.before.before.before.before.if1.false
+    marked_first _ _ _ _ _ c.before.before.before.before.before.before.before.condition.ensures c.before.before.before.before.before.if1.false
     _ _ c.before.before.before.first.ensures.0 c.before.before.mark-fact.ensures
 
 pub mark-first-spec : {M : Type 1} → statement M

@@ -1,5 +1,5 @@
 -- `note_fact` meets its contract: the step is the fact's last writer already, or becomes it. Assumes nothing.
-use Rattle.trace.proofs.TraceLaws.{wrote-already, wrote-new}
+use Rattle.trace.proofs.TraceLaws.{wrote_already, wrote_new}
 use borrow.Author.Rules.{rules}
 use Rattle.trace.proofs.traces.note_fact.Statement.{statement}
 use Rattle.trace.proofs.traces.note_fact.Tie as tie
@@ -14,7 +14,7 @@ same_length : tie.Need-same-length
 same_length c = search rules
 
 returns : tie.Need-returns
-returns c = wrote-already _ _ _ _ _ c.before.byte.ensures c.if1.true
+returns c = wrote_already _ _ _ _ _ c.before.byte.ensures c.if1.true
 
 until-requires : tie.Need-until-requires
 until-requires c κs = search rules
@@ -36,7 +36,7 @@ same-length-2 c = search rules
 
 returns-2 : tie.Need-returns-2
 returns-2 c =
-    wrote-new _ _ _ _ _ c.before.before.before.before.before.before.before.before.before.before.before.byte.ensures c.before.before.before.before.before.before.before.before.before.before.if1.false _ _ _ _ c.before.before.before.before.before.before.before.before.before.until.ensures c.before.before.before.before.before.before.before.support.ensures c.before.before.before.before.before.before.put8.ensures
+    wrote_new _ _ _ _ _ c.before.before.before.before.before.before.before.before.before.before.before.byte.ensures c.before.before.before.before.before.before.before.before.before.before.if1.false _ _ _ _ c.before.before.before.before.before.before.before.before.before.until.ensures c.before.before.before.before.before.before.before.support.ensures c.before.before.before.before.before.before.put8.ensures
     c.before.before.put82.ensures
 
 pub note-fact-spec : {M : Type 1} → statement M

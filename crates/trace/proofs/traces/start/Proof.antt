@@ -1,6 +1,6 @@
 -- `start` meets its contract. The loop's invariant: the words of the first variables are written. The measure is the number of variables left. Assumes nothing.
-use Rattle.trace.proofs.TraceLaws.{Starting, starting-none, starting-more, starting-all}
-use Rattle.trace.specs.between.Traces.{started}
+use Rattle.trace.proofs.TraceLaws.{Starting, starting_none, starting_more, starting_all}
+use Rattle.trace.specs.Between.Traces.{started}
 use mathlib.Core.Path.{◌∙◌, ap}
 use Prim.Native.Nat.{◌-◌}
 use borrow.Author.Rules.{rules}
@@ -17,7 +17,7 @@ initial-requires : tie.Need-initial-requires invariant-loop decreases-loop
 initial-requires c κs = search rules
 
 loop-holds : tie.Need-loop-init invariant-loop decreases-loop
-loop-holds c = starting-none _
+loop-holds c = starting_none _
 
 mul-latest : tie.Need-overflow-mul-latest invariant-loop decreases-loop
 mul-latest c = search rules
@@ -68,10 +68,10 @@ loop-less : tie.Need-loop-smaller invariant-loop decreases-loop
 loop-less c = search rules
 
 loop-again : tie.Need-loop-preserved invariant-loop decreases-loop
-loop-again c = starting-more _ _ _ c.before.loop.invariant c.loop-test.true
+loop-again c = starting_more _ _ _ c.before.loop.invariant c.loop-test.true
 
 returns : tie.Need-returns invariant-loop decreases-loop
-returns c = starting-all _ _ _ c.before.loop.invariant c.loop-test.false ∙ ap (λ values. started values 64) c.before.before.initial.ensures
+returns c = starting_all _ _ _ c.before.loop.invariant c.loop-test.false ∙ ap (λ values. started values 64) c.before.before.initial.ensures
 
 pub start_spec : {M : Type 1} → statement M
 start_spec =

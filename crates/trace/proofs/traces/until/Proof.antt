@@ -1,5 +1,5 @@
 -- `until` meets its contract. Assumes nothing.
-use Rattle.trace.proofs.TraceLaws.{until-same, until-other}
+use Rattle.trace.proofs.TraceLaws.{until_same, until_other}
 use borrow.Author.Rules.{rules}
 use Rattle.trace.proofs.traces.until.Statement.{statement}
 use Rattle.trace.proofs.traces.until.Tie as tie
@@ -23,10 +23,10 @@ word-requires-3 : tie.Need-word-requires-3
 word-requires-3 c κs = search rules
 
 returns : tie.Need-returns
-returns c = until-same _ _ _ _ c.before.before.word.ensures.0 c.before.if1.true c.word2.ensures.0
+returns c = until_same _ _ _ _ c.before.before.word.ensures.0 c.before.if1.true c.word2.ensures.0
 
 returns-2 : tie.Need-returns-2
-returns-2 c = until-other _ _ _ _ c.before.before.word.ensures.0 c.before.if1.false c.word3.ensures.0
+returns-2 c = until_other _ _ _ _ c.before.before.word.ensures.0 c.before.if1.false c.word3.ensures.0
 
 pub until-spec : {M : Type 1} → statement M
 until-spec =

@@ -1,6 +1,6 @@
 -- `refuse` meets its contract: a line is said, and nothing is written. Assumes nothing.
-use Rattle.lines.proofs.PrintLaws.{prints-both}
-use Rattle.translate.proofs.SayLaws.{answers-saying}
+use Rattle.lines.proofs.PrintLaws.{prints_both}
+use Rattle.translate.proofs.SayLaws.{answers_saying}
 use borrow.Author.Rules.{rules}
 use Rattle.translate.proofs.answer.refuse.Statement.{statement}
 use Rattle.translate.proofs.answer.refuse.Tie as tie
@@ -18,7 +18,7 @@ same_length : tie.Need-same-length
 same_length c = search rules
 
 returns : tie.Need-returns
-returns c = λ out. answers-saying c.before.before.before.before.before.before.before.before.before.before.before.args.what.now out (prints-both c.before.before.before.before.before.before.before.put-text.ensures c.before.before.put-text2.ensures)
+returns c = λ out. answers_saying c.before.before.before.before.before.before.before.before.before.before.before.args.what.now out (prints_both c.before.before.before.before.before.before.before.put-text.ensures c.before.before.put-text2.ensures)
 
 pub refuse-spec : {M : Type 1} → statement M
 refuse-spec =

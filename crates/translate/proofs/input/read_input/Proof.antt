@@ -5,7 +5,7 @@ use mathlib.Core.Path.{◌≡◌}
 use native.Mathlib.Omega.{arith}
 use borrow.Author.Rules.{rules}
 use lib.ListN.{length}
-use Rattle.translate.proofs.InputLaws.{read-no-more, read-full}
+use Rattle.translate.proofs.InputLaws.{read_no_more, read_full}
 use Rattle.translate.proofs.input.read_input.Statement.{statement}
 use Rattle.translate.proofs.input.read_input.Tie as tie
 
@@ -46,7 +46,7 @@ same_length : tie.Need-same-length invariant-loop decreases-loop
 same_length c = search rules
 
 returns : tie.Need-returns invariant-loop decreases-loop
-returns c = read-no-more _ _ _ _ _ (search rules) (search rules) c.before.count.ensures.1 c.if1.true
+returns c = read_no_more _ _ _ _ _ (search rules) (search rules) c.before.count.ensures.1 c.if1.true
 
 add-have : tie.Need-overflow-add-have invariant-loop decreases-loop
 add-have c = search rules
@@ -61,7 +61,7 @@ same-length-2 : tie.Need-same-length-2 invariant-loop decreases-loop
 same-length-2 c = search rules
 
 returns-2 : tie.Need-returns-2 invariant-loop decreases-loop
-returns-2 c = read-full _ _ _ (omega arith)
+returns-2 c = read_full _ _ _ (omega arith)
 
 pub read-input-spec : {M : Type 1} → statement M
 read-input-spec =

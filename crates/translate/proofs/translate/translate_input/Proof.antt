@@ -1,5 +1,5 @@
 -- `translate_input` meets its contract, by whether a read failed. Assumes nothing.
-use Rattle.translate.proofs.TranslateLaws.{done-read, done-failed}
+use Rattle.translate.proofs.TranslateLaws.{done_read, done_failed}
 use borrow.Author.Rules.{rules}
 use Rattle.translate.proofs.translate.translate_input.Statement.{statement}
 use Rattle.translate.proofs.translate.translate_input.Tie as tie
@@ -21,7 +21,7 @@ same-length-2 c = search rules
 
 returns : tie.Need-returns
 returns c =
-    done-failed _ _ _ _ _ _ _ c.before.before.before.before.before.before.before.before.before.read-input.ensures
+    done_failed _ _ _ _ _ _ _ c.before.before.before.before.before.before.before.before.before.read-input.ensures
     (record { sfits = c.before.before.before.before.before.before.struct_told.given.1.0.1 })
     c.before.before.before.before.before.if1.true (c.before.before.refuse.ensures _)
 
@@ -45,7 +45,7 @@ same-length-5 c = search rules
 
 returns-2 : tie.Need-returns-2
 returns-2 c =
-    done-read _ _ _ _ _ _ _ c.before.before.before.before.before.before.before.before.before.before.before.before.read-input.ensures
+    done_read _ _ _ _ _ _ _ c.before.before.before.before.before.before.before.before.before.before.before.before.read-input.ensures
     (record { sfits = c.before.before.before.before.before.before.before.before.before.struct_told.given.1.0.1 })
     c.before.before.before.before.before.before.before.before.if1.false
     c.before.before.before.before.translate-text.ensures

@@ -1,6 +1,6 @@
 -- `translate_text` meets its contract, by what the service tells of the text. Assumes nothing.
 use mathlib.Core.Path.{refl}
-use Rattle.translate.proofs.TranslateLaws.{gives-refusal, gives-sheet}
+use Rattle.translate.proofs.TranslateLaws.{gives_refusal, gives_sheet}
 use borrow.Author.Rules.{rules}
 use Rattle.translate.proofs.translate.translate_text.Statement.{statement}
 use Rattle.translate.proofs.translate.translate_text.Tie as tie
@@ -34,7 +34,7 @@ same_length c = search rules
 
 returns : tie.Need-returns
 returns c =
-    gives-refusal _ _ _ _ refl c.before.before.before.before.before.before.before.before.translate.ensures.0 _ _
+    gives_refusal _ _ _ _ refl c.before.before.before.before.before.before.before.before.translate.ensures.0 _ _
     c.before.before.before.before.before.sheet.given.1 c.before.before.put-refusal.ensures.0
     c.before.before.put-refusal.ensures.1
 
@@ -43,7 +43,7 @@ same-length-2 c = search rules
 
 returns-2 : tie.Need-returns-2
 returns-2 c =
-    gives-sheet _ _ _ _ refl c.before.before.before.before.before.before.before.before.before.before.translate.ensures.0 _ _ _
+    gives_sheet _ _ _ _ refl c.before.before.before.before.before.before.before.before.before.before.translate.ensures.0 _ _ _
     c.before.before.before.before.before.before.before.sheet2.given.1
     c.before.before.before.before.front.ensures c.before.before.pack.ensures
 

@@ -1,5 +1,5 @@
 -- `run_checks` meets its contract: a law for each way to a return, by the form of the text. Assumes nothing.
-use Rattle.translation.proofs.TranslationLaws.{translates-broken, translates-barred, translates-task}
+use Rattle.translation.proofs.TranslationLaws.{translates_broken, translates_barred, translates_task}
 use borrow.Author.Rules.{rules}
 use Rattle.translation.proofs.translate.run_checks.Statement.{statement}
 use Rattle.translation.proofs.translate.run_checks.Tie as tie
@@ -24,7 +24,7 @@ returns c =
     let after-before = c.before.before in
     let after-before-5 = after-before.before.before.before in
     let after-number-room = after-before-5.before.before in
-    translates-barred _ after-number-room.number-room.ensures _ _ _ _ (rw after-before.read2.given.1 at after-before-5.read-text.ensures)
+    translates_barred _ after-number-room.number-room.ensures _ _ _ _ (rw after-before.read2.given.1 at after-before-5.read-text.ensures)
     c.if1.true
 
 slice-aggregate-front : tie.Need-slice-aggregate-front
@@ -41,7 +41,7 @@ returns-2 c =
     let after-before = c.before in
     let after-before-4 = after-before.before.before.before in
     let after-number-room = after-before-4.before.before in
-    translates-broken _ after-number-room.number-room.ensures _ _ _ (rw after-before.read.given.1 at after-before-4.read-text.ensures)
+    translates_broken _ after-number-room.number-room.ensures _ _ _ (rw after-before.read.given.1 at after-before-4.read-text.ensures)
 
 same_length : tie.Need-same-length
 same_length c = search rules
@@ -54,7 +54,7 @@ returns-3 c =
     let after-before-8 = after-before-6.before.before in
     let after-before-11 = after-before-8.before.before.before in
     let after-number-room = after-before-11.before.before in
-    translates-task _ after-number-room.number-room.ensures _ _ _ _ (rw after-before-8.read2.given.1 at after-before-11.read-text.ensures)
+    translates_task _ after-number-room.number-room.ensures _ _ _ _ (rw after-before-8.read2.given.1 at after-before-11.read-text.ensures)
     after-before-6.if1.false _ _ (rw after-before-4.front.ensures at after-before.write-task.ensures)
 
 pub run-checks-spec : {M : Type 1} → statement M

@@ -5,7 +5,7 @@ use Rattle.sheet.specs.Limits.{limits}
 use mathlib.Core.Path.{◌∙◌, ap}
 use lib.ListN.{length-replicate}
 use lib.Seq.{sets}
-use Rattle.translation.proofs.TranslationLaws.{writes-unfit, writes_short, writes-sheet}
+use Rattle.translation.proofs.TranslationLaws.{writes_unfit, writes_short, writes_sheet}
 use borrow.Author.Rules.{rules}
 use Rattle.translation.proofs.translate.write_task.Statement.{statement}
 use Rattle.translation.proofs.translate.write_task.Tie as tie
@@ -38,11 +38,11 @@ returns-2 c =
     let after-before-6 = after-before-3.before.before.before in
     let after-before-7 = after-before-6.before in
     let after-build = after-before-7.before.before in
-    writes-sheet after-build.build.ensures _ after-before-7.if1.true (omega (arith, length-replicate {A = ℕ} limits.words 0))
+    writes_sheet after-build.build.ensures _ after-before-7.if1.true (omega (arith, length-replicate {A = ℕ} limits.words 0))
     after-before-6.if2.false _ (after-before.put_all_lem.ensures ∙ ap (sets _ 0) after-before-3.front.ensures)
 
 returns-3 : tie.Need-returns-3
-returns-3 c = writes-unfit c.before.before.build.ensures _ c.if1.false
+returns-3 c = writes_unfit c.before.before.build.ensures _ c.if1.false
 
 pub write-task-spec : {M : Type 1} → statement M
 write-task-spec =

@@ -1,5 +1,5 @@
 -- `do_or_strike` meets its contract: the step is done, or can't be. Assumes nothing.
-use Rattle.trial.proofs.TrialWalkLaws.{turns-done, turns-struck}
+use Rattle.trial.proofs.TrialWalkLaws.{turns_done, turns_struck}
 use borrow.Author.Rules.{rules}
 use Rattle.trial.proofs.walk.do_or_strike.Statement.{statement}
 use Rattle.trial.proofs.walk.do_or_strike.Tie as tie
@@ -11,7 +11,7 @@ same_length : tie.Need-same-length
 same_length c = search rules
 
 returns : tie.Need-returns
-returns c = turns-done _ _ _ _ _ _ _ _ c.before.before.before.before.before.before.before.before.requires.0 c.before.before.before.advance.ensures c.if1.true
+returns c = turns_done _ _ _ _ _ _ _ _ c.before.before.before.before.before.before.before.before.requires.0 c.before.before.before.advance.ensures c.if1.true
 
 strike-requires : tie.Need-strike-requires
 strike-requires c κs = search rules
@@ -29,7 +29,7 @@ same-length-3 : tie.Need-same-length-3
 same-length-3 c = search rules
 
 returns-2 : tie.Need-returns-2
-returns-2 c = let tested = c.before.before.before.before.before.before in turns-struck _ _ _ _ _ _ _ _ _ _ _ tested.before.before.before.before.before.before.before.before.requires.0 tested.before.before.before.advance.ensures tested.if1.false c.before.before.before.before.strike.ensures c.before.cost.ensures.0 c.add.ensures
+returns-2 c = let tested = c.before.before.before.before.before.before in turns_struck _ _ _ _ _ _ _ _ _ _ _ tested.before.before.before.before.before.before.before.before.requires.0 tested.before.before.before.advance.ensures tested.if1.false c.before.before.before.before.strike.ensures c.before.cost.ensures.0 c.add.ensures
 
 pub do-or-strike-spec : {M : Type 1} → statement M
 do-or-strike-spec =

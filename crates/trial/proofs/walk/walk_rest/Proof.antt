@@ -4,7 +4,7 @@ use native.Mathlib.Omega.{arith}
 use mathlib.Core.Path.{◌≡◌, refl, ◌∙◌}
 use Prim.Native.Nat.{◌-◌}
 use lib.ListN.{length}
-use Rattle.trial.proofs.TrialWalkLaws.{turns-skip, Along, along-start, along-turn, along-walks}
+use Rattle.trial.proofs.TrialWalkLaws.{turns_skip, Along, along_start, along_turn, along_walks}
 use Rattle.trial.proofs.walk.walk_rest.Statement.{statement}
 use Rattle.trial.proofs.walk.walk_rest.Tie as tie
 
@@ -16,7 +16,7 @@ abbrev decreases-loop : tie.decreases-loop
 decreases-loop words plan flags₀ state₀ i struck j₀ flags state tally j = length plan - j
 
 loop-holds : tie.Need-loop-init invariant-loop decreases-loop
-loop-holds c = (refl, along-start _ _ _ _ _ _)
+loop-holds c = (refl, along_start _ _ _ _ _ _)
 
 slice-read-if1 : tie.Need-slice-read-if1 invariant-loop decreases-loop
 slice-read-if1 c = let turn = c.before.before in omega (arith, turn.loop.invariant.1.long, turn.before.before.before.before.before.requires, c.before.loop-test.true)
@@ -39,7 +39,7 @@ loop-less c = search rules
 loop-again : tie.Need-loop-preserved invariant-loop decreases-loop
 loop-again c = let turn = c.before.before.before.before.before.before.before.before.before.before.before in let done = c.before.before.before.before.do-or-strike in (
   done.auto.1.1.0 ∙ turn.loop.invariant.0,
-  along-turn _ _ _ _ _ _ _ _ _ _ turn.loop.invariant.1 _ _ _ turn.before.before.before.before.before.requires.0
+  along_turn _ _ _ _ _ _ _ _ _ _ turn.loop.invariant.1 _ _ _ turn.before.before.before.before.before.requires.0
       c.before.before.before.before.before.before.before.before.before.before.loop-test.true done.auto.1.0 done.ensures,
 )
 
@@ -52,8 +52,8 @@ loop-less-2 c = search rules
 loop-again-2 : tie.Need-loop-preserved-2 invariant-loop decreases-loop
 loop-again-2 c = let turn = c.before.before.before in (
   turn.loop.invariant.0,
-  along-turn _ _ _ _ _ _ _ _ _ _ turn.loop.invariant.1 _ _ _ turn.before.before.before.before.before.requires.0 c.before.before.loop-test.true refl
-      (turns-skip _ _ _ _ _ _ c.if1.false),
+  along_turn _ _ _ _ _ _ _ _ _ _ turn.loop.invariant.1 _ _ _ turn.before.before.before.before.before.requires.0 c.before.before.loop-test.true refl
+      (turns_skip _ _ _ _ _ _ c.if1.false),
 )
 
 same_length : tie.Need-same-length invariant-loop decreases-loop
@@ -63,7 +63,7 @@ same-length-2 : tie.Need-same-length-2 invariant-loop decreases-loop
 same-length-2 c = c.before.loop.invariant.0
 
 returns : tie.Need-returns invariant-loop decreases-loop
-returns c = along-walks _ _ _ _ _ _ _ _ _ _ c.before.loop.invariant.1 c.loop-test.false
+returns c = along_walks _ _ _ _ _ _ _ _ _ _ c.before.loop.invariant.1 c.loop-test.false
 
 pub walk-rest-spec : {M : Type 1} → statement M
 walk-rest-spec =

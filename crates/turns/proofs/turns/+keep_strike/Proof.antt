@@ -7,7 +7,7 @@ use lib.ListN.{length}
 use borrow.Author.Rules.{rules}
 use borrow.Fn.Kinds.{In}
 use borrow.Fn.PlainCycle.{Measures, is, falls, and}
-use Rattle.turns.proofs.TurnsLaws.{both_told, kept-to-end, not-lower-at-end, lower-at-end, not-struck, struck-on, not-lower-kept, not-able, not-useful, kept_on}
+use Rattle.turns.proofs.TurnsLaws.{both_told, kept_to_end, not_lower_at_end, lower_at_end, not_struck, struck_on, not_lower_kept, not_able, not_useful, kept_on}
 use Rattle.turns.proofs.turns.keep.Reads as keep
 use Rattle.turns.proofs.turns.keep.Kinds as keep-kinds
 use Rattle.turns.proofs.turns.+keep_strike.Lts-keep as keep-lts
@@ -95,7 +95,7 @@ keep-holds-row-requires-2 : (t : ℕ) → keep-lts.Need-holds-row-requires-2 (ke
 keep-holds-row-requires-2 t c κs = search rules
 
 keep-returns : (t : ℕ) → keep-lts.Need-returns (keep-calls t) (keep_at t) keep.Post
-keep-returns t c = not-useful _ _ _ _ _ _ c.before.before.before.before.before.before.before.if1.true _ _ c.before.before.before.before.before.before.keep-step.ensures.0 c.before.before.before.before.before.before.keep-step.ensures.1 c.before.before.before.before.before.is-lower.ensures _ _ refl c.before.before.before.holds_row.ensures _ _ refl c.before.holds-row2.ensures c.if4.true
+keep-returns t c = not_useful _ _ _ _ _ _ c.before.before.before.before.before.before.before.if1.true _ _ c.before.before.before.before.before.before.keep-step.ensures.0 c.before.before.before.before.before.before.keep-step.ensures.1 c.before.before.before.before.before.is_lower.ensures _ _ refl c.before.before.before.holds_row.ensures _ _ refl c.before.holds-row2.ensures c.if4.true
 
 keep-add-write-row : (t : ℕ) → keep-lts.Need-overflow-add-write-row (keep-calls t) (keep_at t) keep.Post
 keep-add-write-row t c = search rules
@@ -116,16 +116,16 @@ keep-keep-requires : (t : ℕ) → keep-lts.Need-keep-requires (keep-calls t) (k
 keep-keep-requires t c κs = search rules
 
 keep-returns-2 : (t : ℕ) → keep-lts.Need-returns-2 (keep-calls t) (keep_at t) keep.Post
-keep-returns-2 t c = kept_on _ _ _ _ _ _ c.before.before.before.before.before.before.before.before.before.before.before.before.if1.true _ _ c.before.before.before.before.before.before.before.before.before.before.before.keep-step.ensures.0 c.before.before.before.before.before.before.before.before.before.before.before.keep-step.ensures.1 c.before.before.before.before.before.before.before.before.before.before.is-lower.ensures _ _ refl c.before.before.before.before.before.before.before.before.holds_row.ensures _ _ refl c.before.before.before.before.before.before.holds-row2.ensures _ _ _ c.before.before.before.before.before.before.before.before.before.if2.true c.before.before.before.before.before.before.before.if3.true c.before.before.before.before.before.if4.false refl c.before.before.before.before.write-row.ensures (both_told _ _ _ _ _ _ _ _ c.before.before.strike.ensures c.keep.ensures)
+keep-returns-2 t c = kept_on _ _ _ _ _ _ c.before.before.before.before.before.before.before.before.before.before.before.before.if1.true _ _ c.before.before.before.before.before.before.before.before.before.before.before.keep-step.ensures.0 c.before.before.before.before.before.before.before.before.before.before.before.keep-step.ensures.1 c.before.before.before.before.before.before.before.before.before.before.is_lower.ensures _ _ refl c.before.before.before.before.before.before.before.before.holds_row.ensures _ _ refl c.before.before.before.before.before.before.holds-row2.ensures _ _ _ c.before.before.before.before.before.before.before.before.before.if2.true c.before.before.before.before.before.before.before.if3.true c.before.before.before.before.before.if4.false refl c.before.before.before.before.write-row.ensures (both_told _ _ _ _ _ _ _ _ c.before.before.strike.ensures c.keep.ensures)
 
 keep-returns-3 : (t : ℕ) → keep-lts.Need-returns-3 (keep-calls t) (keep_at t) keep.Post
-keep-returns-3 t c = not-able _ _ _ _ _ _ c.before.before.before.before.before.if1.true _ _ c.before.before.before.before.keep-step.ensures.0 c.before.before.before.before.keep-step.ensures.1 c.before.before.before.is-lower.ensures _ _ refl c.before.holds_row.ensures c.if3.false
+keep-returns-3 t c = not_able _ _ _ _ _ _ c.before.before.before.before.before.if1.true _ _ c.before.before.before.before.keep-step.ensures.0 c.before.before.before.before.keep-step.ensures.1 c.before.before.before.is_lower.ensures _ _ refl c.before.holds_row.ensures c.if3.false
 
 keep-returns-4 : (t : ℕ) → keep-lts.Need-returns-4 (keep-calls t) (keep_at t) keep.Post
-keep-returns-4 t c = not-lower-kept _ _ _ _ _ _ c.before.before.before.if1.true _ _ c.before.before.keep-step.ensures.0 c.before.before.keep-step.ensures.1 c.before.is-lower.ensures c.if2.false
+keep-returns-4 t c = not_lower_kept _ _ _ _ _ _ c.before.before.before.if1.true _ _ c.before.before.keep-step.ensures.0 c.before.before.keep-step.ensures.1 c.before.is_lower.ensures c.if2.false
 
 keep-returns-5 : (t : ℕ) → keep-lts.Need-returns-5 (keep-calls t) (keep_at t) keep.Post
-keep-returns-5 t c = kept-to-end _ _ _ _ _ _ c.if1.false
+keep-returns-5 t c = kept_to_end _ _ _ _ _ _ c.if1.false
 
 strike-add-block : (t : ℕ) → strike-lts.Need-overflow-add-block (strike-calls t) (strike-at t) strike.Post
 strike-add-block t c = search rules
@@ -158,19 +158,19 @@ strike-keep-requires : (t : ℕ) → strike-lts.Need-keep-requires (strike-calls
 strike-keep-requires t c κs = search rules
 
 strike-returns : (t : ℕ) → strike-lts.Need-returns (strike-calls t) (strike-at t) strike.Post
-strike-returns t c = struck-on _ _ _ _ _ _ c.before.before.before.before.before.before.before.if1.true _ _ (add-zero _) c.before.before.before.before.before.before.holds_row.ensures _ _ _ c.before.before.before.before.before.if2.true refl c.before.before.before.before.write-row.ensures (both_told _ _ _ _ _ _ _ _ c.before.before.strike.ensures c.keep.ensures)
+strike-returns t c = struck_on _ _ _ _ _ _ c.before.before.before.before.before.before.before.if1.true _ _ (add-zero _) c.before.before.before.before.before.before.holds_row.ensures _ _ _ c.before.before.before.before.before.if2.true refl c.before.before.before.before.write-row.ensures (both_told _ _ _ _ _ _ _ _ c.before.before.strike.ensures c.keep.ensures)
 
 strike-returns-2 : (t : ℕ) → strike-lts.Need-returns-2 (strike-calls t) (strike-at t) strike.Post
-strike-returns-2 t c = not-struck _ _ _ _ _ _ c.before.before.if1.true _ _ (add-zero _) c.before.holds_row.ensures c.if2.false
+strike-returns-2 t c = not_struck _ _ _ _ _ _ c.before.before.if1.true _ _ (add-zero _) c.before.holds_row.ensures c.if2.false
 
 strike-is-lower-requires : (t : ℕ) → strike-lts.Need-is-lower-requires (strike-calls t) (strike-at t) strike.Post
 strike-is-lower-requires t c κs = search rules
 
 strike-returns-3 : (t : ℕ) → strike-lts.Need-returns-3 (strike-calls t) (strike-at t) strike.Post
-strike-returns-3 t c = lower-at-end _ _ _ _ _ _ c.before.before.if1.false _ c.before.is-lower.ensures c.if3.true
+strike-returns-3 t c = lower_at_end _ _ _ _ _ _ c.before.before.if1.false _ c.before.is_lower.ensures c.if3.true
 
 strike-returns-4 : (t : ℕ) → strike-lts.Need-returns-4 (strike-calls t) (strike-at t) strike.Post
-strike-returns-4 t c = not-lower-at-end _ _ _ _ _ _ c.before.before.if1.false _ c.before.is-lower.ensures c.if3.false
+strike-returns-4 t c = not_lower_at_end _ _ _ _ _ _ c.before.before.if1.false _ c.before.is_lower.ensures c.if3.false
 
 pub +keep-strike-spec : {M : Type 1} → statement M
 +keep-strike-spec = close μ-keep μ-strike (λ t. keep-lts.spec (keep-calls t)

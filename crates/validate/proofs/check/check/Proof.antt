@@ -1,5 +1,5 @@
 -- `check` meets its contract: the check of the plan, and what is printed of its answer. Assumes nothing.
-use Rattle.validate.proofs.ValidateLaws.{checked-tally, checked-refusal}
+use Rattle.validate.proofs.ValidateLaws.{checked_tally, checked_refusal}
 use lib.Dec.{lit≤}
 use borrow.Author.Rules.{rules}
 use Rattle.validate.proofs.check.check.Statement.{statement}
@@ -27,13 +27,13 @@ same_length : tie.Need-same-length
 same_length c = search rules
 
 returns : tie.Need-returns
-returns c = checked-tally _ _ _ _ c.before.before.before.before.before.before.before.before.check-plan.ensures _ c.before.before.before.before.before.before.answer.given.1 c.before.before.put-tally.ensures.0 (c.before.before.put-tally.ensures.1 (lit≤ tt))
+returns c = checked_tally _ _ _ _ c.before.before.before.before.before.before.before.before.check-plan.ensures _ c.before.before.before.before.before.before.answer.given.1 c.before.before.put-tally.ensures.0 (c.before.before.put-tally.ensures.1 (lit≤ tt))
 
 same-length-2 : tie.Need-same-length-2
 same-length-2 c = search rules
 
 returns-2 : tie.Need-returns-2
-returns-2 c = checked-refusal _ _ _ _ c.before.before.before.before.before.before.before.check-plan.ensures _ c.before.before.before.before.before.answer2.given.1 c.before.before.put-refusal.ensures.0 c.before.before.put-refusal.ensures.1
+returns-2 c = checked_refusal _ _ _ _ c.before.before.before.before.before.before.before.check-plan.ensures _ c.before.before.before.before.before.answer2.given.1 c.before.before.put-refusal.ensures.0 c.before.before.put-refusal.ensures.1
 
 pub check-spec : {M : Type 1} → statement M
 check-spec =

@@ -1,7 +1,7 @@
 -- `check_input` meets its contract: the input is refused, or the plan is checked. Assumes nothing.
 use mathlib.Core.Path.{refl}
-use Rattle.program.specs.between.Room.{line-room, Text-put}
-use Rattle.program.proofs.ReplyLaws.{reply-refused, reply-lodged}
+use Rattle.program.specs.Between.Room.{line_room, TextPut}
+use Rattle.program.proofs.ReplyLaws.{reply_refused, reply_lodged}
 use borrow.Author.Rules.{rules}
 use Rattle.validate.proofs.check.check_input.Statement.{statement}
 use Rattle.validate.proofs.check.check_input.Tie as tie
@@ -40,14 +40,14 @@ same_length : tie.Need-same-length
 same_length c = search rules
 
 returns : tie.Need-returns
-returns c = reply-refused _ _ _ _ c.before.before.before.before.before.before.before.before.open-input.ensures.0 _ _ (Text-put line-room _ _ _) _ c.before.before.before.before.before.opened.given.1 c.before.before.put-refusal.ensures
+returns c = reply_refused _ _ _ _ c.before.before.before.before.before.before.before.before.open-input.ensures.0 _ _ (TextPut line_room _ _ _) _ c.before.before.before.before.before.opened.given.1 c.before.before.put-refusal.ensures
 
 same-length-2 : tie.Need-same-length-2
 same-length-2 c = search rules
 
 returns-2 : tie.Need-returns-2
 returns-2 c =
-    reply-lodged _ _ _ _ c.before.before.before.before.before.before.before.before.before.before.before.before.open-input.ensures.0 _ _ (Text-put line-room _ _ _) _ _ _ _ _ c.before.before.before.before.before.before.before.before.before.opened2.given.1 c.before.before.before.before.before.before.front.ensures c.before.before.before.before.plan-part.ensures refl
+    reply_lodged _ _ _ _ c.before.before.before.before.before.before.before.before.before.before.before.before.open-input.ensures.0 _ _ (TextPut line_room _ _ _) _ _ _ _ _ c.before.before.before.before.before.before.before.before.before.opened2.given.1 c.before.before.before.before.before.before.front.ensures c.before.before.before.before.plan-part.ensures refl
     c.before.before.check.ensures
 
 pub check-input-spec : {M : Type 1} → statement M

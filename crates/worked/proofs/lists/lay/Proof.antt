@@ -16,8 +16,8 @@ module _ (words : List ℕ) (at : ℕ) (part : List ℕ) where
   laid_next i more = rw (drop-cons part i 0 more, add-one, add-suc)
 
   -- and none left
-  laid-all : (i : ℕ) → length part ≤ i → words ≡ sets words (at + i) (drop i part)
-  laid-all i past = rw (drop_of_length-le part past)
+  laid_all : (i : ℕ) → length part ≤ i → words ≡ sets words (at + i) (drop i part)
+  laid_all i past = rw (drop_of_length-le part past)
 
 abbrev invariant-loop : tie.invariant-loop
 invariant-loop words₀ at part i₀ words i = (sets words (at + i) (drop i part) ≡ sets words₀ at part) × (length words ≡ length words₀)
@@ -58,7 +58,7 @@ returns : tie.Need-returns invariant-loop decreases-loop
 returns c =
     let args = c.before.before.before.before.args in
     let here = c.before.loop in
-    laid-all here.words args.at args.part.now here.i c.loop-test.false ∙ here.invariant.0
+    laid_all here.words args.at args.part.now here.i c.loop-test.false ∙ here.invariant.0
 
 pub lay-spec : {M : Type 1} → statement M
 lay-spec =

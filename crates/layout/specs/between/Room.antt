@@ -1,5 +1,0 @@
--- The room for the text of as many words as a text may have. Assumes nothing.
-use Rattle.std.specs.Prelude.{ℕ}
-
-abbrev pub text-bytes : ℕ
-text-bytes = 131072

@@ -1,0 +1,14 @@
+-- A refusal of the minimal reduction, with its zeros. Not to be believed: the laws tie it to Minimised. Assumes
+-- nothing.
+use Rattle.std.specs.Prelude.{◌≡◌, replicate}
+use Rattle.refusal.specs.declared.Refusal.{Refusal}
+use Rattle.tally.specs.Tally.{nothing}
+use Rattle.plan.specs.declared.check.Answer.TheVariants.{Refused}
+use Rattle.minimal.specs.declared.within.Shortened.{Shortened}
+use Rattle.mask.specs.Mask.{mask_length}
+
+pub record Refuses (refusal : Refusal) (r : Shortened) : Type 0 where
+  pub answer : r.answer ≡ Refused refusal
+  pub mask : r.mask.words ≡ replicate mask_length 0
+  pub lodged : r.lodged ≡ nothing
+  pub marked : r.marked ≡ 0
