@@ -19,7 +19,7 @@ use refusal::Verdict;
 use tally::{Order, Tally};
 
 // Both tallies, elimination's first, or a refusal, with its tallies zero.
-#[derive(Drop)]
+#[derive(Clone, Copy)]
 pub struct Both {
     pub verdict: Verdict,
     pub first: Tally,

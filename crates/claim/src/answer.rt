@@ -11,7 +11,7 @@ use tally::Tally;
 
 // What is proved of the list left. Least: no valid reduction of the lodged list leaves a lower one. Irreducible:
 // nothing more can be struck from it. Open: so many of its steps are unmarked, too many for the minimal reduction.
-#[derive(Drop)]
+#[derive(Clone, Copy)]
 pub enum Claim {
     Least,
     Irreducible,
@@ -20,7 +20,7 @@ pub enum Claim {
 
 // The claim, and what is told of the list that is shortened. A refusal claims nothing: it has an open claim with a
 // zero, which no list that is answered gets.
-#[derive(Drop)]
+#[derive(Clone, Copy)]
 pub struct Licensed {
     pub claim: Claim,
     pub told: Shortened,

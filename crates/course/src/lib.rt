@@ -16,7 +16,7 @@ use step::advance::advance;
 use step::state::{initial, size};
 
 // What is answered: a refusal, or how many states were written.
-#[derive(Drop)]
+#[derive(Clone, Copy)]
 pub struct Reached {
     pub verdict: Verdict,
     pub count: usize,

@@ -17,7 +17,7 @@ use tally::{Order, Tally};
 use trial::{Tried, trial};
 
 // The best success of a round so far, if there is one, with the tally of what it strikes.
-#[derive(Drop)]
+#[derive(Clone, Copy)]
 pub(crate) struct Best {
     pub found: bool,
     pub flags: [bool; Plan::STEPS],

@@ -17,7 +17,7 @@ use reduced::finish::finish;
 use reduced::room::check_room;
 
 // Which of document 01's two eliminations.
-#[derive(Drop)]
+#[derive(Clone, Copy)]
 pub enum Elimination {
     Plain,
     Greedy,

@@ -51,7 +51,7 @@ fn pack_unflagged(words: &[u32], table: &[u8], effects: Effects, flagged: bool) 
 
 // The bits of each unflagged step's facts (those that it may write): which are wanted behind the step, and which
 // neither a later step nor the goal needs.
-#[derive(Drop)]
+#[derive(Clone, Copy)]
 pub struct Behind {
     pub wanted: [u64; Plan::STEPS],
     pub useless: [u64; Plan::STEPS],

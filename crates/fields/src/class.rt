@@ -3,7 +3,7 @@ ghost use Rattle.std.specs.Prelude.{◌≡◌};
 ghost use Rattle.ascii.specs.Bytes.{ascii_digit};
 ghost use Rattle.fields.specs.Between.Fields.{class_of};
 
-#[derive(Drop)]
+#[derive(Clone, Copy)]
 pub(crate) enum Class {
     Digit,
     Minus,

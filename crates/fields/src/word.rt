@@ -11,7 +11,7 @@ use crate::limits::{ANY, MOST};
 use access::byte;
 
 // What stands behind a word: a space, the end of its line, or neither of them.
-#[derive(Drop)]
+#[derive(Clone, Copy)]
 pub enum Behind {
     Space,
     LineEnd,
@@ -20,7 +20,7 @@ pub enum Behind {
 
 // A word: its number, the index behind it, and what stands there. Where that is neither a space nor a line end, or the
 // word is none that was asked for, there is no word.
-#[derive(Drop)]
+#[derive(Clone, Copy)]
 pub struct Word {
     pub value: u32,
     pub end: usize,

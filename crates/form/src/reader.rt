@@ -5,7 +5,7 @@ ghost use Rattle.form.specs.Between.Reading.{barred_at};
 
 // The index of the next line; how many lines and numbers were read; the first line that no sheet can say, or 0; and the
 // line that is not what it must be, or 0: behind that one no line is read.
-#[derive(Drop)]
+#[derive(Clone, Copy)]
 pub struct Reader {
     pub at: usize,
     pub line: usize,

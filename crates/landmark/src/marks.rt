@@ -11,7 +11,7 @@ use refusal::Verdict;
 
 // What the check of a plan answers, and the marks: a flag for each step, none past the last, and none at all on a
 // refusal.
-#[derive(Drop)]
+#[derive(Clone, Copy)]
 pub struct Marked {
     pub answer: Answer,
     pub flags: [bool; Plan::STEPS],
@@ -39,7 +39,7 @@ pub fn mark_lodged(words: &[u32], plan: &[u32], besides: Verdict) -> Marked
 }
 
 // The verdict, and the mask of the marks: zero on a refusal.
-#[derive(Drop)]
+#[derive(Clone, Copy)]
 pub struct Masked {
     pub verdict: Verdict,
     pub mask: Mask,

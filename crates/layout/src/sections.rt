@@ -14,7 +14,7 @@ use sheet::layout::{PAIRS_AT, actions, start_at, variables};
 use word_rows::{part, put_rows};
 
 // Where a walk stands: at a word, and behind so many bytes of text.
-#[derive(Drop)]
+#[derive(Clone, Copy)]
 pub(crate) struct Spot {
     pub(crate) at: usize,
     pub(crate) end: usize,

@@ -10,7 +10,7 @@ ghost use Rattle.mask.specs.Between.Places.{kept_by_words};
 use access::{flag, write_word};
 
 // Document 01's mask. Its words may hold any values.
-#[derive(Drop)]
+#[derive(Clone, Copy)]
 pub struct Mask {
     pub words: [u64; Mask::WORDS],
 }

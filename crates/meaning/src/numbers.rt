@@ -28,7 +28,7 @@ pub const RANGES_AT: usize = 2;
 
 // Where facts stand: in `count` lines of `wide` numbers each, the first variable at index `from`, and each value `on`
 // numbers behind its variable.
-#[derive(Drop)]
+#[derive(Clone, Copy)]
 pub struct Lines {
     pub from: usize,
     pub wide: usize,

@@ -15,7 +15,7 @@ use tally::Tally;
 
 // The tally of the list left or a refusal, the mask of the steps kept, and of the lodged list its tally and the number
 // of its marked steps: all zero on a refusal.
-#[derive(Drop)]
+#[derive(Clone, Copy)]
 pub struct Shortened {
     pub answer: Answer,
     pub mask: Mask,

@@ -5,7 +5,7 @@ ghost use Rattle.moves.specs.Between.Tallied.{none_yet, with_one};
 use tally::Tally;
 
 // The tallies of all steps, of those kept and of those struck.
-#[derive(Drop)]
+#[derive(Clone, Copy)]
 pub struct Tallies {
     pub lodged: Tally,
     pub left: Tally,

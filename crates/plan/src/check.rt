@@ -15,14 +15,14 @@ use step::state::{State, initial, size};
 use tally::Tally;
 
 // What the check of a plan answers: the tally of a valid one, or the first cause of refusal.
-#[derive(Drop)]
+#[derive(Clone, Copy)]
 pub enum Answer {
     Valid(Tally),
     Refused(Refusal),
 }
 
 // The answer, and the end state: all zero on a refusal.
-#[derive(Drop)]
+#[derive(Clone, Copy)]
 pub struct Checked {
     pub answer: Answer,
     pub state: State,

@@ -3,7 +3,7 @@ ghost use Rattle.std.specs.Prelude.{◌≡◌};
 ghost use Rattle.plan.specs.Limits.{most_steps};
 
 // A plan (document 01: list). It is a run of words that the caller lends, so its type holds nothing.
-#[derive(Drop)]
+#[derive(Clone, Copy)]
 pub struct Plan {}
 
 impl Plan {

@@ -9,7 +9,7 @@ use step::advance::{advance, goal_holds};
 use tally::Tally;
 
 // Where a plan fails to be valid, and, where it does not, its tally.
-#[derive(Drop)]
+#[derive(Clone, Copy)]
 pub(crate) struct Walked {
     pub fault: Place,
     pub tally: Tally,

@@ -6,14 +6,14 @@ use records::framing::{WORDS, bytes_to_read};
 use records::word::WORD;
 
 // How many bytes have been read, and whether the input ended before all that were asked for.
-#[derive(Drop)]
+#[derive(Clone, Copy)]
 pub struct Input {
     pub count: usize,
     pub ended: bool,
 }
 
 // What a program has read, and how many bytes its answer has.
-#[derive(Drop)]
+#[derive(Clone, Copy)]
 pub struct Done {
     pub input: Input,
     pub written: usize,

@@ -13,7 +13,7 @@ use records::unpack::unpack;
 use refusal::Refusal;
 
 // Its refusal, or how many words the task and the plan have.
-#[derive(Drop)]
+#[derive(Clone, Copy)]
 pub enum Opened {
     Refused(Refusal),
     Lodged { task: usize, plan: usize },

@@ -1,7 +1,7 @@
 // A record, a task with its plan and what stands behind them, at the front of bytes: where it ends, and its form.
 
 // Where it ends, as far as bytes tell.
-#[derive(Drop)]
+#[derive(Clone, Copy)]
 pub enum Ending {
     // They break off before they tell: so many in all are needed to tell more.
     Untold {
@@ -23,7 +23,7 @@ pub enum Ending {
 }
 
 // The forms that it has.
-#[derive(Drop)]
+#[derive(Clone, Copy)]
 pub enum Frame {
     // It breaks off, or says that the task has too few words or too many; as an input, it may also run on.
     Broken,

@@ -9,7 +9,7 @@ use plan::check::Answer;
 use refusal::Refusal;
 
 // The tally of the list left or a refusal, and the mask of the steps kept: zero on a refusal.
-#[derive(Drop)]
+#[derive(Clone, Copy)]
 pub struct Reduced {
     pub answer: Answer,
     pub mask: Mask,

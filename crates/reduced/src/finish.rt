@@ -6,7 +6,7 @@ use mask::{Mask, mask_of, write_kept};
 use tally::Tally;
 
 // The tally and the mask of a reduction.
-#[derive(Drop)]
+#[derive(Clone, Copy)]
 pub struct Kept {
     pub tally: Tally,
     pub mask: Mask,

@@ -1,5 +1,5 @@
 // Where a check fires, if it does.
-#[derive(Drop)]
+#[derive(Clone, Copy)]
 pub enum Place {
     Nowhere,
     At(usize),

@@ -9,7 +9,7 @@ use access::word;
 
 // The effects of an action, or what is left of them: from word `at` up to, not including, word `end`. In edition 1 each
 // is a fact; in edition 2 each has a condition.
-#[derive(Drop)]
+#[derive(Clone, Copy)]
 pub struct Effects {
     pub at: usize,
     pub end: usize,

@@ -10,7 +10,7 @@ use crate::layout::{ACTION_HEADER, FIRST_ACTION, GOAL, has_conditions, number, o
 use access::word;
 
 // A group of facts, or what is left of one: from word `at` up to, not including, word `end`.
-#[derive(Drop)]
+#[derive(Clone, Copy)]
 pub struct Group {
     pub at: usize,
     pub end: usize,
@@ -73,7 +73,7 @@ pub fn goal(w: &[u32]) -> Group
 }
 
 // What an action needs, and its effects.
-#[derive(Drop)]
+#[derive(Clone, Copy)]
 pub struct ActionFacts {
     pub precondition: Group,
     pub effects: Effects,

@@ -4,7 +4,7 @@ ghost use Rattle.std.specs.Prelude.{◌≡◌};
 ghost use Rattle.sheet.specs.Limits.{limits as limits-of-01};
 
 // The job sheet of document 01. It is a run of words that the caller lends, so its type holds nothing.
-#[derive(Drop)]
+#[derive(Clone, Copy)]
 pub struct Sheet {}
 
 impl Sheet {
@@ -19,7 +19,7 @@ impl Sheet {
     pub const COST: u32 = 1_000_000;
 }
 
-#[derive(Drop)]
+#[derive(Clone, Copy)]
 pub struct Limits {
     pub words: usize,
     pub variables: usize,

@@ -27,7 +27,7 @@ pub fn holds(state: &[u32], fact: u32) -> bool
 }
 
 // A fact that fails, by its word, or none.
-#[derive(Drop)]
+#[derive(Clone, Copy)]
 pub enum Failing {
     Nothing,
     Fact(u32),

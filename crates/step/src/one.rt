@@ -9,7 +9,7 @@ use sheet::layout::actions;
 use sheet_check::check::check_sheet;
 
 // A step's answer, and the state after it.
-#[derive(Drop)]
+#[derive(Clone, Copy)]
 pub struct Stepped {
     pub verdict: Verdict,
     pub state: State,

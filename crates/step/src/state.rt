@@ -10,7 +10,7 @@ use sheet::layout::{start_at, variables};
 use sheet::limits::Sheet;
 
 // A state (document 01: site state). It may hold any values; those past the task's variables stay as they are.
-#[derive(Drop)]
+#[derive(Clone, Copy)]
 pub struct State {
     pub values: [u32; Sheet::VARIABLES],
 }

@@ -5,14 +5,14 @@ ghost use Rattle.std.specs.Prelude.{◌≡◌};
 ghost use Rattle.tally.specs.Tally.{bounds, nothing, one_more, comparison};
 
 // A tally. Its fields may hold any values.
-#[derive(Drop)]
+#[derive(Clone, Copy)]
 pub struct Tally {
     pub cost: u32,
     pub steps: u32,
 }
 
 // Which of two tallies is the lower.
-#[derive(Drop)]
+#[derive(Clone, Copy)]
 pub enum Order {
     Less,
     Equal,

@@ -11,7 +11,7 @@ use sheet::limits::Sheet;
 use sheet_writer::layout::write_header;
 
 // Whether a sheet can say the task, and how many words it has.
-#[derive(Drop)]
+#[derive(Clone, Copy)]
 pub struct Built {
     pub fits: bool,
     pub words: usize,

@@ -16,7 +16,7 @@ const COMMENT: u8 = b'#';
 
 // Where a reader stands: in white space, in a comment, behind the digits of a word with the value that they have so
 // far, or where it stopped, at a field that is no word or at a word for which there is no room.
-#[derive(Drop)]
+#[derive(Clone, Copy)]
 pub enum Mode {
     Blank,
     Comment,
@@ -26,7 +26,7 @@ pub enum Mode {
 }
 
 // A reader: the number of its line, and how many words it has stored.
-#[derive(Drop)]
+#[derive(Clone, Copy)]
 pub struct Reader {
     pub mode: Mode,
     pub line: u64,
@@ -34,7 +34,7 @@ pub struct Reader {
 }
 
 // What reading a text finds: how many words, or the line at which it stopped, or that it is too long to be read.
-#[derive(Drop)]
+#[derive(Clone, Copy)]
 pub enum Ending {
     Words(usize),
     NoWord(u64),

@@ -10,7 +10,7 @@ use form::reader::Reader;
 
 // Numbers of a line that are read: the index behind them and the byte that ends them, and whether they are what they
 // must be.
-#[derive(Drop)]
+#[derive(Clone, Copy)]
 pub struct Run {
     pub at: usize,
     pub reads: bool,

@@ -14,7 +14,7 @@ use number_rows::numbers::{read_axiom_count, read_layer, read_metric, read_plain
 use text_effects::effects::{read_effects, read_head};
 
 // A block of lines of which there may be several.
-#[derive(Drop)]
+#[derive(Clone, Copy)]
 pub(crate) enum Block {
     Variable,
     Group,

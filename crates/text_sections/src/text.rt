@@ -11,7 +11,7 @@ use number_rows::numbers::read_plain;
 
 // What reading a text finds: the first line that is not what it must be, or that it is too long, as line 0; or how many
 // numbers, and the first line that no sheet can say, or 0.
-#[derive(Drop)]
+#[derive(Clone, Copy)]
 pub enum Form {
     Broken(usize),
     Whole { count: usize, barred: usize },

@@ -6,7 +6,7 @@ use libc::{STDERR_FILENO, STDOUT_FILENO};
 use lines::put_text;
 
 // How many bytes are written, and how many are said.
-#[derive(Drop)]
+#[derive(Clone, Copy)]
 pub(crate) struct Answered {
     pub(crate) written: usize,
     pub(crate) said: usize,

@@ -5,7 +5,7 @@ use libc::STDIN_FILENO;
 
 // How many bytes were read, and what the last call of `read` gave: a negative number where it failed, 0 at the input's
 // end.
-#[derive(Drop)]
+#[derive(Clone, Copy)]
 pub(crate) struct Input {
     pub(crate) count: usize,
     pub(crate) last: isize,

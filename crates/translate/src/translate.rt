@@ -35,7 +35,7 @@ fn translate_text(text: &[u8], out: &mut [u8], errors: &mut [u8]) -> Answered
 }
 
 // What was read, and what was answered to it.
-#[derive(Drop)]
+#[derive(Clone, Copy)]
 pub(crate) struct Translating {
     pub(crate) input: Input,
     pub(crate) answer: Answered,

@@ -13,7 +13,7 @@ use task_sheet::build::build;
 use text_sections::text::{Form, read_text};
 
 // A refusal, or how many words the sheet has.
-#[derive(Drop)]
+#[derive(Clone, Copy)]
 pub enum Translated {
     Refused(Refusal),
     Written(usize),

@@ -18,7 +18,7 @@ use step::advance::goal_holds;
 use tally::Tally;
 
 // Whether a trial succeeds, what it leaves, and the tally of what it strikes.
-#[derive(Drop)]
+#[derive(Clone, Copy)]
 pub struct Tried {
     pub succeeds: bool,
     pub flags: [bool; Plan::STEPS],

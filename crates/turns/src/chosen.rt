@@ -10,7 +10,7 @@ use mask::Mask;
 use tally::{Order, Tally};
 
 // A reduction that keeps the flagged steps. It is small, and the turns hand it on by value.
-#[derive(Drop)]
+#[derive(Clone, Copy)]
 pub struct Chosen {
     pub tally: Tally,
     pub bits: u64,
