@@ -77,7 +77,7 @@ stays_held s (g ∷ e) f h agree = stays_held (set s g.variable g.value) e f (by
     by_case false e = holds_there _ f sized (get_or-set_other s g.variable f.variable g.value 0 (eqb-false _ _ e) ∙ holds_value s f h)
 
 -- where facts agree, each fact assigned holds after the assignment
-pub assigned_holds : {e : Assignment} {f : Fact} (s : State) → Agreeing e → Memᴰ f e → f.variable < length s → holds (assign s e) f ≡ true
+pub assigned_holds : {f : Fact} {e : Assignment} (s : State) → Agreeing e → Memᴰ f e → f.variable < length s → holds (assign s e) f ≡ true
 unfolding assign
 assigned_holds {f = f} s agree (Memᴰ.head {x = g} {xs = e} same) below =
     rw same

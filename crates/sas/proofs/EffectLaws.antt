@@ -56,6 +56,7 @@ acting_why {f} s (e ∷ es) m = by_case (λ n. acting_why s es n) (satisfies s e
 
 -- and the fact of an effect whose condition holds acts
 pub acts_there : {e : Effect} (s : State) (es : List Effect) → Memᴰ e es → satisfies s e.condition ≡ true → Memᴰ e.fact (acting s es)
+acts_there {e} s [] m h = elim m [ ]
 acts_there {e} s (d ∷ es) (Memᴰ.head same) h =
     rw (acting_more s d es (ap (λ x. satisfies s x.condition) (sym same) ∙ h)) (Memᴰ.head (ap (λ x. x.fact) same))
 acts_there {e} s (d ∷ es) (Memᴰ.tail later) h = by_case (acts_there s es later h) (satisfies s d.condition) refl

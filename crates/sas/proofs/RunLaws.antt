@@ -54,7 +54,7 @@ run_stays_within : {domains : List ℕ} {s t : State} (p : List Action) → Acti
 run_stays_within {s} {t} [] formed within h = rw (run_end s t h) at within
 run_stays_within {s} (a ∷ p) formed within h =
     let (u, first, rest) = run_first s a p h in
-    run_stays_within p (λ b m. formed b (Memᴰ.tail m)) (result_within a (formed a (Memᴰ.head refl)) within first) rest
+    run_stays_within {s = u} p (λ b m. formed b (Memᴰ.tail m)) (result_within a (formed a (Memᴰ.head refl)) within first) rest
 
 -- a state that actions of a well-formed task reach from its initial state is within the domains
 pub run_within : {s : State} (T : Task) → WellFormed T → (p : List Action)

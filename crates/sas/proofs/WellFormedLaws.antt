@@ -31,11 +31,13 @@ pub each_behind : {P : Action → Type 0} {p : List Action} → ((a : Action) �
 each_behind {p = p} each i a m = each a (rw take-append-drop at (Memᴰ.append_right (take i p) m))
 
 pub rising_known : {domains : List ℕ} {from : ℕ} {f : Fact} {q : Assignment} → Rising domains from q → Memᴰ f q → Known domains f
+rising_known empty m = elim m [ ]
 rising_known (fact known above rest) (Memᴰ.head same) = rw same known
 rising_known (fact known above rest) (Memᴰ.tail later) = rising_known rest later
 
 -- the variable of each fact is `from` or above
 pub rising_above : {domains : List ℕ} {from : ℕ} {f : Fact} {q : Assignment} → Rising domains from q → Memᴰ f q → from ≤ f.variable
+rising_above empty m = elim m [ ]
 rising_above (fact known above rest) (Memᴰ.head same) = rw same above
 rising_above (fact known above rest) (Memᴰ.tail later) = omega (arith, rising_above rest later)
 
@@ -46,6 +48,7 @@ rising_few (fact known above rest) = omega (arith, known.variable, rising_few re
 
 -- each variable is named once, so the facts agree
 pub rising_agrees : {domains : List ℕ} {from : ℕ} {q : Assignment} → Rising domains from q → Agreeing q
+rising_agrees empty f g m n same = elim m [ ]
 rising_agrees (fact known above rest) f g (Memᴰ.head one) (Memᴰ.head two) same = rw (one, two)
 rising_agrees (fact known above rest) f g (Memᴰ.head one) (Memᴰ.tail two) same = absurd (omega (arith, ap (λ k. k.variable) one, rising_above rest two))
 rising_agrees (fact known above rest) f g (Memᴰ.tail one) (Memᴰ.head two) same = absurd (omega (arith, ap (λ k. k.variable) two, rising_above rest one))

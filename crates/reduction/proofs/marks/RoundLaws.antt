@@ -46,7 +46,7 @@ module _ (at : Fact → ℕ) where
   raised_more [] m k up = up
   raised_more (f ∷ e) m k up = raised_more e (set m (at f) true) k (up_more m (at f) k up)
 
-  pub raised_has : {e : Assignment} {f : Fact} (m : Reduction) → Memᴰ f e → at f < length m → keeps (raised at e m) (at f)
+  pub raised_has : {f : Fact} {e : Assignment} (m : Reduction) → Memᴰ f e → at f < length m → keeps (raised at e m) (at f)
   unfolding raised
   raised_has m (Memᴰ.head {x = g} {xs = e} same) inside =
       rw same (raised_more e (set m (at g) true) (at g) (get_or-set_same m (at g) true false (rw same at inside)))

@@ -6,7 +6,7 @@ use mathlib.Core.Path.{◌≡◌, refl, sym, ◌∙◌, ap}
 use mathlib.Core.Logic.{◌⊎◌, inl, inr}
 use mathlib.Core.Bool.{Bool, true, false, true≢false, false≢true}
 use mathlib.Core.List.{List, [], ◌∷◌}
-use lib.ListN.{length}
+use lib.ListN.{length, get_or}
 use Rattle.sas.specs.Task.{Action}
 use Rattle.sas.specs.Plan.{cost}
 use Rattle.reduction.specs.Reduction.{Reduction, keeps, kept, count, whole}
@@ -78,7 +78,7 @@ difference (b ∷ m) [] fits = absurd (omega arith)
 difference (b ∷ m) (c ∷ n) fits = by_case (difference m n (omega arith)) b c
   where
     later : (d : Bool) (i : ℕ) → FirstDifference m n i → FirstDifference (d ∷ m) (d ∷ n) (suc i)
-    later d i h = record { before = λ k. elim k [ zero ↦ λ less. refl | suc k ↦ λ less. h.before k (omega arith) ]; here = h.here }
+    later d i h = record { before = λ k. elim k as (λ k. k < suc i → get_or (d ∷ m) k false ≡ get_or (d ∷ n) k false) [ zero ↦ λ less. refl | suc k ↦ λ less. h.before k (omega arith) ]; here = h.here }
 
     behind : (d : Bool) → (m ≡ n) ⊎ ((i : ℕ) × FirstDifference m n i) → (d ∷ m ≡ d ∷ n) ⊎ ((i : ℕ) × FirstDifference (d ∷ m) (d ∷ n) i)
     behind d (inl same) = inl (ap (λ r. d ∷ r) same)

@@ -222,7 +222,7 @@ module _ (goal : Assignment) (s : State) (p : List Action) (flags : Reduction) (
       rw (← same) (record { state = v.state; turned = refl; course = course_handed v.best course })
   moves_along {v} (suc n) j there inside up course =
       let (turned, next) = course_passes (omega arith) (up v.index (omega arith) (omega arith)) course in
-      let rest : MovesTo goal s p flags (past_flagged p v) j = moves_along n j (omega arith) inside (λ k from. up k (omega arith)) next in
+      let rest : MovesTo goal s p flags (past_flagged p v) j = moves_along {v = past_flagged p v} n j (omega arith) inside (λ k from. up k (omega arith)) next in
       record { state = rest.state; turned = turned ∙ rest.turned; course = rest.course }
 
   -- and so a run of them at once
