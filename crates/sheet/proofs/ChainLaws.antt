@@ -55,7 +55,7 @@ module _ (w : List ℕ) (end : ℕ) where
       let long = part_length e in
       let all = length-append (effect_part e) later in
       then {e = e} (first.reads 0 i (omega arith) (omega arith)) (stands_first condition own behind) (last.reads 0 _ (omega arith) (omega arith)) (omega arith)
-      (stands_chain _ es (stands_second (effect_part e) later s _ (omega arith)) (omega arith))
+      (stands_chain (i + 1 + length e.condition + 1) es (stands_second (effect_part e) later s _ (omega arith)) (omega arith))
 
   -- and what stands so is what is written
   pub chain_stands : {i : ℕ} {es : List Effect} → Chain w end i es → Stands w i (flatten (map effect_part es)) × (i + length (flatten (map effect_part es)) ≡ end)

@@ -86,10 +86,10 @@ module _ {edition : ℕ} (w : List ℕ) (T : Task) (writable : Encodable edition
       → Laid w k from (map (action_part edition) p) → table (action w) a (length p) ≡ p
   unfolding table
   actions_read k a [] e known laid = refl
-  actions_read k a (x ∷ p) e known (then told rest) =
+  actions_read {from = from} k a (x ∷ p) e known (then told rest) =
       let this : Memᴰ x T.actions = known x (mathlib.Core.List.Memᴰ.head refl) in
       let here : action w a ≡ x = action_read a x (writable.well_formed.actions x this) (λ first. writable.plain first x this) (rw e at told) in
-      rw (here, actions_read (k + 1) (a + 1) p (omega arith) (λ y m. known y (mathlib.Core.List.Memᴰ.tail m)) rest)
+      rw (here, actions_read {from = from + length (action_part edition x)} (k + 1) (a + 1) p (omega arith) (λ y m. known y (mathlib.Core.List.Memᴰ.tail m)) rest)
 
   -- words among which the parts of a task are laid out mean that task
   pub task_read : {from : ℕ} → variables w ≡ length T.domains → actions w ≡ length T.actions → Laid w 0 from (parts edition T) → task w ≡ T
