@@ -15,7 +15,7 @@ use Rattle.sas.specs.Plan.{assign}
 use Rattle.sas.specs.Conflict.{some_of, differ, contradictory, conflict, conflicting}
 use Rattle.sas.proofs.SomeLaws.{or_cases, found, found_passes, none_found}
 use Rattle.sheet.specs.Limits.{limits}
-use Rattle.sheet.specs.Between.Encode.{fact_word, Unfalling}
+use Rattle.sheet.specs.Between.Encode.{fact_word, Unfalling, nothing}
 use Rattle.sheet.specs.Between.Encode.Unfalling.{not_below}
 use Rattle.conflict.specs.Between.Table.{denies}
 use Rattle.conflict.specs.Between.Clash.{beyond, some_fits, clashes, some_clash}
@@ -113,6 +113,7 @@ unfalling_rest : {from : ℕ} {f : Fact} {q : Assignment} → Unfalling from (f 
 unfalling_rest (not_below low rest) = rest
 
 unfalling_above : {from : ℕ} {q : Assignment} {f : Fact} → Unfalling from q → Memᴰ f q → from ≤ fact_word f
+unfalling_above {f = f} (nothing {from = from}) x4 = elim x4 [ ]
 unfalling_above (not_below low rest) (Memᴰ.head same) = rw same low
 unfalling_above (not_below {f = g} low rest) (Memᴰ.tail later) = omega (arith, unfalling_above rest later)
 

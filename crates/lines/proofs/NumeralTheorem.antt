@@ -107,6 +107,7 @@ High [] = ⊥
 High (d ∷ ds) = ascii_zero < d
 
 high_more : (ds : List ℕ) (b : ℕ) → High ds → High (ds ++ (b ∷ []))
+high_more [] b high = elim high [ ]
 high_more (d ∷ ds) b high = high
 
 within_high : (n x : ℕ) → x < n → 1 ≤ x → High (numeral_within n x)

@@ -11,7 +11,7 @@ use lib.Seq.{sets, set_out, take-suc, length-sets}
 use lib.Dec.{leb}
 use borrow.Author.Tests.{leb-true, leb-false}
 use Rattle.ascii.specs.Bytes.{space}
-use Rattle.lines.specs.Lines.{numeral, spaced, line}
+use Rattle.lines.specs.Lines.{numeral, spaced}
 use Rattle.lines.specs.Prints.{Prints}
 
 -- past the end nothing is stored

@@ -1,0 +1,23 @@
+-- `put_words` meets its contract. The loop's invariant: the words passed are put, each behind a space. The measure is the number of words left. Assumes nothing.
+use native.Mathlib.Omega.{arith}
+use mathlib.Core.Path.{◌≡◌}
+use lib.ListN.{length}
+use lib.Seq.{take-length}
+use Rattle.lines.proofs.PrintLaws.{spaced_nothing, prints_spaced, prints_length}
+use Rattle.std.proofs.Common.{rules}
+use Rattle.word_rows.proofs.put_words.Goals as goal
+
+pub loop-i-init : goal.loop-i-init
+loop-i-init c = (spaced_nothing _ _ _ c.earlier-end.ensures, search rules)
+
+pub loop-i-preserved : goal.loop-i-preserved
+loop-i-preserved c =
+    (prints_spaced _ c.loop-i.i c.loop-i-test.true c.loop-i.invariant.0 c.put_text-number.ensures c.put_number-end.ensures, search rules)
+
+pub shape_of-out : goal.shape_of-out
+shape_of-out c = prints_length c.loop-i.invariant.0
+
+pub returns : goal.returns
+returns c =
+    let all : c.loop-i.i ≡ length c.args.words.now = omega arith in
+    rw (all, take-length) at c.loop-i.invariant.0

@@ -1,0 +1,12 @@
+-- `put_words` meets its contract. The loop's invariant: the words passed are put, each behind a space. The measure is the number of words left. Assumes nothing.
+use Prim.Native.Nat.{◌-◌, ◌≤◌}
+use lib.ListN.{length, take}
+use Rattle.lines.specs.Lines.{spaced}
+use Rattle.lines.specs.Prints.{Prints}
+use Rattle.word_rows.proofs.put_words.Given as goal
+
+abbrev pub invariant-loop-i : goal.invariant-loop-i
+invariant-loop-i l = Prints (spaced (take l.i l.words)) l.at l.initial.out l.out l.end × (l.i ≤ length l.words)
+
+abbrev pub decreases-loop-i : goal.decreases-loop-i
+decreases-loop-i l = length l.words - l.i
