@@ -58,9 +58,13 @@ def imports(text, own):
         into = home if re.match(r"Rattle\.(%s)\." % "|".join(own), path) else foreign
         for item in (items or "").split(","):
             words = item.split()
-            if words:
-                into.add(words[0])
+            if not words:
+                continue
+            into.add(words[0])
+            if len(words) == 1 or not dashed(words[-1]):
                 into.add(words[-1])
+            else:
+                home.add(words[-1])
     return foreign, home
 
 
@@ -72,6 +76,7 @@ def survey(top):
             texts[path] = f.read()
         code = code_of(texts[path])
         foreign_of[path] = imports(code, own)[0]
+        declared |= {n for n in re.findall(rf"\bas[ \t]+({WORD})", code) if dashed(n)}
         if path.endswith(".antt") and not is_walk(path):
             declared |= {n for n in DECLARED.findall(code) if dashed(n)}
             declared |= {n for n in re.findall(rf"\b(?:record|data)[ \t]+({WORD})", code) if dashed(n)}

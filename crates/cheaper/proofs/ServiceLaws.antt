@@ -11,7 +11,7 @@ use Rattle.tally.specs.declared.Order.{Order}
 use Rattle.tally.specs.declared.Order.TheVariants.{Less, Equal, Greater}
 use Rattle.tally.specs.Tally.{nothing, comparison}
 use Rattle.plan.specs.declared.check.Answer.{Answer}
-use Rattle.plan.specs.declared.check.Answer.TheVariants.{Valid, Refused as Refused-answer}
+use Rattle.plan.specs.declared.check.Answer.TheVariants.{Valid, Refused as RefusedAnswer}
 use Rattle.plan.specs.Checked.{told_answer}
 use Rattle.reduction.specs.Reduction.{Reduction}
 use Rattle.reduced.specs.Reduced.{reduction_checks}
@@ -22,7 +22,7 @@ use Rattle.cheaper.proofs.ComputedTheorem.{both_so}
 
 module _ (w l before before' : List ℕ) (room : ℕ) (given : Answer) (shorter : room ≡ min (length before) (length before'))
     (checked : told_answer given ≡ answer (reduction_checks w l room)) where
-  pub both_refused : (r : Refusal) (first second : Tally) → given ≡ Refused-answer r → first ≡ nothing → second ≡ nothing
+  pub both_refused : (r : Refusal) (first second : Tally) → given ≡ RefusedAnswer r → first ≡ nothing → second ≡ nothing
       → ReducesBoth w l before before' (Refused r) first second before before'
   both_refused r first second refuses NoneFirst none_second =
       both_so w l before before' (Refused r) first second before before'

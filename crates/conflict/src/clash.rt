@@ -4,8 +4,8 @@ ghost use Rattle.std.specs.Prelude.{◌≡◌};
 ghost use Rattle.sheet.specs.Decode.{fact_of};
 ghost use Rattle.sheet.specs.Between.Group.{facts_in};
 ghost use Rattle.sheet.specs.Between.Effects.{effects_in, first_written};
-ghost use Rattle.conflict.specs.Between.Clash.{beyond, first_writes as writes-first, some_fits, clashes as clashes-with};
-ghost use Rattle.conflict.specs.Between.Clash.{some_clash, beside as is-beside, neighbours, clash_in, first_effect};
+ghost use Rattle.conflict.specs.Between.Clash.{beyond, first_writes as writes_first, some_fits, clashes as clashes_with};
+ghost use Rattle.conflict.specs.Between.Clash.{some_clash, beside as is_beside, neighbours, clash_in, first_effect};
 
 use crate::table::{UNSAID, denies_some, note};
 use sheet::effects::Effects;
@@ -28,7 +28,7 @@ fn past(w: &[u32], effects: Effects, fact: u32) -> Effects
 
 // Whether the first of some effects writes a variable.
 fn first_writes(w: &[u32], effects: Effects, variable: usize) -> bool
-    ensures { result ≡ writes-first variable (effects_in w.now effects) }
+    ensures { result ≡ writes_first variable (effects_in w.now effects) }
 {
     if effects.at < effects.end {
         return effects.first(w) as usize / Sheet::VALUES == variable;
@@ -54,7 +54,7 @@ fn find_fitting(w: &[u32], table: &[u32], effects: Effects, variable: usize) -> 
 // Whether the first of some effects clashes with one of those behind it that write its variable at another value, under
 // a precondition. Where there is none, no table is made.
 fn clashes(w: &[u32], precondition: Group, effects: Effects, behind: Effects) -> bool
-    ensures { result ≡ clashes-with (facts_in w.now precondition) (first_effect w.now effects)
+    ensures { result ≡ clashes_with (facts_in w.now precondition) (first_effect w.now effects)
         (effects_in w.now behind) }
 {
     let variable = effects.first(w) as usize / Sheet::VALUES;
@@ -89,7 +89,7 @@ fn find_clash(w: &[u32], precondition: Group, effects: Effects) -> bool
 
 // Whether two words are facts of one variable at two values.
 fn beside(fact: u32, next: u32) -> bool
-    ensures { result ≡ is-beside fact (fact_of next) }
+    ensures { result ≡ is_beside fact (fact_of next) }
 {
     if next == fact {
         return false;

@@ -4,7 +4,7 @@ ghost use Rattle.sas.specs.Plan.{assign};
 ghost use Rattle.sas.specs.Conflict.{some_of};
 ghost use Rattle.sheet.specs.Decode.{fact_of};
 ghost use Rattle.sheet.specs.Between.Group.{facts_in};
-ghost use Rattle.conflict.specs.Between.Table.{denies as denies-fact};
+ghost use Rattle.conflict.specs.Between.Table.{denies as denies_fact};
 
 use access::{put, word};
 use sheet::group::Group;
@@ -15,7 +15,7 @@ pub(crate) const UNSAID: u32 = Sheet::VALUES as u32;
 
 // Whether a table has another value for the variable of the fact that a word is.
 fn denies(table: &[u32], fact: u32) -> bool
-    ensures { result ≡ denies-fact table.now (fact_of fact) }
+    ensures { result ≡ denies_fact table.now (fact_of fact) }
 {
     let said = word(table, fact as usize / Sheet::VALUES);
     if said == UNSAID {
@@ -29,7 +29,7 @@ fn denies(table: &[u32], fact: u32) -> bool
 
 // Whether it does so for some fact of a group.
 pub(crate) fn denies_some(w: &[u32], table: &[u32], group: Group) -> bool
-    ensures { result ≡ some_of (denies-fact table.now) (facts_in w.now group) }
+    ensures { result ≡ some_of (denies_fact table.now) (facts_in w.now group) }
 {
     let mut rest = group;
     while rest.at < rest.end {

@@ -1,7 +1,7 @@
 // Elimination (document 01): a trial at each position in turn.
 ghost use Rattle.std.specs.Prelude.{◌≡◌, true};
 ghost use Rattle.reduction.specs.Reduction.{valid};
-ghost use Rattle.sheet.specs.Decode.{goal, initial as initial-of};
+ghost use Rattle.sheet.specs.Decode.{goal, initial as initial_of};
 ghost use Rattle.plan.specs.Valid.{steps};
 ghost use Rattle.plan.specs.Readable.{Readable};
 ghost use Rattle.reduced.specs.Between.Held.{flags_of};
@@ -17,7 +17,7 @@ use trial::trial;
 // done.
 pub(crate) fn eliminate(words: &[u32], plan: &[u32]) -> [bool; Plan::STEPS]
     requires readable { Readable words.now plan.now }
-    requires plan_value { valid (initial-of words.now) (goal words.now) (steps words.now plan.now) ≡ true }
+    requires plan_value { valid (initial_of words.now) (goal words.now) (steps words.now plan.now) ≡ true }
     ensures { result ≡ flags_of plan.now (elimination_of words.now plan.now) }
 {
     let mut flags = all_kept(plan.len());

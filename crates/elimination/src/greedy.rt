@@ -1,7 +1,7 @@
 // Greedy elimination (document 01): rounds of trials, of which each takes the best success.
 ghost use Rattle.std.specs.Prelude.{◌≡◌, true, length};
 ghost use Rattle.reduction.specs.Reduction.{valid};
-ghost use Rattle.sheet.specs.Decode.{goal, initial as initial-of};
+ghost use Rattle.sheet.specs.Decode.{goal, initial as initial_of};
 ghost use Rattle.plan.specs.Valid.{steps};
 ghost use Rattle.reduced.specs.Between.Held.{mask, flags_of};
 ghost use Rattle.elimination.specs.Between.Left.{greedy_elimination_of};
@@ -82,7 +82,7 @@ fn round(words: &[u32], plan: &[u32], flags: [bool; Plan::STEPS]) -> Best
 // The flags that greedy elimination leaves of a valid plan.
 pub(crate) fn greedy(words: &[u32], plan: &[u32]) -> [bool; Plan::STEPS]
     requires readable { Readable words.now plan.now }
-    requires plan_value { valid (initial-of words.now) (goal words.now) (steps words.now plan.now) ≡ true }
+    requires plan_value { valid (initial_of words.now) (goal words.now) (steps words.now plan.now) ≡ true }
     ensures { result ≡ flags_of plan.now
         (greedy_elimination_of words.now plan.now) }
 {

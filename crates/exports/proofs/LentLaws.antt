@@ -9,7 +9,7 @@ use lib.ListN.{length, take, drop, take-append-drop}
 use lib.Seq.{sets, sets-eq}
 use Rattle.refusal.specs.declared.Refusal.{Refusal}
 use Rattle.refusal.specs.declared.Verdict.{Verdict}
-use Rattle.refusal.specs.declared.Verdict.TheVariants.{Passed, Refused as Refused-verdict}
+use Rattle.refusal.specs.declared.Verdict.TheVariants.{Passed, Refused as RefusedVerdict}
 use Rattle.refusal.specs.Refusal.{told}
 use Rattle.plan.specs.declared.check.Answer.{Answer}
 use Rattle.plan.specs.Checked.{plan_checks, told_answer, told_tally, Checks}
@@ -80,7 +80,7 @@ module _ (text output output' out out' : List ℕ) (r : Translated) (done : Answ
   told_as given checks =
       subst (λ t. ToldOfBytes text (length output) t (text_sheet text)) (sym checks.answers) (told_of_bytes text (length output))
 
-  pub text_refused : (x : Refusal) → r ≡ Refused x → out' ≡ sets out 0 (answer_words (told (Refused-verdict x)) ++ (0 ∷ [])) → TranslatesLent text output output' out out'
+  pub text_refused : (x : Refusal) → r ≡ Refused x → out' ≡ sets out 0 (answer_words (told (RefusedVerdict x)) ++ (0 ∷ [])) → TranslatesLent text output output' out out'
   text_refused x is written =
       let refuses : AnswersChecks text output (Refused x) output' = rw is at done in
       record {

@@ -2,7 +2,7 @@
 // wanted behind the step; in the other, when no later step and not the goal needs it. A fact past the last bit has
 // none, and is taken as not wanted, which bars less, and as needed, so that its step counts as of use.
 ghost use Rattle.std.specs.Prelude.{◌≡◌, cond};
-ghost use Rattle.mask.specs.Mask.{digit as digit-of};
+ghost use Rattle.mask.specs.Mask.{digit as digit_of};
 ghost use Rattle.sheet.specs.Between.Effects.{written_in};
 ghost use Rattle.fact_table.specs.Between.Tables.{has_fact};
 ghost use Rattle.fact_bits.specs.Between.Bits.{packed, ToldBehind};
@@ -16,7 +16,7 @@ use sheet::group::{facts_of, goal};
 
 // One for a fact that the table has.
 fn digit(table: &[u8], fact: u32) -> u64
-    ensures { result ≡ digit-of (has_fact table.now fact) }
+    ensures { result ≡ digit_of (has_fact table.now fact) }
 {
     if has(table, fact) { 1 } else { 0 }
 }

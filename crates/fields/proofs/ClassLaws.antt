@@ -111,10 +111,9 @@ module _ (b : ℕ) (r : Class) (is : r ≡ class_of b) where
   pub told_line_end : r ≡ LineEnd → ends_line b ≡ true
   told_line_end e = end_test (ascii_digit b) (eqb b minus_sign) (ends_word b) (ends_line b) (sym (by_tests b) ∙ sym is ∙ e)
 
-  -- a class at one of these places is not that one
-  module _ (ks : List ℕ) (told : OneOf ks (tag_of the_type r)) where
-    pub told_no_space : T (not (has_key ks (tag_of the_type Space))) → ends_word b ≡ false
-    told_no_space h = test_fails (ends_word b) (λ e. other_class ks r Space h told (is ∙ class_space b (eqb-true b space e)))
+  -- a class that is not that one
+  pub told_no_space : (r ≡ Space → ⊥) → ends_word b ≡ false
+  told_no_space apart = test_fails (ends_word b) (λ e. apart (is ∙ class_space b (eqb-true b space e)))
 
-    pub told_no_line_end : T (not (has_key ks (tag_of the_type LineEnd))) → ends_line b ≡ false
-    told_no_line_end h = test_fails (ends_line b) (λ e. other_class ks r LineEnd h told (is ∙ class_line_end b (eqb-true b line_end e)))
+  pub told_no_line_end : (r ≡ LineEnd → ⊥) → ends_line b ≡ false
+  told_no_line_end apart = test_fails (ends_line b) (λ e. apart (is ∙ class_line_end b (eqb-true b line_end e)))

@@ -1,7 +1,7 @@
 // Keywords and names. A reader that has stopped stays where it is.
 ghost use Rattle.std.specs.Prelude.{◌≡◌, false, List, [], ◌∷◌, ℕ};
 ghost use Rattle.fields.specs.Between.Reading.{has_line_end};
-ghost use Rattle.form.specs.Between.Form.{keyword as due-keyword, name as due-name, times};
+ghost use Rattle.form.specs.Between.Form.{keyword as due_keyword, name as due_name, times};
 ghost use Rattle.form.specs.Between.Reading.{Within, Reads};
 
 use crate::reader::Reader;
@@ -11,7 +11,7 @@ use fields::lines::{begins_with, line_end};
 pub fn keyword(text: &[u8], r: Reader, word: &[u8]) -> Reader
     requires { Within text.now r × (has_line_end word.now ≡ false) }
     ensures { (tape : List ℕ)
-        → Reads (due-keyword word.now ∷ []) text.now r tape result tape }
+        → Reads (due_keyword word.now ∷ []) text.now r tape result tape }
 {
     if r.broken != 0 {
         return r;
@@ -25,7 +25,7 @@ pub fn keyword(text: &[u8], r: Reader, word: &[u8]) -> Reader
 // Reads a name, which is any line.
 pub fn name(text: &[u8], r: Reader) -> Reader
     requires { Within text.now r }
-    ensures { (tape : List ℕ) → Reads (due-name ∷ []) text.now r tape result tape }
+    ensures { (tape : List ℕ) → Reads (due_name ∷ []) text.now r tape result tape }
 {
     if r.broken != 0 {
         return r;
@@ -40,7 +40,7 @@ pub fn name(text: &[u8], r: Reader) -> Reader
 // Reads n names.
 pub fn names(text: &[u8], r: Reader, n: usize) -> Reader
     requires { Within text.now r }
-    ensures { (tape : List ℕ) → Reads (times n (due-name ∷ [])) text.now r tape result tape }
+    ensures { (tape : List ℕ) → Reads (times n (due_name ∷ [])) text.now r tape result tape }
 {
     let mut current = r;
     let mut i = 0;

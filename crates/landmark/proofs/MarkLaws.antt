@@ -9,7 +9,7 @@ use mathlib.Core.List.{List}
 use lib.ListN.{length, replicate}
 use Rattle.refusal.specs.declared.Refusal.{Refusal}
 use Rattle.refusal.specs.declared.Verdict.{Verdict}
-use Rattle.refusal.specs.declared.Verdict.TheVariants.{Passed, Refused as Refused-verdict}
+use Rattle.refusal.specs.declared.Verdict.TheVariants.{Passed, Refused as RefusedVerdict}
 use Rattle.refusal.specs.Refusal.{told_refusal}
 use Rattle.refusal.specs.Check.{answer}
 use Rattle.refusal.proofs.CheckLaws.{answer_nothing}
@@ -66,7 +66,7 @@ module _ (w l : List ℕ) (given : Answer) (flags : Reduction) (lodged : MarksLo
   all : Marks (plan_checks w l) w l given flags
   all = lodged.checked _ (sym answer_nothing)
 
-  pub masks_refused : (r : Refusal) → given ≡ Refused r → Masks w l (Refused-verdict r) (replicate mask_length 0)
+  pub masks_refused : (r : Refusal) → given ≡ Refused r → Masks w l (RefusedVerdict r) (replicate mask_length 0)
   masks_refused r is =
       let refuses : answer (plan_checks w l) ≡ some (told_refusal r) = sym all.refusal ∙ ap told_answer is in
       record { refusal = sym refuses; told_by = rw refuses }

@@ -1,7 +1,7 @@
 -- A mask has four words, since its array has: what owning a struct tells of its fields says so. Assumes nothing.
 use mathlib.Core.Path.{◌≡◌}
 use mathlib.Core.List.{List}
-use lib.ListN.{length, length-map}
+use lib.ListN.{length}
 use mir.Val.{Val}
 use denote.Laws.{Is}
 use denote.Struct.Laws as LL
@@ -11,4 +11,4 @@ use Rattle.mask.specs.contracts.Mask as M
 use Rattle.mask.proofs.Mask.TheLaws as M'
 
 pub words_length : (m : Mask) (vs : List Val) → Is M.the_row m vs → length m.words ≡ mask_length
-words_length m vs is = rw length-map at (LL.owed M.the_type M'.the_laws m vs is).0.1.0.1
+words_length m vs is = (LL.owed M.the_type M'.the_laws m vs is).0.1.0.1

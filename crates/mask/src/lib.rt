@@ -4,7 +4,7 @@
 ghost use Rattle.std.specs.Prelude.{◌≡◌, ◌≤◌, false, length, get_or, take, drop};
 ghost use Rattle.std.proofs.lemmas.List.Edits.{sets};
 ghost use Rattle.std.specs.Int.Count.{ones as ones_in_lem};
-ghost use Rattle.mask.specs.Mask.{word_bits, mask_bits, digit as digit-of, binary, mask_words, ones_of, bit_up};
+ghost use Rattle.mask.specs.Mask.{word_bits, mask_bits, digit as digit_of, binary, mask_words, ones_of, bit_up};
 ghost use Rattle.mask.specs.Between.Places.{kept_by_words};
 
 use access::{flag, write_word};
@@ -52,7 +52,7 @@ fn ones(word: u64) -> u32
 
 // The flag at index i as a digit, 0 past the end.
 fn digit(flags: &[bool], i: usize) -> u64
-    ensures { result ≡ digit-of (get_or flags.now i false) }
+    ensures { result ≡ digit_of (get_or flags.now i false) }
 {
     if flag(flags, i) { 1 } else { 0 }
 }

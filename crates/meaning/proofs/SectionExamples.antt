@@ -4,7 +4,7 @@ use mathlib.Core.Path.{◌≡◌, refl}
 use mathlib.Core.Bool.{true, false}
 use mathlib.Core.List.{List, [], ◌∷◌, flatten}
 use Rattle.sas.specs.Task.{Fact, always, Task}
-use Rattle.sas.specs.Plan.{written as written-facts}
+use Rattle.sas.specs.Plan.{written as written_facts}
 use Rattle.sheet.specs.Decode.{table}
 use Rattle.sheet.specs.Layout.{first_edition}
 use Rattle.sheet.specs.Between.Encode.{encode, sheet_of, parts, effects_part, action_part, body, pairs_of}
@@ -45,7 +45,7 @@ pub sheet : encode first_edition (ordered (meaning (tiny 1 1 1 1 3)))
     ≡ 1 ∷ 2 ∷ 2 ∷ 28 ∷ 14 ∷ 2 ∷ 16 ∷ 2 ∷ 18 ∷ 2 ∷ 20 ∷ 5 ∷ 25 ∷ 3
     ∷ 2 ∷ 3 ∷ 0 ∷ 0 ∷ 1 ∷ 257 ∷ 3 ∷ 2 ∷ 0 ∷ 256 ∷ 1 ∷ 5 ∷ 0 ∷ 258 ∷ []
 unfolding meaning ranges state goal actions_from action_at facts_at fact_at table encode sheet_of parts effects_part action_part body pairs_of flatten
-    ordered ordered_action written-facts put_in insert
+    ordered ordered_action written_facts put_in insert
 sheet = refl
 
 -- in turn: the text above; variable 0 at 256 in the goal, which has the word of variable 1 at 0; variable 0 twice in the goal; a prevail condition and an old
@@ -56,6 +56,6 @@ pub written : (writable (meaning (tiny 1 1 1 1 3)) ≡ true)
     × (writable (meaning (tiny 1 1 1 0 3)) ≡ false)
     × (writable (meaning (tiny 1 1 1 1 1000001)) ≡ false)
     × (writable (meaning (tiny 0 1 1 1 1000001)) ≡ true)
-unfolding meaning ranges state goal actions_from action_at facts_at fact_at table writable written-facts variables_fit no_condition actions_fit action_fits fit_in known has insert
+unfolding meaning ranges state goal actions_from action_at facts_at fact_at table writable written_facts variables_fit no_condition actions_fit action_fits fit_in known has insert
     encode sheet_of parts effects_part action_part body pairs_of flatten ordered ordered_action put_in
 written = (refl, refl, refl, refl, refl, refl)

@@ -9,7 +9,7 @@ use lib.ListN.{length, get_or, set}
 use lib.Seq.{sets, take_all}
 use Rattle.access.proofs.StoreLaws.{stores_joined}
 use Rattle.refusal.specs.declared.Verdict.{Verdict}
-use Rattle.refusal.specs.declared.Verdict.TheVariants.{Passed, Refused as Refused-verdict}
+use Rattle.refusal.specs.declared.Verdict.TheVariants.{Passed, Refused as RefusedVerdict}
 use Rattle.refusal.specs.declared.Refusal.{Refusal}
 use Rattle.refusal.specs.Refusal.{told}
 use Rattle.refusal.specs.Check.{answer}
@@ -111,9 +111,9 @@ module _ (w l mask marks before : List ℕ) where
 
 -- the service refuses what is read
 module _ (w l mask marks : List ℕ) (v : Verdict) (read : told v ≡ answer (moves_checks w l)) (before : List ℕ) where
-  pub moves_refused : (r : Refusal) → v ≡ Refused-verdict r → Moves w l mask marks (Refused r) before before
+  pub moves_refused : (r : Refusal) → v ≡ RefusedVerdict r → Moves w l mask marks (Refused r) before before
   moves_refused r e =
-      let fires : answer (moves_checks w l) ≡ told (Refused-verdict r) = sym read ∙ ap told e in
+      let fires : answer (moves_checks w l) ≡ told (RefusedVerdict r) = sym read ∙ ap told e in
       record { refusal = sym fires; tally = rw fires; rows = rw fires }
 
   -- or writes its rows

@@ -1,7 +1,7 @@
 // The row of one step.
 ghost use Rattle.std.specs.Prelude.{◌≡◌, ◌<◌, ◌^◌};
 ghost use Rattle.std.proofs.lemmas.List.Edits.{sets};
-ghost use Rattle.mask.specs.Mask.{digit as digit-of, bit_up};
+ghost use Rattle.mask.specs.Mask.{digit as digit_of, bit_up};
 ghost use Rattle.lent.specs.Words.{tally_words};
 ghost use Rattle.moves.specs.Between.Tallied.{row_words};
 
@@ -30,7 +30,7 @@ pub(crate) fn bit(mask: &[u64], i: usize) -> bool
 
 // A flag as a digit.
 fn digit(up: bool) -> u32
-    ensures { result ≡ digit-of up }
+    ensures { result ≡ digit_of up }
 {
     if up { 1 } else { 0 }
 }

@@ -2,7 +2,7 @@
 // assignment as a byte for each variable that says whether it has one, and a byte for its value. A row is tested and
 // written whole, without a branch, so that its facts cost the same whatever they are.
 ghost use Rattle.std.specs.Prelude.{◌≡◌, ◌≤◌, ◌<◌};
-ghost use Rattle.sheet.specs.Decode.{initial as initial-of};
+ghost use Rattle.sheet.specs.Decode.{initial as initial_of};
 ghost use Rattle.step.specs.State.{in_array};
 ghost use Rattle.packed_state.specs.Between.Packed.{most_rows, lacking, taking, has_all, written_over};
 ghost use Rattle.packed_state.specs.Between.Packed.{packed_start};
@@ -70,7 +70,7 @@ pub fn write_row(rows: &[u8; ROWS * ROW], r: usize, state: &[u8; STATE]) -> [u8;
 
 // The starting values in bytes.
 pub fn start(words: &[u32]) -> [u8; STATE]
-    ensures { result ≡ packed_start (in_array (initial-of words.now)) }
+    ensures { result ≡ packed_start (in_array (initial_of words.now)) }
 {
     let values = initial(words);
     let mut state = [0u8; STATE];

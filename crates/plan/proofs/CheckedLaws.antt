@@ -10,7 +10,7 @@ use Rattle.refusal.specs.declared.place.Place.TheVariants.{Nowhere, At}
 use Rattle.refusal.specs.declared.Refusal.{Refusal}
 use Rattle.refusal.specs.declared.Refusal.TheVariants.{NotAPlan}
 use Rattle.refusal.specs.declared.Verdict.{Verdict}
-use Rattle.refusal.specs.declared.Verdict.TheVariants.{Passed, Refused as Refused-verdict}
+use Rattle.refusal.specs.declared.Verdict.TheVariants.{Passed, Refused as RefusedVerdict}
 use Rattle.refusal.specs.Refusal.{told_refusal, told}
 use Rattle.refusal.specs.Check.{Check, answer}
 use Rattle.sheet.specs.Decode.{initial, goal}
@@ -33,14 +33,14 @@ refused : (checks : List Check) (w l : List ℕ) (r : Refusal) → answer checks
 refused checks w l r h = record { refusal = sym h; tally = rw h; end = rw h }
 
 module _ (limit : ℕ) (room : limit ≤ bounds.steps) (w l : List ℕ) (v v' : Verdict) (read : told v ≡ answer (read_checks limit w l)) where
-  pub read_refused : (r : Refusal) → v ≡ Refused-verdict r → ChecksLodged limit w l v' (Refused r) no_state
+  pub read_refused : (r : Refusal) → v ≡ RefusedVerdict r → ChecksLodged limit w l v' (Refused r) no_state
   read_refused r e = record { checked = λ besides asked. refused _ w l r (read_answers limit besides w l (sym read ∙ ap told e)) }
 
   module _ (passed : v ≡ Passed) where
     readable : ReadableWithin limit w l
     readable = read_readable limit w l (sym read ∙ ap told passed)
 
-    pub besides_refused : (r : Refusal) → v' ≡ Refused-verdict r → ChecksLodged limit w l v' (Refused r) no_state
+    pub besides_refused : (r : Refusal) → v' ≡ RefusedVerdict r → ChecksLodged limit w l v' (Refused r) no_state
     besides_refused r e = record { checked = λ besides asked. refused _ w l r (besides_answers limit besides w l readable (sym asked ∙ ap told e)) }
 
     -- the walk from the starting values, at the front of an array

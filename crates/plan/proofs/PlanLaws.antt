@@ -1,6 +1,6 @@
 -- What the checks of a list answer, part by part; and of a list that can be read, that its steps are actions of the task and that its tally never meets its
 -- bounds. Assumes nothing.
-use Prim.Native.Nat.{ℕ, zero, suc, ◌+◌, ◌-◌, ◌≤◌, ◌<◌}
+use Prim.Native.Nat.{ℕ, zero, suc, ◌+◌, ◌≤◌, ◌<◌}
 use native.Mathlib.Omega.{arith}
 use mathlib.Core.Path.{◌≡◌, refl, sym, ◌∙◌, ap}
 use mathlib.Core.Option.{none, some}
@@ -39,6 +39,7 @@ total_cost w (a ∷ l) = ap (λ c. cost_word w a + c) (total_cost w l)
 
 -- the entries by their indices
 at_known : (w l : List ℕ) → ((i : ℕ) → i < length l → get_or l i 0 < actions w) → EntriesKnown w l
+at_known w [] at a x'' = elim x'' [ ]
 at_known w (b ∷ l) at a (Memᴰ.head e) = rw e (at 0 (omega arith))
 at_known w (b ∷ l) at a (Memᴰ.tail m) = at_known w l (λ i h. at (suc i) (omega arith)) a m
 

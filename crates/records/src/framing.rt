@@ -1,7 +1,7 @@
 // Where a record at the front of bytes ends, which form it has, and how much must have been read to tell. `further` is
 // how many words stand behind its plan: none in document 01's program.
 ghost use Rattle.std.specs.Prelude.{◌≡◌, ◌<◌, ◌≤◌, ◌^◌};
-ghost use Rattle.records.specs.RecordForm.{outside as outside-limits, task_length, record_ending};
+ghost use Rattle.records.specs.RecordForm.{outside as outside_limits, task_length, record_ending};
 ghost use Rattle.records.specs.RecordForm.{record_form, input_form};
 ghost use Rattle.records.specs.Between.Needed.{bytes_to_read, most_bytes};
 
@@ -28,7 +28,7 @@ fn task_length(bytes: &[u8]) -> usize
 
 // Whether a task may not have so many words.
 fn outside(words: usize) -> bool
-    ensures { result ≡ outside-limits words }
+    ensures { result ≡ outside_limits words }
 {
     if words < PAIRS_AT {
         return true;

@@ -14,7 +14,7 @@ use Rattle.sas.specs.Between.WellFormed.{Known, ActionFormed, Plain, WellFormed}
 use Rattle.sas.specs.Plan.{written}
 use Rattle.sas.proofs.WellFormedLaws.{rising_known}
 use Rattle.sheet.specs.Limits.{limits}
-use Rattle.sheet.specs.Layout.{word, edition as edition-of, first_edition, second_edition, has_conditions, variables, actions, offset, goal_start, goal_end, cost_word, precondition_count, precondition_start, effect_start, effect_end}
+use Rattle.sheet.specs.Layout.{word, edition as edition_of, first_edition, second_edition, has_conditions, variables, actions, offset, goal_start, goal_end, cost_word, precondition_count, precondition_start, effect_start, effect_end}
 use Rattle.sheet.specs.Decode.{table, domains, initial, goal, effects, action, task}
 use Rattle.sheet.specs.Between.Encode.{fact_word, fact_words, effect_part, effects_part, action_part, parts, Encodable}
 use Rattle.sheet.proofs.TableLaws.{table_length, table_at}
@@ -35,7 +35,7 @@ variables_read w l k n told e = ext_get_or 0 (table read 0 n) l (table_length re
         let here : v < n = rw table_length at h in
         table_at read 0 n v v 0 here (omega arith) ∙ told.stands.reads v _ (omega (arith, told.in_place)) (omega arith)
 
-module _ {edition : ℕ} (w : List ℕ) (T : Task) (writable : Encodable edition T) (stated : edition-of w ≡ edition) where
+module _ {edition : ℕ} (w : List ℕ) (T : Task) (writable : Encodable edition T) (stated : edition_of w ≡ edition) where
   -- the value of a known fact is below the limit
   small : {f : Fact} → Known T.domains f → f.value < limits.values
   small {f} known = omega (arith, known.value, writable.values f.variable known.variable)

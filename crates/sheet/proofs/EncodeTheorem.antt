@@ -12,7 +12,7 @@ use borrow.Author.Tests.{eqb-true, not-false}
 use Rattle.refusal.specs.declared.place.Place.TheVariants.{Nowhere}
 use Rattle.sas.specs.Task.{Action, Task}
 use Rattle.sas.specs.Between.WellFormed.{WellFormed}
-use Rattle.sheet.specs.Layout.{edition as edition-of, first_edition, second_edition, has_conditions, variables, actions, pairs_end}
+use Rattle.sheet.specs.Layout.{edition as edition_of, first_edition, second_edition, has_conditions, variables, actions, pairs_end}
 use Rattle.sheet.specs.Decode.{table, domains, action, task}
 use Rattle.sheet.specs.Between.Encode.{fact_word, fact_words, effects_part, action_part, parts, first_offset, sheet_of, encode, Encodable}
 use Rattle.sheet.specs.Causes.{bad_edition, past_part, pair_place, Accepted}
@@ -28,7 +28,7 @@ use Rattle.sheet.proofs.PassLaws.{RightSize, RightSizes, laid_clear, passes}
 use Rattle.sheet.proofs.PassLaws.RightSizes.{none, next}
 
 -- the part of an action is long enough for its facts, and none of its effects runs past it, in words of its edition
-module _ {edition : ℕ} (w : List ℕ) (stated : edition-of w ≡ edition) where
+module _ {edition : ℕ} (w : List ℕ) (stated : edition_of w ≡ edition) where
   effects_whole : (i end : ℕ) (a : Action) → Stands w i (effects_part edition a) → end ≡ i + length (effects_part edition a) → past_part w end i ≡ false
   unfolding effects_part past_part
   effects_whole i end a s same = by_edition (has_conditions w) refl
@@ -97,19 +97,19 @@ module _ {edition : ℕ} (T : Task) (writable : Encodable edition T) where
   encode_accepted first = passes (encode edition T) (subst (Encodable edition) (sym encode_decodes) writable) first measured pairs_fit
 
 module _ (w : List ℕ) (accepted : Accepted w) where
-  pub edition_read : edition-of w ≡ first_edition
+  pub edition_read : edition_of w ≡ first_edition
   unfolding bad_edition
   edition_read = eqb-true _ _ (not-false _ (accepted_clear w accepted).edition)
 
-  pub decode_encodes : encode (edition-of w) (task w) ≡ w
+  pub decode_encodes : encode (edition_of w) (task w) ≡ w
   unfolding encode parts task
   decode_encodes =
       let number : length (table (action w) 0 (actions w)) ≡ actions w = table_length (action w) 0 (actions w) in
-      let begin : pairs_end w ≡ first_offset (parts (edition-of w) (task w)) = omega (arith, length-map (table (action w) 0 (actions w)) (action_part (edition-of w))) in
-      let laid : Laid w 0 (first_offset (parts (edition-of w) (task w))) (parts (edition-of w) (task w)) = rw begin at (accepted_laid w accepted) in
-      rw (domains_length, number) (laid_sheet w (parts (edition-of w) (task w)) (accepted_measured w accepted).stated laid)
+      let begin : pairs_end w ≡ first_offset (parts (edition_of w) (task w)) = omega (arith, length-map (table (action w) 0 (actions w)) (action_part (edition_of w))) in
+      let laid : Laid w 0 (first_offset (parts (edition_of w) (task w))) (parts (edition_of w) (task w)) = rw begin at (accepted_laid w accepted) in
+      rw (domains_length, number) (laid_sheet w (parts (edition_of w) (task w)) (accepted_measured w accepted).stated laid)
 
-  pub accepted_encodable : Encodable (edition-of w) (task w)
+  pub accepted_encodable : Encodable (edition_of w) (task w)
   unfolding task
   accepted_encodable =
       let measured : Measured w = accepted_measured w accepted in

@@ -1,7 +1,7 @@
 // Where the parts of a task stand among its words. Each function is safe for any words: what a word lacks reads as 0.
 ghost use Rattle.std.specs.Prelude.{◌≡◌, ◌<◌, ◌≤◌, ◌^◌};
-ghost use Rattle.sheet.specs.Layout.{word as word_at, variables as variables_of, actions as actions-of};
-ghost use Rattle.sheet.specs.Layout.{offset as offset-of, size as type_size, cost_word};
+ghost use Rattle.sheet.specs.Layout.{word as word_at, variables as variables_of, actions as actions_of};
+ghost use Rattle.sheet.specs.Layout.{offset as offset_of, size as type_size, cost_word};
 ghost use Rattle.sheet.specs.Layout.{has_conditions, effect_fact};
 
 use access::word;
@@ -72,7 +72,7 @@ pub fn variables(w: &[u32]) -> usize
 
 // The number of actions, 01's A.
 pub fn actions(w: &[u32]) -> usize
-    ensures { (result ≡ actions-of w.now) × (result < 2 ^ 32) }
+    ensures { (result ≡ actions_of w.now) × (result < 2 ^ 32) }
 {
     number(w, ACTIONS_AT)
 }
@@ -80,7 +80,7 @@ pub fn actions(w: &[u32]) -> usize
 // The offset in pair k.
 pub fn offset(w: &[u32], k: usize) -> usize
     requires { k ≤ 2 ^ 33 }
-    ensures { (result ≡ offset-of w.now k) × (result < 2 ^ 32) }
+    ensures { (result ≡ offset_of w.now k) × (result < 2 ^ 32) }
 {
     number(w, PAIRS_AT + PAIR * k)
 }
@@ -95,7 +95,7 @@ pub fn size(w: &[u32], k: usize) -> usize
 
 // Where the starting values begin.
 pub fn start_at(w: &[u32]) -> usize
-    ensures { (result ≡ offset-of w.now 1) × (result < 2 ^ 32) }
+    ensures { (result ≡ offset_of w.now 1) × (result < 2 ^ 32) }
 {
     offset(w, INITIAL)
 }

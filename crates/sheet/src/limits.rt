@@ -1,7 +1,7 @@
 // The limits of a sheet, each stated here and nowhere else in the code.
 // specs/Limits.antt has them for the definitions, and `as_stated` holds the two together.
 ghost use Rattle.std.specs.Prelude.{◌≡◌};
-ghost use Rattle.sheet.specs.Limits.{limits as limits-of-01};
+ghost use Rattle.sheet.specs.Limits.{limits as limits_of_01};
 
 // The job sheet of document 01. It is a run of words that the caller lends, so its type holds nothing.
 #[derive(Clone, Copy)]
@@ -30,7 +30,7 @@ pub struct Limits {
 
 // The limits of the code are those of the definitions.
 pub fn as_stated() -> Limits
-    ensures { result ≡ limits-of-01 }
+    ensures { result ≡ limits_of_01 }
 {
     Limits {
         words: Sheet::WORDS,

@@ -2,7 +2,7 @@
 ghost use Rattle.std.specs.Prelude.{◌≡◌, ◌<◌, ◌-◌};
 ghost use Rattle.refusal.specs.Place.{first_of};
 ghost use Rattle.sheet.specs.Decode.{effect_words};
-ghost use Rattle.sheet.specs.Layout.{actions as actions-of};
+ghost use Rattle.sheet.specs.Layout.{actions as actions_of};
 ghost use Rattle.sheet.specs.Causes.{bad_fact, group_place, bad_effect, effect_place, first_in, action_place, fact_place};
 ghost use Rattle.sheet_check.specs.Between.BadEffects.{BadInEffects};
 
@@ -137,7 +137,7 @@ fn bad_in_action(w: &[u32], a: u32) -> Place
 
 // The first bad fact of all actions.
 fn bad_in_actions(w: &[u32]) -> Place
-    ensures { result ≡ first_of (action_place w.now) 0 (actions-of w.now) }
+    ensures { result ≡ first_of (action_place w.now) 0 (actions_of w.now) }
 {
     let n = actions(w);
     let mut a = 0;

@@ -1,9 +1,9 @@
 // Cause 4: a pair of offset and length that does not fit.
 ghost use Rattle.std.specs.Prelude.{◌≡◌, ◌<◌, ◌≤◌, ◌-◌, ◌^◌};
 ghost use Rattle.sas.specs.Conflict.{some_of};
-ghost use Rattle.sheet.specs.Layout.{pairs_end as pairs-end-of};
+ghost use Rattle.sheet.specs.Layout.{pairs_end as pairs_end_of};
 ghost use Rattle.sheet.specs.Decode.{effect_words};
-ghost use Rattle.sheet.specs.Causes.{due as due-of, runs_past, past_part, wrong_size, bad_pair, pair_place};
+ghost use Rattle.sheet.specs.Causes.{due as due_of, runs_past, past_part, wrong_size, bad_pair, pair_place};
 
 use refusal::place::Place;
 use sheet::layout::{
@@ -13,7 +13,7 @@ use sheet::layout::{
 
 // Where the pairs end.
 fn pairs_end(w: &[u32]) -> usize
-    ensures { (result ≡ pairs-end-of w.now) × (result < 2 ^ 34) }
+    ensures { (result ≡ pairs_end_of w.now) × (result < 2 ^ 34) }
 {
     PAIRS_AT + PAIR * (FIRST_ACTION + actions(w))
 }
@@ -21,7 +21,7 @@ fn pairs_end(w: &[u32]) -> usize
 // The offset due in pair k.
 fn due(w: &[u32], k: usize) -> usize
     requires { k ≤ 2 ^ 33 }
-    ensures { result ≡ due-of w.now k }
+    ensures { result ≡ due_of w.now k }
 {
     if k == 0 {
         return pairs_end(w);

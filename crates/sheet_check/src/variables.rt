@@ -1,6 +1,6 @@
 // Cause 5: a domain size or a starting value beyond its range.
 ghost use Rattle.std.specs.Prelude.{◌≡◌, ◌<◌, ◌≤◌, ◌^◌};
-ghost use Rattle.sheet.specs.Layout.{domain as domain-of};
+ghost use Rattle.sheet.specs.Layout.{domain as domain_of};
 ghost use Rattle.sheet.specs.Causes.{bad_variable, variable_place};
 
 use refusal::place::Place;
@@ -10,7 +10,7 @@ use sheet::limits::Sheet;
 // The domain size of variable v.
 pub(crate) fn domain(w: &[u32], v: usize) -> usize
     requires { v ≤ 2 ^ 33 }
-    ensures { (result ≡ domain-of w.now v) × (result < 2 ^ 32) }
+    ensures { (result ≡ domain_of w.now v) × (result < 2 ^ 32) }
 {
     number(w, offset(w, DOMAINS) + v)
 }

@@ -16,7 +16,7 @@ use Rattle.reduction.specs.Between.Elimination.{better}
 use Rattle.reduction.specs.Between.Wanted.{same_fact, has}
 use Rattle.sas.specs.Conflict.{some_of}
 use Rattle.reduction.specs.Landmark.{values_from, framed}
-use Rattle.reduction.specs.Between.Landmarks.{sets_other, passed, trace, raised, round_to, rounds as mark-rounds, landmarks}
+use Rattle.reduction.specs.Between.Landmarks.{sets_other, passed, trace, raised, round_to, rounds as mark_rounds, landmarks}
 use Rattle.reduction.specs.Between.Found.{found, minimal}
 use Rattle.mask.specs.Mask.{binary, words_of, mask_words}
 use Rattle.landmark.specs.Marks.{marks}
@@ -49,7 +49,7 @@ module _ (before : List ℕ) (six : length before ≡ 6) where
     -- and so the service answers as document 01 says of worked list 2
     pub answer_met : (told_answer given ≡ none) × (told_tally given ≡ record { cost = 12; steps = 3 })
         × (mask ≡ 56 ∷ 0 ∷ 0 ∷ 0 ∷ []) × (after ≡ sets before 0 (0 ∷ 1 ∷ 2 ∷ []))
-    unfolding table facts initial goal effects action holds satisfies applicable assign acting apply written unconditional written_always needed cost kept count lower better found minimal some_of same_fact has values_from framed sets_other passed trace raised round_to mark-rounds landmarks marks binary words_of mask_words
+    unfolding table facts initial goal effects action holds satisfies applicable assign acting apply written unconditional written_always needed cost kept count lower better found minimal some_of same_fact has values_from framed sets_other passed trace raised round_to mark_rounds landmarks marks binary words_of mask_words
     answer_met =
         let (readable, plan, roomy) = premises_met in
         let answered : Answers none sheet_p list_1 demand_three_met.left before given mask after = demand_three_met.answered (lit≤ tt) in

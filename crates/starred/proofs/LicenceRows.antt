@@ -16,7 +16,7 @@ use Rattle.reduction.specs.Trials.{walk, after}
 use Rattle.reduction.specs.Between.Wanted.{same_fact, has}
 use Rattle.sas.specs.Conflict.{some_of, differ, contradictory, conflict, conflicting}
 use Rattle.reduction.specs.Landmark.{values_from, framed}
-use Rattle.reduction.specs.Between.Landmarks.{sets_other, passed, trace, raised, round_to, rounds as mark-rounds, landmarks}
+use Rattle.reduction.specs.Between.Landmarks.{sets_other, passed, trace, raised, round_to, rounds as mark_rounds, landmarks}
 use Rattle.reduction.specs.Between.Found.{found, minimal}
 use Rattle.tally.specs.Tally.{comparison}
 use Rattle.sheet.specs.Decode.{table, facts, initial, goal, action, effects}
@@ -60,7 +60,7 @@ licensed r m passes left others claims is positions tally =
     }
 
 least : RowLicensed least_row
-unfolding answer sheet_checks bad_length bad_edition bad_counts due past_part wrong_size bad_pair pair_place bad_variable variable_place bad_fact group_place effects_place action_place fact_place cost_place conflict_place first first_of first_of_next table facts effects initial goal action fault unknown_place list_checks read_checks valid_checks lodged_checks differ contradictory conflict conflicting holds satisfies applicable assign acting apply written needed result run cost kept count compose valid_for lower walk after trial eliminated eliminate better best rounds greedy found minimal some_of same_fact has values_from framed unconditional written_always sets_other passed trace raised round_to mark-rounds landmarks marks comparison cheaper_of claim_of positions_from
+unfolding answer sheet_checks bad_length bad_edition bad_counts due past_part wrong_size bad_pair pair_place bad_variable variable_place bad_fact group_place effects_place action_place fact_place cost_place conflict_place first first_of first_of_next table facts effects initial goal action fault unknown_place list_checks read_checks valid_checks lodged_checks differ contradictory conflict conflicting holds satisfies applicable assign acting apply written needed result run cost kept count compose valid_for lower walk after trial eliminated eliminate better best rounds greedy found minimal some_of same_fact has values_from framed unconditional written_always sets_other passed trace raised round_to mark_rounds landmarks marks comparison cheaper_of claim_of positions_from
 least = licensed least_row (false ∷ false ∷ false ∷ []) refl refl refl refl refl refl refl
 
 -- what the cheaper elimination leaves of the lamps
@@ -68,11 +68,11 @@ abbrev gates_left : Reduction
 gates_left = replicate 9 false ++ (true ∷ true ∷ true ∷ replicate 9 false) ++ (true ∷ true ∷ true ∷ [])
 
 gates_eliminated : cheaper_of gates_and_lamp lamps_between ≡ gates_left
-unfolding answer sheet_checks bad_length bad_edition bad_counts due past_part wrong_size bad_pair pair_place bad_variable variable_place bad_fact group_place effects_place action_place fact_place cost_place conflict_place first first_of first_of_next table facts effects initial goal action fault unknown_place list_checks read_checks valid_checks lodged_checks differ contradictory conflict conflicting holds satisfies applicable assign acting apply written needed result run cost kept count compose valid_for lower walk after trial eliminated eliminate better best rounds greedy found minimal some_of same_fact has values_from framed unconditional written_always sets_other passed trace raised round_to mark-rounds landmarks marks comparison cheaper_of claim_of positions_from
+unfolding answer sheet_checks bad_length bad_edition bad_counts due past_part wrong_size bad_pair pair_place bad_variable variable_place bad_fact group_place effects_place action_place fact_place cost_place conflict_place first first_of first_of_next table facts effects initial goal action fault unknown_place list_checks read_checks valid_checks lodged_checks differ contradictory conflict conflicting holds satisfies applicable assign acting apply written needed result run cost kept count compose valid_for lower walk after trial eliminated eliminate better best rounds greedy found minimal some_of same_fact has values_from framed unconditional written_always sets_other passed trace raised round_to mark_rounds landmarks marks comparison cheaper_of claim_of positions_from
 gates_eliminated = refl
 
 irreducible : RowLicensed irreducible_row
-unfolding answer sheet_checks bad_length bad_edition bad_counts due past_part wrong_size bad_pair pair_place bad_variable variable_place bad_fact group_place effects_place action_place fact_place cost_place conflict_place first first_of first_of_next table facts effects initial goal action fault unknown_place list_checks read_checks valid_checks lodged_checks differ contradictory conflict conflicting holds satisfies applicable assign acting apply written needed result run cost kept count compose valid_for lower walk after trial eliminated eliminate better best rounds greedy found minimal some_of same_fact has values_from framed unconditional written_always sets_other passed trace raised round_to mark-rounds landmarks marks comparison cheaper_of claim_of positions_from
+unfolding answer sheet_checks bad_length bad_edition bad_counts due past_part wrong_size bad_pair pair_place bad_variable variable_place bad_fact group_place effects_place action_place fact_place cost_place conflict_place first first_of first_of_next table facts effects initial goal action fault unknown_place list_checks read_checks valid_checks lodged_checks differ contradictory conflict conflicting holds satisfies applicable assign acting apply written needed result run cost kept count compose valid_for lower walk after trial eliminated eliminate better best rounds greedy found minimal some_of same_fact has values_from framed unconditional written_always sets_other passed trace raised round_to mark_rounds landmarks marks comparison cheaper_of claim_of positions_from
 irreducible = licensed irreducible_row (compose gates_left (false ∷ false ∷ false ∷ true ∷ true ∷ true ∷ [])) refl refl refl claims is refl refl
   where
     claims : claim_of gates_and_lamp lamps_between ≡ Irreducible
@@ -82,7 +82,7 @@ irreducible = licensed irreducible_row (compose gates_left (false ∷ false ∷ 
     is = ap (λ c. claimed_by c gates_and_lamp lamps_between) claims ∙ ap (λ c. compose c (minimal_of gates_and_lamp (kept c lamps_between))) gates_eliminated
 
 still_open : RowLicensed open_row
-unfolding answer sheet_checks bad_length bad_edition bad_counts due past_part wrong_size bad_pair pair_place bad_variable variable_place bad_fact group_place effects_place action_place fact_place cost_place conflict_place first first_of first_of_next table facts effects initial goal action fault unknown_place list_checks read_checks valid_checks lodged_checks differ contradictory conflict conflicting holds satisfies applicable assign acting apply written needed result run cost kept count compose valid_for lower walk after trial eliminated eliminate better best rounds greedy found minimal some_of same_fact has values_from framed unconditional written_always sets_other passed trace raised round_to mark-rounds landmarks marks comparison cheaper_of claim_of positions_from
+unfolding answer sheet_checks bad_length bad_edition bad_counts due past_part wrong_size bad_pair pair_place bad_variable variable_place bad_fact group_place effects_place action_place fact_place cost_place conflict_place first first_of first_of_next table facts effects initial goal action fault unknown_place list_checks read_checks valid_checks lodged_checks differ contradictory conflict conflicting holds satisfies applicable assign acting apply written needed result run cost kept count compose valid_for lower walk after trial eliminated eliminate better best rounds greedy found minimal some_of same_fact has values_from framed unconditional written_always sets_other passed trace raised round_to mark_rounds landmarks marks comparison cheaper_of claim_of positions_from
 still_open = licensed open_row (replicate 21 true) refl refl refl refl refl refl refl
 
 pub licences : LicencesHold
@@ -90,7 +90,7 @@ licences = least also irreducible also still_open also tt
 
 -- the theorem of lists whose steps are all marked has a list to speak of
 list_3_marked : (i : ℕ) → i < 3 → keeps (marks sheet_p list_3) i
-unfolding table facts initial goal effects action written needed some_of same_fact has values_from framed unconditional written_always sets_other passed trace raised round_to mark-rounds landmarks marks
+unfolding table facts initial goal effects action written needed some_of same_fact has values_from framed unconditional written_always sets_other passed trace raised round_to mark_rounds landmarks marks
 list_3_marked zero h = refl
 list_3_marked (suc zero) h = refl
 list_3_marked (suc (suc zero)) h = refl

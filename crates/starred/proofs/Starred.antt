@@ -19,7 +19,7 @@ use Rattle.reduction.specs.Trials.{walk, after}
 use Rattle.reduction.specs.Between.Wanted.{same_fact, has}
 use Rattle.sas.specs.Conflict.{some_of, differ, contradictory, conflict, conflicting}
 use Rattle.reduction.specs.Landmark.{values_from, framed}
-use Rattle.reduction.specs.Between.Landmarks.{sets_other, passed, trace, raised, round_to, rounds as mark-rounds, landmarks}
+use Rattle.reduction.specs.Between.Landmarks.{sets_other, passed, trace, raised, round_to, rounds as mark_rounds, landmarks}
 use Rattle.reduction.specs.Between.Found.{found, minimal}
 use Rattle.reduction.proofs.minimal.MinimalTheorem.{minimal_found}
 use Rattle.mask.specs.Mask.{binary, words_of, mask_words}
@@ -77,7 +77,7 @@ module _ (w l : List ℕ) where
 
 -- what document 01 says of each list holds
 pub starred : Each RowHolds starred_rows
-unfolding answer sheet_checks bad_length bad_edition bad_counts due past_part wrong_size bad_pair pair_place bad_variable variable_place bad_fact group_place effects_place action_place fact_place cost_place conflict_place first first_of first_of_next table facts effects initial goal action fault unknown_place list_checks read_checks valid_checks lodged_checks room_checks unmarked_checks minimal_checks differ contradictory conflict conflicting holds satisfies applicable assign acting apply written needed result run cost kept count valid_for lower walk after trial eliminated eliminate better best rounds greedy found minimal some_of same_fact has values_from framed unconditional written_always sets_other passed trace raised round_to mark-rounds landmarks marks positions_from binary words_of mask_words
+unfolding answer sheet_checks bad_length bad_edition bad_counts due past_part wrong_size bad_pair pair_place bad_variable variable_place bad_fact group_place effects_place action_place fact_place cost_place conflict_place first first_of first_of_next table facts effects initial goal action fault unknown_place list_checks read_checks valid_checks lodged_checks room_checks unmarked_checks minimal_checks differ contradictory conflict conflicting holds satisfies applicable assign acting apply written needed result run cost kept count valid_for lower walk after trial eliminated eliminate better best rounds greedy found minimal some_of same_fact has values_from framed unconditional written_always sets_other passed trace raised round_to mark_rounds landmarks marks positions_from binary words_of mask_words
 starred =
     (refl, valid_truly sheet_p list_1 refl refl)
     also (refl, (marks_just sheet_p list_1, refl))

@@ -2,7 +2,7 @@
 ghost use Rattle.std.specs.Prelude.{◌≡◌, ◌≤◌, length};
 ghost use Rattle.sas.specs.Plan.{satisfies};
 ghost use Rattle.sheet.specs.Limits.{limits};
-ghost use Rattle.sheet.specs.Decode.{goal as goal-of};
+ghost use Rattle.sheet.specs.Decode.{goal as goal_of};
 ghost use Rattle.step.specs.State.{front};
 ghost use Rattle.step.specs.Between.Advance.{Advances};
 
@@ -28,7 +28,7 @@ pub fn advance(words: &[u32], state: &mut [u32], action: u32) -> bool
 
 // Whether the goal holds in a state.
 pub fn goal_holds(words: &[u32], state: &[u32]) -> bool
-    ensures { result ≡ satisfies state.now (goal-of words.now) }
+    ensures { result ≡ satisfies state.now (goal_of words.now) }
 {
     let failing = find_failing(words, state, goal(words));
     match failing {

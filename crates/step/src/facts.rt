@@ -1,7 +1,7 @@
 // The test whether a group of facts holds, and the writes of an action's effects. Every service that does a step goes
 // through these two.
 ghost use Rattle.std.specs.Prelude.{◌≡◌, cond, [], ◌∷◌, ◌≤◌, length, set};
-ghost use Rattle.sas.specs.Plan.{holds as holds-in, satisfies, assign, acting};
+ghost use Rattle.sas.specs.Plan.{holds as holds_in, satisfies, assign, acting};
 ghost use Rattle.sheet.specs.Limits.{limits};
 ghost use Rattle.sheet.specs.Decode.{fact_of};
 ghost use Rattle.sheet.specs.Between.Group.{facts_in, last_fact, front_of};
@@ -15,7 +15,7 @@ use sheet::limits::Sheet;
 
 // Whether the fact that a word is holds in the state.
 pub fn holds(state: &[u32], fact: u32) -> bool
-    ensures { result ≡ holds-in state.now (fact_of fact) }
+    ensures { result ≡ holds_in state.now (fact_of fact) }
 {
     let variable = fact as usize / Sheet::VALUES;
     let value = fact as usize % Sheet::VALUES;

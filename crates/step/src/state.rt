@@ -2,7 +2,7 @@
 // them no step reads or writes, so a walk is lent the front alone.
 ghost use Rattle.std.specs.Prelude.{◌≡◌, ◌≤◌};
 ghost use Rattle.sheet.specs.Limits.{limits};
-ghost use Rattle.sheet.specs.Decode.{initial as initial-of};
+ghost use Rattle.sheet.specs.Decode.{initial as initial_of};
 ghost use Rattle.step.specs.State.{state_size, in_array};
 
 use access::{put, word};
@@ -29,7 +29,7 @@ pub fn size(words: &[u32]) -> usize
 
 // The starting values, zero past them.
 pub fn initial(words: &[u32]) -> [u32; Sheet::VARIABLES]
-    ensures { result ≡ in_array (initial-of words.now) }
+    ensures { result ≡ in_array (initial_of words.now) }
 {
     let from = start_at(words);
     let n = variables(words);

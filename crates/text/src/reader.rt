@@ -1,6 +1,6 @@
 // The reading of a text, byte by byte.
 ghost use Rattle.std.specs.Prelude.{◌≡◌, false, List, [], ◌∷◌, ℕ, ◌+◌, ◌<◌, ◌^◌, length};
-ghost use Rattle.text.specs.Text.{blank as is-blank, found_in, reading_of};
+ghost use Rattle.text.specs.Text.{blank as is_blank, found_in, reading_of};
 ghost use Rattle.text.specs.Between.Reading.{ends_field, still, at_blank, at_comment, at_word};
 ghost use Rattle.text.specs.Between.Reading.{Reads, Starts, Stores};
 
@@ -44,7 +44,7 @@ pub enum Ending {
 
 // White space within a line.
 fn blank(byte: u8) -> bool
-    ensures { result ≡ is-blank byte }
+    ensures { result ≡ is_blank byte }
 {
     if byte == SPACE {
         return true;

@@ -1,7 +1,7 @@
 // What a walk along a plan knows of each fact that a step wrote, and of the marked steps that wrote each variable.
 ghost use Rattle.std.specs.Prelude.{◌≡◌};
 ghost use Rattle.sheet.specs.Limits.{limits};
-ghost use Rattle.sheet.specs.Decode.{initial as initial-of};
+ghost use Rattle.sheet.specs.Decode.{initial as initial_of};
 ghost use Rattle.sheet.specs.Between.Effects.{written_in, always_in, first_always};
 ghost use Rattle.step.specs.State.{in_array};
 ghost use Rattle.trace.specs.Between.Traces.{until_at, supporting, trace_wrote, traces_wrote};
@@ -134,7 +134,7 @@ pub fn write_effects(
 
 // The words of all variables behind the start step, which is marked and writes the starting values at position 0.
 pub fn start(words: &[u32]) -> [u32; LATEST]
-    ensures { result ≡ started (in_array (initial-of words.now)) limits.variables }
+    ensures { result ≡ started (in_array (initial_of words.now)) limits.variables }
 {
     let values = initial(words);
     let mut latest = [0u32; LATEST];

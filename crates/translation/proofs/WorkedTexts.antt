@@ -15,7 +15,7 @@ use Rattle.sheet.specs.Decode.{table}
 use Rattle.sheet.specs.Between.Encode.{effects_part, action_part, parts, pairs_of, body, sheet_of, encode}
 use Rattle.fields.specs.Between.Fields.{same, is_number, number, word_reads, word_number, all_read, all_plain, plain_but_old}
 use Rattle.form.specs.Between.Form.{numbers_fit, fits, times, after_count, further, walk, nothing_left, whole, walked, broken_line, bars}
-use Rattle.form.specs.Between.Form.{first_barred as first-barred-entry}
+use Rattle.form.specs.Between.Form.{first_barred as first_barred_entry}
 use Rattle.planner.specs.Text.{most_bytes}
 use Rattle.form.specs.Between.Form.{unsupported_line, kept, kept_of, numbers_of}
 use Rattle.meaning.specs.Between.Sections.{fact_at, facts_at, ranges, state, goal, action_at, actions_from, meaning}
@@ -27,7 +27,7 @@ use Rattle.sas.specs.Plan.{written}
 use Rattle.refusal.specs.declared.place.Place.TheVariants.{Nowhere, At}
 use Rattle.planner.specs.Text.{Text}
 use Rattle.planner.specs.Printed.{joined, counted, ended, printed}
-use Rattle.planner.specs.Printed.{lines as printed-lines}
+use Rattle.planner.specs.Printed.{lines as printed_lines}
 use Rattle.planner.specs.Meant.{meant, first_barred, unsayable}
 use Rattle.planner.specs.Broken.{Breaks}
 use Rattle.printed_form.proofs.PrintedTheorem.{broken_breaks}
@@ -48,7 +48,7 @@ refused n place = record { number = n; place = place }
 
 pub good_text : (text_sheet (with_effect (ascii "0 0 0 1")) ≡ 1 ∷ 1 ∷ 1 ∷ 19 ∷ 12 ∷ 1 ∷ 13 ∷ 1 ∷ 14 ∷ 1 ∷ 15 ∷ 4 ∷ 2 ∷ 0 ∷ 1 ∷ 5 ∷ 1 ∷ 0 ∷ 1 ∷ [])
     × (answer (translation_checks (with_effect (ascii "0 0 0 1")) 19) ≡ none)
-unfolding answer translation_checks task_checks split all_digits decimal_from table effects_part action_part parts pairs_of body sheet_of encode same is_number number word_reads word_number all_read all_plain plain_but_old numbers_fit fits times after_count further walk nothing_left whole walked broken_line bars first-barred-entry unsupported_line kept kept_of numbers_of fact_at facts_at ranges state goal action_at actions_from meaning insert put_in written ordered_action ordered known has fit_in variables_fit no_condition action_fits actions_fit writable flatten
+unfolding answer translation_checks task_checks split all_digits decimal_from table effects_part action_part parts pairs_of body sheet_of encode same is_number number word_reads word_number all_read all_plain plain_but_old numbers_fit fits times after_count further walk nothing_left whole walked broken_line bars first_barred_entry unsupported_line kept kept_of numbers_of fact_at facts_at ranges state goal action_at actions_from meaning insert put_in written ordered_action ordered known has fit_in variables_fit no_condition action_fits actions_fit writable flatten
 good_text = (refl, refl)
 
 -- by the line of the effect, in a buffer of so many words: a needless zero, a sign where none stands, an old value that may be −1, a condition, a value and a
@@ -60,14 +60,14 @@ pub texts_refused : (answer (translation_checks (with_effect (ascii "0 0 00 1"))
     × (answer (translation_checks (with_effect (ascii "0 0 0 2")) 19) ≡ some (refused 15 0))
     × (answer (translation_checks (with_effect (ascii "0 1 -1 0")) 19) ≡ some (refused 15 0))
     × (answer (translation_checks (with_effect (ascii "0 0 0 1")) 18) ≡ some (refused 10 19))
-unfolding answer translation_checks task_checks split all_digits decimal_from table effects_part action_part parts pairs_of body sheet_of encode same is_number number word_reads word_number all_read all_plain plain_but_old numbers_fit fits times after_count further walk nothing_left whole walked broken_line bars first-barred-entry unsupported_line kept kept_of numbers_of fact_at facts_at ranges state goal action_at actions_from meaning insert put_in written ordered_action ordered known has fit_in variables_fit no_condition action_fits actions_fit writable flatten
+unfolding answer translation_checks task_checks split all_digits decimal_from table effects_part action_part parts pairs_of body sheet_of encode same is_number number word_reads word_number all_read all_plain plain_but_old numbers_fit fits times after_count further walk nothing_left whole walked broken_line bars first_barred_entry unsupported_line kept kept_of numbers_of fact_at facts_at ranges state goal action_at actions_from meaning insert put_in written ordered_action ordered known has fit_in variables_fit no_condition action_fits actions_fit writable flatten
 texts_refused = (refl, refl, refl, refl, refl, refl, refl)
 
 -- a line that is missing, and one too many
 pub texts_cut : (answer (translation_checks before 19) ≡ some (refused 13 32))
     × (answer (translation_checks (with_effect (ascii "0 0 0 1\n0 0 0 1")) 19) ≡ some (refused 13 33))
     × (answer (translation_checks [] 19) ≡ some (refused 13 1))
-unfolding answer translation_checks task_checks split all_digits decimal_from table effects_part action_part parts pairs_of body sheet_of encode same is_number number word_reads word_number all_read all_plain plain_but_old numbers_fit fits times after_count further walk nothing_left whole walked broken_line bars first-barred-entry unsupported_line kept kept_of numbers_of fact_at facts_at ranges state goal action_at actions_from meaning insert put_in written ordered_action ordered known has fit_in variables_fit no_condition action_fits actions_fit writable flatten
+unfolding answer translation_checks task_checks split all_digits decimal_from table effects_part action_part parts pairs_of body sheet_of encode same is_number number word_reads word_number all_read all_plain plain_but_old numbers_fit fits times after_count further walk nothing_left whole walked broken_line bars first_barred_entry unsupported_line kept kept_of numbers_of fact_at facts_at ranges state goal action_at actions_from meaning insert put_in written ordered_action ordered known has fit_in variables_fit no_condition action_fits actions_fit writable flatten
 texts_cut = (refl, refl, refl)
 
 -- a text of more than 65,536 bytes
@@ -100,11 +100,11 @@ open_gate = record { variable = 0; value = 0 } ∷ []
 
 -- how it is printed, which of its lines no sheet can say, and what it means
 pub lock_printed : (printed (lock []) ≡ with_effect (ascii "0 0 0 1")) × (printed (lock open_gate) ≡ with_effect (ascii "1 0 0 0 0 1"))
-unfolding printed-lines counted joined ended numeral numeral_within flatten
+unfolding printed_lines counted joined ended numeral numeral_within flatten
 lock_printed = (refl, refl)
 
 pub lock_barred : (unsayable (lock []) ≡ Nowhere) × (unsayable (lock open_gate) ≡ At 32)
-unfolding printed-lines counted first_barred flatten
+unfolding printed_lines counted first_barred flatten
 lock_barred = (refl, refl)
 
 pub lock_meant : meant (lock [])

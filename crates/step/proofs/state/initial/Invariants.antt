@@ -1,0 +1,13 @@
+-- `initial` meets its contract. The loop's invariant: storing the values from v on makes what storing all makes. Assumes nothing.
+use lib.ListN.{length-set, length, replicate}
+use Rattle.step.proofs.StateLaws.{started_whole, started, started_over, started_more}
+use Rattle.step.specs.State.{in_array}
+use mathlib.Core.Path.{◌≡◌, refl, sym, ◌∙◌}
+use Prim.Native.Nat.{◌-◌}
+use Rattle.step.proofs.state.initial.Given as goal
+
+abbrev pub invariant-loop-v : goal.invariant-loop-v
+invariant-loop-v l = (length l.values ≡ 64) × (started l.words l.values l.v l.n ≡ started l.words (replicate 64 0) 0 l.n)
+
+abbrev pub decreases-loop-v : goal.decreases-loop-v
+decreases-loop-v l = l.n - l.v
