@@ -12,6 +12,7 @@ use program::opened::{Opened, open_input};
 use program::output::put_refusal;
 use program::parts::plan_part;
 use records::framing::{ALONE, WORDS};
+use std::io::Read;
 
 // Licenses the plan, unless the input is refused before.
 fn license_input(bytes: &[u8], out: &mut [u8]) -> usize
@@ -29,12 +30,12 @@ fn license_input(bytes: &[u8], out: &mut [u8]) -> usize
     }
 }
 
-// Reads the input to the front of `bytes`, and puts what is printed for it to the front of `out`.
-pub(crate) fn answer_input(bytes: &mut [u8], out: &mut [u8]) -> Done
+// Reads the input from `reader` to the front of `bytes`, and puts what is printed for it to the front of `out`.
+pub(crate) fn answer_input<R: Read>(reader: &mut R, bytes: &mut [u8], out: &mut [u8]) -> Done
     requires { licence_room ≤ length out.old }
     ensures { HasDone 0 printed bytes.new result out.old out.new }
 {
-    let input = read(bytes, 0, ALONE);
+    let input = read(reader, bytes, 0, ALONE);
     let n = input.count;
     let written = license_input(&bytes[..n], out);
     Done { input, written }

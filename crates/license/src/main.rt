@@ -14,9 +14,10 @@ use records::framing::BYTES;
 // The most bytes that are printed: the line of the claim, three lines, and one for each step.
 const TEXT: usize = LINE * (4 + Plan::STEPS);
 
-fn main() {
+fn main(rt: HostRuntime) {
+    let mut reader = rt.stdin();
     let mut bytes = [0u8; BYTES];
     let mut text = [0u8; TEXT];
-    let done = answer_input(&mut bytes, &mut text);
-    write_text(first_bytes(&text, done.written));
+    let done = answer_input(&mut reader, &mut bytes, &mut text);
+    write_text(&rt, first_bytes(&text, done.written));
 }

@@ -1,9 +1,10 @@
-// The reading of standard input, in stages, so that a program never waits for bytes that it does not need.
+// The reading of an input, in stages, so that a program never waits for bytes that it does not need.
+ghost use Rattle.io.specs.Counts.{IsPrefixLen};
 ghost use Rattle.program.specs.Printed.{HasRead};
 
-use libc::STDIN_FILENO;
 use records::framing::{WORDS, bytes_to_read};
 use records::word::WORD;
+use std::io::Read;
 
 // How many bytes have been read, and whether the input ended before all that were asked for.
 #[derive(Clone, Copy)]
@@ -19,10 +20,25 @@ pub struct Done {
     pub written: usize,
 }
 
+// Reads until the bytes lent are full, the input ends or a read fails, and answers how many bytes are at their front.
+fn read_full<R: Read>(reader: &mut R, bytes: &mut [u8]) -> usize
+    ensures { IsPrefixLen result bytes.new }
+{
+    let mut have = 0;
+    while have < bytes.len() {
+        let got = reader.read(&mut bytes[have..]).unwrap_or(0);
+        if got == 0 {
+            break;
+        }
+        have += got;
+    }
+    have
+}
+
 // Reads a record, with `further` words behind its plan, as far as its form needs, and `beyond` bytes behind a whole
 // one; or to the end of the input. Where the bytes lent could be too few nothing is read, as from an input that is
 // empty.
-pub fn read(bytes: &mut [u8], further: u32, beyond: u32) -> Input
+pub fn read<R: Read>(reader: &mut R, bytes: &mut [u8], further: u32, beyond: u32) -> Input
     ensures { HasRead further beyond bytes.new result }
 {
     if bytes.len() < WORD * (WORDS + further as usize) + beyond as usize {
@@ -40,7 +56,7 @@ pub fn read(bytes: &mut [u8], further: u32, beyond: u32) -> Input
                 ended: false,
             };
         }
-        let got = io::read_full(STDIN_FILENO, &mut bytes[have..want]);
+        let got = read_full(reader, &mut bytes[have..want]);
         have += got;
         if have < want {
             return Input {

@@ -6,7 +6,6 @@ ghost use Rattle.refusal.specs.Refusal.{told_refusal};
 ghost use Rattle.program.specs.Printed.{tally_line, refusal_line};
 ghost use Rattle.program.specs.Between.Room.{word_room, line_room, ShortLine};
 
-use libc::{STDERR_FILENO, STDOUT_FILENO};
 use lines::{put_line, put_row};
 use refusal::Refusal;
 use tally::Tally;
@@ -76,11 +75,11 @@ pub fn first_bytes(bytes: &[u8], n: usize) -> &[u8]
     if n < bytes.len() { &bytes[..n] } else { bytes }
 }
 
-// Writes a text to standard output, and says on standard error where that can't be done. No contract can say what a
-// call of C writes, so this is all that it does.
-pub fn write_text(text: &[u8]) {
-    if io::write_all(STDOUT_FILENO, text) {
+// Writes a text to standard output, and says on standard error where that can't be done. No contract can say what is
+// written there, so this is all that it does.
+pub fn write_text(rt: &(impl Print + Eprint), text: &[u8]) {
+    if rt.write_all(text).is_ok() {
         return;
     }
-    io::write_all(STDERR_FILENO, b"the answer can't be written\n");
+    let _ = rt.eprint("the answer can't be written\n");
 }

@@ -2,7 +2,6 @@
 ghost use Rattle.std.specs.Prelude.{List, ℕ};
 ghost use Rattle.translate.specs.Answer.{only_says, Gives};
 
-use libc::{STDERR_FILENO, STDOUT_FILENO};
 use lines::put_text;
 
 // How many bytes are written, and how many are said.
@@ -23,10 +22,16 @@ pub(crate) fn refuse(errors: &mut [u8], what: &[u8]) -> Answered
 }
 
 // Hands an answer out. Where its bytes can't be written, that is said instead, in the words of `lost`.
-pub(crate) fn give(written: &[u8], said: &[u8], lost: &[u8]) {
-    io::write_all(STDERR_FILENO, said);
-    if !io::write_all(STDOUT_FILENO, written) {
-        io::write_all(STDERR_FILENO, lost);
-        io::write_all(STDERR_FILENO, b"\n");
+pub(crate) fn give(
+    out: &impl Print,
+    errors: &impl Print,
+    written: &[u8],
+    said: &[u8],
+    lost: &[u8],
+) {
+    let _ = errors.write_all(said);
+    if out.write_all(written).is_err() {
+        let _ = errors.write_all(lost);
+        let _ = errors.write_all(b"\n");
     }
 }

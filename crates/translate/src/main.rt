@@ -25,15 +25,18 @@ fn input_room() -> [u8; TEXT + 1]
     [0; TEXT + 1]
 }
 
-fn main() {
+fn main(rt: HostRuntime) {
+    let mut reader = rt.stdin();
     let mut bytes = input_room();
     let mut out = [0u8; WORD * Sheet::WORDS];
     let mut errors = [0u8; LINE];
-    let done = translate_input(&mut bytes, &mut out, &mut errors);
+    let done = translate_input(&mut reader, &mut bytes, &mut out, &mut errors);
     let answer = done.answer;
     let written = answer.written;
     let said = answer.said;
     give(
+        &rt.stdout(),
+        &rt.stderr(),
         &out[..written],
         &errors[..said],
         b"the words can't be written",

@@ -12,6 +12,7 @@ use access::front;
 use program::output::put_refusal;
 use program::pack::pack;
 use sheet::limits::Sheet;
+use std::io::Read;
 use translation::translate::{Translated, translate};
 
 // Translates a text. What is said of it has room in a line.
@@ -41,16 +42,21 @@ pub(crate) struct Translating {
     pub(crate) answer: Answered,
 }
 
-// Reads a text from standard input, and translates it. What is written fits into as many bytes as are asked for
+// Reads a text from `reader`, and translates it. What is written fits into as many bytes as are asked for
 // (`sheet_bytes_fit`), and what is said into a line.
-pub(crate) fn translate_input(bytes: &mut [u8], out: &mut [u8], errors: &mut [u8]) -> Translating
+pub(crate) fn translate_input<R: Read>(
+    reader: &mut R,
+    bytes: &mut [u8],
+    out: &mut [u8],
+    errors: &mut [u8],
+) -> Translating
     requires { (word_bytes * limits.words ≤ length out.old) × (line_room ≤ length errors.old) }
     ensures has_translated { HasTranslated bytes.new result
         out.old out.new errors.old errors.new }
     ensures bytes_len_bound { length (translated_input result.input.last (take result.input.count bytes.new)).said
         ≤ line_room }
 {
-    let input = read_input(bytes);
+    let input = read_input(reader, bytes);
     let read = input.count;
     let last = input.last;
     if last < 0 {

@@ -11,6 +11,7 @@ use program::opened::{Opened, open_input};
 use program::output::{put_refusal, put_tally};
 use program::parts::plan_part;
 use records::framing::{ALONE, WORDS};
+use std::io::Read;
 
 // Checks a plan.
 fn check(words: &[u32], plan: &[u32], out: &mut [u8]) -> usize
@@ -41,12 +42,12 @@ fn check_input(bytes: &[u8], out: &mut [u8]) -> usize
     }
 }
 
-// Reads the input to the front of `bytes`, and puts what is printed for it to the front of `out`.
-pub(crate) fn answer_input(bytes: &mut [u8], out: &mut [u8]) -> Done
+// Reads the input from `reader` to the front of `bytes`, and puts what is printed for it to the front of `out`.
+pub(crate) fn answer_input<R: Read>(reader: &mut R, bytes: &mut [u8], out: &mut [u8]) -> Done
     requires { line_room ≤ length out.old }
     ensures { HasDone 0 printed bytes.new result out.old out.new }
 {
-    let input = read(bytes, 0, ALONE);
+    let input = read(reader, bytes, 0, ALONE);
     let n = input.count;
     let written = check_input(&bytes[..n], out);
     Done { input, written }

@@ -9,9 +9,10 @@ use crate::check::answer_input;
 use program::output::{LINE, first_bytes, write_text};
 use records::framing::BYTES;
 
-fn main() {
+fn main(rt: HostRuntime) {
+    let mut reader = rt.stdin();
     let mut bytes = [0u8; BYTES];
     let mut text = [0u8; LINE];
-    let done = answer_input(&mut bytes, &mut text);
-    write_text(first_bytes(&text, done.written));
+    let done = answer_input(&mut reader, &mut bytes, &mut text);
+    write_text(&rt, first_bytes(&text, done.written));
 }

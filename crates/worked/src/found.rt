@@ -46,12 +46,18 @@ fn put_kept(words: &[u32], plan: &[u32], out: &mut [u8], at: usize) -> usize {
 }
 
 // Prints a line: which list it is, by its name and a number, and what is found of it.
-pub(crate) fn print_found(name: &[u8], number: u64, words: &[u32], plan: &[u32]) {
+pub(crate) fn print_found(
+    rt: &(impl Print + Eprint),
+    name: &[u8],
+    number: u64,
+    words: &[u32],
+    plan: &[u32],
+) {
     let mut line = [0u8; 3 * LINE];
     let named = put_text(&mut line, 0, name);
     let numbered = put_spaced(&mut line, named, &[number]);
     let begun = put_text(&mut line, numbered, b": ");
     let lodged = put_lodged(words, plan, &mut line, begun);
     let end = put_kept(words, plan, &mut line, lodged);
-    write_text(first_bytes(&line, end));
+    write_text(rt, first_bytes(&line, end));
 }

@@ -16,41 +16,47 @@ use plan::limits::Plan;
 use sheet::limits::Sheet;
 
 // So many lamps, where drop costs so much.
-fn run(name: &[u8], number: u64, cost: u32, lamps: usize)
+fn run(rt: &(impl Print + Eprint), name: &[u8], number: u64, cost: u32, lamps: usize)
     requires { lamps < 2 ^ 32 }
 {
     let words = sheet(cost);
     let list = after_lamps(lamps);
-    print_found(name, number, &words, front(&list, lamps + BEHIND));
+    print_found(rt, name, number, &words, front(&list, lamps + BEHIND));
 }
 
 // Named by the lamps.
-fn with_lamps(lamps: usize)
+fn with_lamps(rt: &(impl Print + Eprint), lamps: usize)
     requires { lamps < 2 ^ 32 }
 {
-    run(b"list 10, lamps", lamps as u64, DROP_COST, lamps);
+    run(rt, b"list 10, lamps", lamps as u64, DROP_COST, lamps);
 }
 
 // Named by all steps.
-fn with_steps(lamps: usize)
+fn with_steps(rt: &(impl Print + Eprint), lamps: usize)
     requires { lamps < 2 ^ 32 }
 {
-    run(b"list 11, steps", (lamps + BEHIND) as u64, DROP_COST, lamps);
+    run(
+        rt,
+        b"list 11, steps",
+        (lamps + BEHIND) as u64,
+        DROP_COST,
+        lamps,
+    );
 }
 
 // Named by the price of drop.
-fn with_price(price: u32) {
-    run(b"list 11, price", price as u64, price, 0);
+fn with_price(rt: &(impl Print + Eprint), price: u32) {
+    run(rt, b"list 11, price", price as u64, price, 0);
 }
 
 // Of each two the first is the last that passes and the second the first that does not; of list 10 the one before that
 // stands in front.
-fn main() {
-    with_lamps(UNMARKED - 1);
-    with_lamps(UNMARKED);
-    with_lamps(UNMARKED + 1);
-    with_steps(Plan::STEPS - BEHIND);
-    with_steps(Plan::STEPS - BEHIND + 1);
-    with_price(Sheet::COST);
-    with_price(Sheet::COST + 1);
+fn main(rt: HostRuntime) {
+    with_lamps(&rt, UNMARKED - 1);
+    with_lamps(&rt, UNMARKED);
+    with_lamps(&rt, UNMARKED + 1);
+    with_steps(&rt, Plan::STEPS - BEHIND);
+    with_steps(&rt, Plan::STEPS - BEHIND + 1);
+    with_price(&rt, Sheet::COST);
+    with_price(&rt, Sheet::COST + 1);
 }
