@@ -5,8 +5,8 @@ use native.Mathlib.Omega.{arith}
 use native.Mathlib.Numerals.{add-one}
 use mathlib.Core.Path.{◌≡◌, refl, sym, ◌∙◌, ap}
 use mathlib.Core.Bool.{Bool, true, false}
-use mathlib.Core.Option.{Option, none, some}
-use mathlib.Core.List.{List, [], ◌∷◌, ◌++◌, append-nil, flatten}
+use mathlib.Core.Option.{Option, none}
+use mathlib.Core.List.{List, [], ◌∷◌, append-nil, flatten}
 use lib.ListN.{length, get_or, take, drop, drop_of_length-le}
 use lib.Seq.{sets}
 use Rattle.access.proofs.StoreLaws.{stores_joined}
@@ -30,7 +30,7 @@ use Rattle.plan.specs.Valid.{steps}
 use Rattle.plan.specs.Readable.{Readable}
 use Rattle.plan.proofs.PlanLaws.{read_readable}
 use Rattle.plan.proofs.FaultLaws.{drop_next}
-use Rattle.course.specs.Course.{defined, states_along, course, course_checks, Courses}
+use Rattle.course.specs.Course.{defined, states_along, course_checks, Courses}
 use Rattle.course.specs.Between.Follows.{Follows}
 
 -- a table that begins one later

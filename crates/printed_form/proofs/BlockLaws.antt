@@ -1,17 +1,16 @@
 -- The blocks of a text as formats: variables, mutex groups, operators and axioms, and what is kept of each. Assumes
 -- nothing.
 use Prim.Native.Nat.{ℕ}
-use mathlib.Core.Path.{◌≡◌, refl, sym, ◌∙◌, ap}
-use mathlib.Core.Bool.{Bool}
+use mathlib.Core.Path.{◌≡◌, refl, sym, ap}
 use mathlib.Core.Option.{Option, none, some}
-use mathlib.Core.List.{List, [], ◌∷◌, ◌++◌, map, flatten, append-nil}
+use mathlib.Core.List.{List, [], ◌∷◌, ◌++◌, map, flatten}
 use lib.ListN.{length}
 use Rattle.ascii.specs.Bytes.{ascii}
 use Rattle.sas.specs.Task.{Fact, Assignment}
 use Rattle.form.specs.Between.Form as form
 use Rattle.planner.specs.Text.{Name, Variable, Change, Effect, Operator, Axiom}
-use Rattle.planner.specs.Printed.{Line, keyword, said, counted, name_lines, fact_lines, layer_line, variable_lines, group_lines, value_lines, effect_lines, operator_lines, axiom_lines, axioms_line, effect_numbers}
-use Rattle.printed_form.specs.Between.Datum.{sat, Datum, line, adds, keeps}
+use Rattle.planner.specs.Printed.{said, counted, name_lines, fact_lines, layer_line, variable_lines, group_lines, value_lines, effect_lines, operator_lines, axiom_lines, axioms_line, effect_numbers}
+use Rattle.printed_form.specs.Between.Datum.{sat, line}
 use Rattle.printed_form.proofs.FormatLaws.{Format, line_format, seq_format, as_format, counted_format}
 
 -- a keyword, a name, and lines of numbers

@@ -1,16 +1,16 @@
 -- Whatever lines are due, some lines fill it: what has been read so far can be completed. Assumes nothing.
 use Prim.Native.Nat.{ℕ, zero, suc}
-use mathlib.Core.Path.{◌≡◌, refl, sym, ◌∙◌, ap, subst}
-use mathlib.Core.Bool.{Bool, true, false, ◌||◌, false≢true}
+use mathlib.Core.Path.{◌≡◌, refl, sym, subst}
+use mathlib.Core.Bool.{Bool, true, false, false≢true}
 use mathlib.Core.Option.{none}
-use mathlib.Core.List.{List, [], ◌∷◌, ◌++◌, append-nil}
+use mathlib.Core.List.{List, [], ◌∷◌, ◌++◌}
 use Rattle.ascii.specs.Bytes.{ends_line}
 use Rattle.fields.specs.Between.Reading.{has_line_end}
 use Rattle.form.specs.Between.Form as form
 use Rattle.planner.specs.Printed.{Line}
 use Rattle.planner.specs.Broken.{OneLine}
 use Rattle.printed_form.specs.Between.Datum.{RowData, Datum, row_numbers, row_adds, line, adds, keeps}
-use Rattle.printed_form.specs.Between.Filled.{Answered, Takes, Fills}
+use Rattle.printed_form.specs.Between.Filled.{Takes, Fills}
 use Rattle.printed_form.proofs.JoinLaws.{Free, one_line}
 use Rattle.printed_form.proofs.SignLaws.{numbers_one_line}
 use Rattle.printed_form.proofs.FillLaws.{fills_both}

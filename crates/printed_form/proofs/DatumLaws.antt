@@ -3,22 +3,22 @@
 use Prim.Native.Nat.{ℕ, zero, suc, ◌+◌, ◌*◌, ◌≤◌, ◌<◌, min}
 use native.Mathlib.Omega.{arith}
 use mathlib.Core.Path.{◌≡◌, refl, sym, ◌∙◌, ap}
-use mathlib.Core.Bool.{Bool, true, false, not, cond, ◌&&◌, false≢true, true≢false}
+use mathlib.Core.Bool.{Bool, true, false, not, cond, ◌&&◌, false≢true}
 use mathlib.Core.Option.{Option, none, some}
-use mathlib.Core.List.{List, [], ◌∷◌, ◌++◌, map, flatten, cons≢nil}
+use mathlib.Core.List.{List, [], ◌∷◌, ◌++◌, map, flatten}
 use lib.ListN.{length, get_or, drop}
 use lib.Dec.{eqb, ltb}
-use borrow.Author.Tests.{ne_eqb, eq-eqb, eqb-true, lt-ltb, le-ltb, ltb-true, ltb-false}
+use borrow.Author.Tests.{ne_eqb, eq-eqb, eqb-true, lt-ltb, ltb-true}
 use Rattle.sas.specs.Task.{Fact, Assignment}
 use Rattle.lines.proofs.NumeralTheorem.{both}
 use Rattle.fields.specs.Between.Numbers.{most_number, any_value}
-use Rattle.fields.specs.Between.Fields.{same, plain, all_plain, plain_but_old, line_reads, line_numbers}
+use Rattle.fields.specs.Between.Fields.{plain, all_plain, plain_but_old, line_reads, line_numbers}
 use Rattle.fields.proofs.ClassTheorem.{same_equal}
 use Rattle.form.specs.Between.Form as form
 use Rattle.form.proofs.KeywordLaws.{same_self}
 use Rattle.planner.specs.Text.{Change, Effect}
-use Rattle.planner.specs.Printed.{Line, numbers, fact_numbers, change_numbers, effect_numbers}
-use Rattle.printed_form.specs.Between.Datum.{sat, RowData, row_numbers, has_layer, count_barred, row_barred, row_adds, Datum, line, adds, keeps}
+use Rattle.planner.specs.Printed.{numbers, fact_numbers, change_numbers, effect_numbers}
+use Rattle.printed_form.specs.Between.Datum.{sat, RowData, row_numbers, has_layer, count_barred, row_barred, Datum, line, keeps}
 use Rattle.printed_form.proofs.SignLaws.{Any, numbers_read, numbers_told, numbers_once, line_is, numbers_long}
 
 -- each line of numbers has some
@@ -342,6 +342,7 @@ datum_of (form.numbers row) l few fit =
 
 -- the first number of a line
 first_told : (xs : List (Option ℕ)) → Any xs → form.first_number (line_numbers (numbers xs)) ≡ sat (nth 0 xs)
+first_told [] any = elim any [ ]
 first_told (x ∷ xs) any = ap form.first_number (numbers_told (x ∷ xs) any)
 
 -- whether no sheet can say a line, by its datum

@@ -1,16 +1,16 @@
 -- Lines that are what they must be: one run behind another, with more due behind them, cut where some of what is due
 -- ends, and told by their bytes. Assumes nothing.
-use Prim.Native.Nat.{ℕ, zero, suc}
+use Prim.Native.Nat.{ℕ}
 use mathlib.Core.Path.{◌≡◌, refl, sym, ◌∙◌, ap, subst}
 use mathlib.Core.List.Memᴰ
-use mathlib.Core.List.{List, [], ◌∷◌, ◌++◌, map, append_assoc, append-nil, Memᴰ}
+use mathlib.Core.List.{List, [], ◌∷◌, ◌++◌, map, append_assoc, Memᴰ}
 use mathlib.Core.List.{nil≢cons, cons≢nil, head-eq_of_cons-eq, tail-eq_of_cons-eq}
 use Rattle.ascii.specs.Bytes.{ends_line}
 use Rattle.form.specs.Between.Form.{Due}
 use Rattle.planner.specs.Printed.{Line}
 use Rattle.planner.specs.Broken.{OneLine}
-use Rattle.printed_form.specs.Between.Datum.{Datum, line, adds, keeps}
-use Rattle.printed_form.specs.Between.Filled.{Answered, Takes, Fills}
+use Rattle.printed_form.specs.Between.Datum.{line, adds, keeps}
+use Rattle.printed_form.specs.Between.Filled.{Takes, Fills}
 use Rattle.printed_form.proofs.JoinLaws.{AllFree, line_free}
 use Rattle.printed_form.proofs.DatumLaws.{datum_once}
 

@@ -3,16 +3,14 @@
 use Prim.Native.Nat.{ℕ, zero, suc}
 use native.Mathlib.Omega.{arith}
 use mathlib.Core.Path.{◌≡◌, refl, sym, ◌∙◌, ap, subst}
-use mathlib.Core.Bool.{cond}
-use mathlib.Core.Option.{some}
 use mathlib.Core.List.{List, [], ◌∷◌, ◌++◌, map, flatten, append-nil}
-use mathlib.Core.List.{nil≢cons, cons≢nil, head-eq_of_cons-eq, tail-eq_of_cons-eq}
+use mathlib.Core.List.{cons≢nil, head-eq_of_cons-eq, tail-eq_of_cons-eq}
 use lib.ListN.{length}
-use Rattle.form.specs.Between.Form.{Due, Counted, Count, numbers, counts, times, after_count, row_keeps}
-use Rattle.planner.specs.Printed.{Line, counted}
+use Rattle.form.specs.Between.Form.{Due, Counted, counts, times, after_count}
+use Rattle.planner.specs.Printed.{Line}
 use Rattle.planner.specs.Broken.{OneLine}
-use Rattle.printed_form.specs.Between.Datum.{sat, Datum, line, adds, keeps}
-use Rattle.printed_form.specs.Between.Filled.{Answered, Takes, Fills}
+use Rattle.printed_form.specs.Between.Datum.{Datum, line, adds, keeps}
+use Rattle.printed_form.specs.Between.Filled.{Fills}
 use Rattle.printed_form.proofs.DatumLaws.{datum_once}
 use Rattle.printed_form.proofs.FillLaws.{fills_both, Parts, fills_split}
 

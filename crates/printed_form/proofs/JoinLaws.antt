@@ -50,6 +50,7 @@ SomeWords (w ∷ ws) = Unit
 
 pub words_joined : (ws : List (List ℕ)) → SomeWords ws → AllFree ends_word ws → words_of (joined ws) ≡ ws
 unfolding joined
+words_joined [] any _ = elim any [ ]
 words_joined (w ∷ []) any (free, tt) = ap (λ s. runs s) (split_free ends_word w free)
 words_joined (w ∷ v ∷ ws) any (free, rest) =
     ap (λ s. runs s) (split_behind ends_word w space (joined (v ∷ ws)) free refl) ∙ ap (λ vs. w ∷ vs) (words_joined (v ∷ ws) tt rest)

@@ -1,9 +1,9 @@
 -- Bytes have the form exactly where a text prints them, and just one does; elsewhere just one line breaks it: the first
 -- with which what has been read can't be completed. Assumes nothing.
-use Prim.Native.Nat.{ℕ, zero, suc, ◌+◌, ◌≤◌, ◌<◌}
+use Prim.Native.Nat.{ℕ, suc, ◌+◌, ◌≤◌, ◌<◌}
 use native.Mathlib.Omega.{arith}
 use mathlib.Core.Path.{◌≡◌, refl, sym, ◌∙◌, ap, subst}
-use mathlib.Core.Bool.{Bool, true, false, ◌&&◌, false≢true, and-eq-true_iff}
+use mathlib.Core.Bool.{Bool, true, false, false≢true, and-eq-true_iff}
 use mathlib.Core.List.{List, [], ◌∷◌, ◌++◌, map-append, append_assoc, append-nil, append_cancel_right, nil≢cons, cons≢nil, head-eq_of_cons-eq, tail-eq_of_cons-eq, Memᴰ}
 use lib.ListN.{length, take, length-append}
 use lib.Seq.{append_snoc}
@@ -14,11 +14,11 @@ use Rattle.fields.specs.Between.Numbers.{most_number}
 use Rattle.form.specs.Between.Form as form
 use Rattle.form.specs.Between.Form.{Due}
 use Rattle.planner.specs.Text.{Text, most_bytes}
-use Rattle.planner.specs.Printed.{Line, lines, printed, ended}
+use Rattle.planner.specs.Printed.{Line, lines, printed}
 use Rattle.planner.specs.Meant.{first_barred, unsayable}
 use Rattle.planner.specs.Broken.{OneLine, Formed, Prints, Begins, Breaks}
 use Rattle.printed_form.specs.Between.Datum.{line}
-use Rattle.printed_form.specs.Between.Filled.{Answered, Takes, Fills}
+use Rattle.printed_form.specs.Between.Filled.{Takes, Fills}
 use Rattle.printed_form.proofs.JoinLaws.{runs_free, runs_ended, bytes_of_runs, runs_bytes}
 use Rattle.printed_form.proofs.DatumLaws.{datum_fits}
 use Rattle.printed_form.proofs.FillLaws.{bytes_each, takes_both, Goes_on, takes_same, takes_one_line, lines_free}

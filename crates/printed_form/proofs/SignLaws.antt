@@ -3,7 +3,7 @@
 use Prim.Native.Nat.{ℕ, zero, suc, ◌-◌, ◌≤◌, ◌<◌}
 use native.Mathlib.Omega.{arith}
 use mathlib.Core.Path.{◌≡◌, refl, sym, ◌∙◌, ap}
-use mathlib.Core.Bool.{Bool, true, false, not, ◌&&◌, ◌||◌, false≢true, true≢false}
+use mathlib.Core.Bool.{Bool, true, false, not, ◌||◌, false≢true, true≢false}
 use mathlib.Core.Option.{Option, none, some}
 use mathlib.Core.List.{List, [], ◌∷◌, ◌++◌, map, nil≢cons, cons≢nil, head-eq_of_cons-eq, tail-eq_of_cons-eq}
 use lib.ListN.{length, length-append}
@@ -62,6 +62,7 @@ words_free (x ∷ xs) = (number_free ends_word (λ b low. ne_eqb b space (λ e. 
 -- a numeral is a number with no needless zero
 leading : (ds : List ℕ) → all_digits ds ≡ true → High ds → is_number ds ≡ true
 unfolding is_number all_digits
+leading [] all high = elim high [ ]
 leading (d ∷ ds) all high = rw (all, ne_eqb d ascii_zero (λ e. omega arith))
 
 numeral_is : (n : ℕ) → is_number (numeral n) ≡ true
@@ -128,6 +129,7 @@ Any [] = ⊥
 Any (x ∷ xs) = Unit
 
 some_words : (xs : List (Option ℕ)) → Any xs → SomeWords (map number xs)
+some_words [] any = elim any [ ]
 some_words (x ∷ xs) any = tt
 
 words_of_numbers : (xs : List (Option ℕ)) → Any xs → words_of (numbers xs) ≡ map number xs

@@ -4,7 +4,7 @@ use Prim.Native.Nat.{ℕ}
 use mathlib.Core.Path.{◌≡◌, refl, sym, ◌∙◌, ap, subst}
 use mathlib.Core.Bool.{Bool, cond}
 use mathlib.Core.Option.{some}
-use mathlib.Core.List.{List, [], ◌∷◌, ◌++◌, map, flatten, append_assoc, append-nil, head-eq_of_cons-eq, tail-eq_of_cons-eq, cons≢nil}
+use mathlib.Core.List.{List, [], ◌∷◌, ◌++◌, map, flatten, append-nil, head-eq_of_cons-eq, tail-eq_of_cons-eq, cons≢nil}
 use mathlib.Core.List.{Memᴰ}
 use lib.ListN.{length}
 use lib.Seq.{append_snoc}
@@ -12,10 +12,10 @@ use Rattle.ascii.specs.Bytes.{ascii}
 use Rattle.sas.specs.Task.{Assignment}
 use Rattle.form.specs.Between.Form as form
 use Rattle.planner.specs.Text.{Variable, Operator, Axiom, Text}
-use Rattle.planner.specs.Printed.{Line, keyword, said, numbers, number_line, counted, variable_lines, group_lines, value_lines, fact_lines, operator_lines, axiom_lines, axioms_line, lines}
+use Rattle.planner.specs.Printed.{Line, keyword, number_line, counted, variable_lines, group_lines, value_lines, fact_lines, operator_lines, axiom_lines, axioms_line, lines}
 use Rattle.planner.specs.Broken.{OneLine, Formed}
-use Rattle.printed_form.specs.Between.Datum.{sat, line, keeps}
-use Rattle.printed_form.specs.Between.Filled.{Answered, Fills}
+use Rattle.printed_form.specs.Between.Datum.{sat, line}
+use Rattle.printed_form.specs.Between.Filled.{Fills}
 use Rattle.printed_form.proofs.DatumLaws.{datum_once}
 use Rattle.printed_form.proofs.FillLaws.{fills_both, Parts, fills_split}
 use Rattle.printed_form.proofs.FormatLaws.{EachOne, each_parts, fills_front, Format, line_format, seq_format, as_format, times_sound, times_whole, times_once}

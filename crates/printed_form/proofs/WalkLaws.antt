@@ -1,17 +1,17 @@
 -- Reading line by line finds lines that are what they must be by their data: where numbers above every limit are read as
 -- one, what is due is the same as far as there are lines. Assumes nothing.
-use Prim.Native.Nat.{ℕ, zero, suc, ◌+◌, ◌≤◌, ◌<◌, min}
+use Prim.Native.Nat.{ℕ, zero, suc, ◌+◌, ◌≤◌, ◌<◌}
 use native.Mathlib.Omega.{arith}
 use mathlib.Core.Path.{◌≡◌, refl, sym, ◌∙◌, ap, subst}
 use mathlib.Core.Bool.{Bool, true, false, cond, false≢true}
 use mathlib.Core.Option.{some}
-use mathlib.Core.List.{List, [], ◌∷◌, ◌++◌, map, append_assoc, nil≢cons, cons≢nil, head-eq_of_cons-eq, tail-eq_of_cons-eq}
+use mathlib.Core.List.{List, [], ◌∷◌, ◌++◌, append_assoc, nil≢cons, cons≢nil, head-eq_of_cons-eq, tail-eq_of_cons-eq}
 use lib.ListN.{length, take}
 use lib.Seq.{take-take}
 use lib.Dec.{leb}
 use borrow.Author.Tests.{leb-true, leb-false}
 use Rattle.refusal.specs.declared.place.Place.{Place}
-use Rattle.refusal.specs.declared.place.Place.TheVariants.{Nowhere, At}
+use Rattle.refusal.specs.declared.place.Place.TheVariants.{At}
 use Rattle.ascii.specs.Bytes.{ends_line}
 use Rattle.fields.specs.Between.Numbers.{most_number}
 use Rattle.form.specs.Between.Form as form
@@ -20,7 +20,7 @@ use Rattle.planner.specs.Printed.{Line}
 use Rattle.planner.specs.Broken.{OneLine}
 use Rattle.planner.specs.Meant.{first_barred}
 use Rattle.printed_form.specs.Between.Datum.{sat, Datum, line, adds, keeps}
-use Rattle.printed_form.specs.Between.Filled.{Answered, Takes}
+use Rattle.printed_form.specs.Between.Filled.{Takes}
 use Rattle.printed_form.proofs.JoinLaws.{AllFree, one_line}
 use Rattle.printed_form.proofs.DatumLaws.{datum_of, datum_bars, datum_keeps, read_adds, datum_adds}
 use Rattle.printed_form.proofs.FillLaws.{bytes_each}
