@@ -32,7 +32,7 @@ pub record HasDone (further : ℕ) (text : List ℕ → List ℕ) (bytes : List 
   pub printed : take done.written after ≡ text (take done.input.count bytes)
   pub others : drop done.written after ≡ drop done.written before
 
--- what is assumed of the C library's `read`: the bytes read are the input's first, in order, and where the reading
+-- what is assumed of a reader's `read`: the bytes read are the input's first, in order, and where the reading
 -- ended early they are all that it has
 pub record Read_from (whole bytes : List ℕ) (input : Input) : Type 0 where
   pub in_order : take input.count bytes ≡ take input.count whole

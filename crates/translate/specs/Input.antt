@@ -9,7 +9,7 @@ pub record HasReadText (bytes : List ℕ) (input : Input) : Type 0 where
   pub counted : IsPrefixLen input.count bytes
   pub to_the_end : (k : ℕ) → input.last ≡ pos k → (k ≡ 0) ⊎ (input.count ≡ length bytes)
 
--- what is assumed of the C library's `read`: the bytes read are the input's first, in order, and where the last call
+-- what is assumed of a reader's `read`: the bytes read are the input's first, in order, and where the last call
 -- had room and gave no byte they are all that it has
 pub record TextFrom (whole bytes : List ℕ) (input : Input) : Type 0 where
   pub in_order : take input.count bytes ≡ take input.count whole
