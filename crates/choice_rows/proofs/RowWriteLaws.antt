@@ -15,7 +15,7 @@ use lib.Pow.{pow_pos}
 use lib.Dec.{ltb, eqb}
 use borrow.Author.Tests.{ltb-true, eqb-true, eqb-false, eq-eqb, ne_eqb, lt-ltb}
 use Rattle.sas.specs.Task.{Fact, Assignment, State, Action}
-use Rattle.sas.specs.Plan.{holds, satisfies, written, assign, apply}
+use Rattle.sas.specs.Plan.{holds, satisfies, written, assign}
 use Rattle.sas.specs.Between.WellFormed.{Known, Rising, Plain}
 use Rattle.sas.specs.Between.WellFormed.Rising.{empty, fact}
 use Rattle.sas.proofs.FactLaws.{satisfies_nothing, satisfies_more, satisfies_failing}

@@ -48,7 +48,7 @@ fn put_action_comment(out: &mut [u8], at: usize, a: u32) -> usize
 // Puts a part under its comment, up to word `end`.
 fn put_section(out: &mut [u8], from: Spot, title: &[u8], words: &[u32], end: usize) -> Spot
     ensures { (ss : List Section) → Goes words.now
-        (record { title = title.entry.now; end = end } ∷ ss) from out.old ss result out.new }
+        (record { title = title.now; end = end } ∷ ss) from out.old ss result out.new }
 {
     let at = from.at;
     let text = from.end;

@@ -1,7 +1,7 @@
 -- The tables of a walk tell the trace of each known fact: behind a step they tell what the trace is behind it, since each fact that the step writes has numbers
 -- of its own, its support is told before the step's own writes count, and one that stands twice among its effects is written once. For one fact by the places
 -- that are set, then along the facts. Assumes nothing.
-use Prim.Native.Nat.{ℕ, suc, ◌+◌, ◌/◌, ◌≤◌, ◌<◌}
+use Prim.Native.Nat.{ℕ, suc, ◌+◌, ◌/◌, ◌<◌}
 use native.Mathlib.Numerals.{add-one}
 use native.Mathlib.Omega.{arith}
 use mathlib.Core.Path.{◌≡◌, refl, sym, ◌∙◌, ap}

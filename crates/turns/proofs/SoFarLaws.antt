@@ -25,7 +25,6 @@ use Rattle.tally.specs.declared.Order.{Order}
 use Rattle.tally.specs.declared.Order.TheVariants.{Less, Equal, Greater}
 use Rattle.tally.specs.Tally.{one_more, comparison}
 use Rattle.tally.proofs.TallyLaws.{counted, same_tally}
-use Rattle.mask.specs.Mask.{mask_words}
 use Rattle.sheet.specs.Layout.{cost_word}
 use Rattle.sheet.specs.Decode.{action}
 use Rattle.plan.specs.Readable.{Readable}

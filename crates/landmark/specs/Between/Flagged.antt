@@ -1,5 +1,5 @@
 -- The marks of a list as flags, within a service that asks something besides. Assumes nothing.
-use Rattle.std.specs.Prelude.{ℕ, ◌-◌, ◌≡◌, false, List, replicate}
+use Rattle.std.specs.Prelude.{ℕ, ◌≡◌, false, List, replicate}
 use Rattle.refusal.specs.declared.Verdict.{Verdict}
 use Rattle.refusal.specs.Refusal.{told}
 use Rattle.refusal.specs.Check.{Check, answer, unless_refused}
