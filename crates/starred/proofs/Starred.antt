@@ -1,14 +1,15 @@
 -- The worked lists of document 01 that carry a star: what it says of each holds. By computing what the definitions give from the words of the sheets; what is
 -- told by a rule follows by the theorem that ties the rule to what is computed: `passes_exactly` for plans, `first_failing` for lists that are none,
 -- `marks_theorem` for marks, `rule_leaves` for the eliminations, `minimal_found` for the minimal reduction. Assumes nothing.
-use Prim.Native.Nat.{ℕ, zero, suc}
+use Prim.Native.Nat.{◌<◌, ℕ, zero, suc}
+use Rattle.minimal.specs.Between.Computed.{minimal_of}
 use native.Mathlib.Omega.{arith}
 use mathlib.Core.Path.{◌≡◌, refl}
 use mathlib.Core.Logic.{inl, inr, ⊎_elim}
 use mathlib.Core.Bool.{true, false, false≢true}
 use mathlib.Core.Option.{none, some}
 use mathlib.Core.List.{List, [], ◌∷◌}
-use lib.ListN.{length}
+use lib.ListN.{get_or, length}
 use Rattle.refusal.specs.Place.{first_of_next, first_of, first}
 use Rattle.refusal.specs.Check.{answer}
 use Rattle.sas.specs.Plan.{holds, satisfies, applicable, assign, apply, written, needed, result, run, cost, acting, unconditional, written_always}
@@ -123,6 +124,6 @@ starred =
           valid = record { fits = refl; valid_left = refl };
           tally = refl;
           as_low = refl;
-          difference = record { before = λ k. elim k [ zero ↦ λ less. refl | suc k ↦ λ less. absurd (omega arith) ]; here = false≢true };
+          difference = record { before = λ k. elim k as (λ k. k < 1 → get_or (minimal_of sheet_p list_1) k false ≡ get_or keeps_2_5_6 k false) [ zero ↦ λ less. refl | suc k ↦ λ less. absurd (omega arith) ]; here = false≢true };
           kept_there = refl;
         }

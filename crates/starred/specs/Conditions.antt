@@ -1,7 +1,7 @@
 -- Sheets of edition 2 (document 02, C-15), computed from their words: a flap gate that closes only if the pond stands
 -- high, and a sheet for each cause of refusal that effects with conditions change. Edition 2 is still refused by 2, so
 -- each row gives what the checks behind that one say. Assumes nothing.
-use Rattle.std.specs.Prelude.{ℕ, ◌≡◌, List, [], ◌∷◌, ◌++◌, drop}
+use Rattle.std.specs.Prelude.{ℕ, ◌≡◌, List, [], ◌∷◌, drop}
 use Rattle.std.proofs.Math.Option.{Option, none, some}
 use Rattle.refusal.specs.Refusal.{Told}
 use Rattle.refusal.specs.Check.{answer}
