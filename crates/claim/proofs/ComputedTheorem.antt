@@ -5,7 +5,6 @@ use mathlib.Core.Option.{Option, none, some}
 use mathlib.Core.List.{List}
 use Rattle.refusal.specs.Refusal.{Told}
 use Rattle.refusal.specs.Check.{unless_refused}
-use Rattle.reduction.specs.Reduction.{Reduction}
 use Rattle.plan.proofs.PlanLaws.{passed_readable}
 use Rattle.reduced.proofs.AnswerLaws.{answers_same}
 use Rattle.reduced.proofs.LodgedLaws.{lodged_plan}

@@ -10,7 +10,7 @@ use lib.ListN.{length, replicate, length-map}
 use lib.Dec.{leb}
 use borrow.Author.Tests.{leb-true, leb-false, le-leb, lt-leb}
 use Rattle.sas.specs.Plan.{Plan, cost}
-use Rattle.reduction.specs.Reduction.{Reduction, kept, whole, compose, valid, ValidReduction}
+use Rattle.reduction.specs.Reduction.{Reduction, kept, whole, compose, ValidReduction}
 use Rattle.reduction.specs.Landmark.{Landmark}
 use Rattle.reduction.specs.Minimal.{MinimalReduction}
 use Rattle.reduction.proofs.ReductionLaws.{kept_lodged, left_length, left_cost, reduced_plan, kept_compose, compose_valid}

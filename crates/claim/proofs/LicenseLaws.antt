@@ -1,10 +1,9 @@
 -- What `license` answers on each of its ways. What the code calls is a variable here, with what is known of it as a premise. Assumes nothing.
-use Prim.Native.Nat.{ℕ, ◌-◌, ◌≤◌, ◌<◌}
-use native.Mathlib.Omega.{arith}
+use Prim.Native.Nat.{ℕ, ◌≤◌, ◌<◌}
 use mathlib.Core.Path.{◌≡◌, refl, sym, ◌∙◌, ap, subst}
 use mathlib.Core.Option.{none, some, some-injective}
 use mathlib.Core.List.{List}
-use lib.ListN.{length, length-map}
+use lib.ListN.{length}
 use borrow.Author.Tests.{le-leb}
 use Rattle.refusal.specs.declared.Refusal.{Refusal}
 use Rattle.refusal.specs.declared.Verdict.{Verdict}
@@ -13,11 +12,7 @@ use Rattle.refusal.specs.Check.{answer}
 use Rattle.refusal.proofs.CheckLaws.{first_none}
 use Rattle.sas.specs.Plan.{Plan}
 use Rattle.tally.specs.declared.Tally.{Tally}
-use Rattle.reduction.specs.Reduction.{count}
-use Rattle.reduction.proofs.ReductionLaws.{kept_length, left_length}
-use Rattle.mask.specs.Mask.{mask_bits}
-use Rattle.mask.proofs.MaskTheorem.{front_and_rest}
-use Rattle.sheet.specs.Decode.{action, task}
+use Rattle.sheet.specs.Decode.{task}
 use Rattle.plan.specs.Limits.{most_steps}
 use Rattle.plan.specs.Valid.{steps}
 use Rattle.plan.specs.Readable.{Readable}
@@ -27,10 +22,9 @@ use Rattle.plan.specs.Checked.{told_answer, lodged_tally}
 use Rattle.plan.specs.Between.Lodged.{ChecksLodged}
 use Rattle.plan.proofs.PlanLaws.{passed_readable}
 use Rattle.reduced.specs.Reduced.{room_checks, reduction_checks, Answers}
-use Rattle.reduced.specs.Between.Held.{mask}
 use Rattle.reduced.proofs.LodgedLaws.{lodged_plan, room_checked, nothing_refused, roomy}
 use Rattle.reduced.proofs.AnswerLaws.{answers_refused}
-use Rattle.landmark.specs.Marks.{marks, marked, unmarked}
+use Rattle.landmark.specs.Marks.{unmarked}
 use Rattle.minimal.specs.declared.within.Shortened.{Shortened}
 use Rattle.minimal.specs.Minimised.{most_unmarked, unmarked_checks, minimal_checks, minimal_refusal, Minimises}
 use Rattle.minimal.specs.Between.Computed.{MinimisesOf}
