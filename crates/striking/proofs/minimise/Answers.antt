@@ -1,0 +1,9 @@
+-- `minimise` meets its contract: what is written is what the service answers. Assumes nothing.
+use Rattle.striking.proofs.StrikeLaws.{lent_left, lent_demand}
+use Rattle.striking.proofs.minimise.Goals as goal
+
+pub returns : goal.returns
+returns c =
+    let reduced = c.minimal_reduction-reduced.ensures in
+    let writes = c.write_reduced.ensures in
+    record { words = lent_left _ _ _ _ _ _ _ _ _ _ _ _ reduced.answer.answers writes; demand_three = lent_demand _ _ _ _ _ _ _ _ _ _ reduced.demand_three writes }
