@@ -1,10 +1,10 @@
 -- A planner's text is refused with t just where t has its cause: the causes are all, and each has its refusal. Assumes
 -- nothing.
-use Prim.Native.Nat.{ℕ, ◌≤◌, ◌<◌}
+use Prim.Native.Nat.{ℕ, ◌≤◌}
 use mathlib.Core.Path.{◌≡◌, refl, sym, ◌∙◌, ap, subst}
 use mathlib.Core.Logic.{◌⊎◌, inl, inr, ◌↔◌}
 use mathlib.Core.Bool.{Bool, true, false}
-use mathlib.Core.Option.{Option, none, some, get_or, some-ne-none}
+use mathlib.Core.Option.{Option, some, get_or, some-ne-none}
 use mathlib.Core.List.{List}
 use lib.ListN.{length}
 use lib.Dec.{ltb}
@@ -15,7 +15,7 @@ use Rattle.refusal.specs.Refusal.{Told}
 use Rattle.planner.specs.Text.{Text, most_bytes}
 use Rattle.planner.specs.Meant.{unsayable}
 use Rattle.planner.specs.Broken.{Prints, Breaks}
-use Rattle.translation.specs.Translation.{SheetOf, ToldOf, ToldOfBytes}
+use Rattle.translation.specs.Translation.{SheetOf, ToldOfBytes}
 use Rattle.translation.proofs.TranslationTheorem.{text_or_break, sheet_or_none}
 use Rattle.demands.specs.One.{TextCause}
 use Rattle.demands.specs.One.TextCause.{too_long, broken, unsaid, no_sheet, no_room}

@@ -21,7 +21,7 @@ use Rattle.mask.proofs.MaskTheorem.{up_is_flag, ones_are_kept}
 use Rattle.tally.specs.declared.Tally.{Tally}
 use Rattle.tally.specs.Tally.{nothing}
 use Rattle.tally.proofs.TallyLaws.{full_of_steps, full_of_cost, counted}
-use Rattle.sheet.specs.Decode.{initial, goal, action, task}
+use Rattle.sheet.specs.Decode.{initial, action, task}
 use Rattle.plan.specs.declared.check.Answer.{Answer}
 use Rattle.plan.specs.Valid.{steps}
 use Rattle.plan.specs.Between.Fault.{final}
@@ -32,7 +32,7 @@ use Rattle.course.specs.Course.{course, Courses}
 use Rattle.course.proofs.CourseTheorem.{whole_course, stuck_course, course_reached}
 use Rattle.reduced.specs.Reduced.{reduction_checks, tally_left, Answers}
 use Rattle.reduced.proofs.LodgedLaws.{lodged_valid}
-use Rattle.landmark.specs.Marks.{marks, marked, Masks}
+use Rattle.landmark.specs.Marks.{marked, Masks}
 use Rattle.landmark.proofs.MarkTheorem.{bits_just_marked}
 use Rattle.minimal.proofs.DemandThree.{are_marks}
 use Rattle.elimination.specs.declared.single.Elimination.{Elimination}

@@ -17,7 +17,7 @@ use Rattle.tally.specs.declared.Order.TheVariants.{Less, Equal, Greater}
 use Rattle.tally.specs.Tally.{bounds, nothing, one_more, comparison}
 use Rattle.sheet.specs.Limits.{limits}
 use Rattle.sheet.specs.Layout.{variables}
-use Rattle.sheet.specs.Decode.{initial, goal, task}
+use Rattle.sheet.specs.Decode.{initial, task}
 use Rattle.plan.specs.declared.check.Answer.{Answer}
 use Rattle.plan.specs.Readable.{Readable}
 use Rattle.plan.specs.Valid.{steps}
