@@ -64,7 +64,7 @@ usage: hollchiku words JOB [--binary] [-o FILE]
        hollchiku words OUTPUT.SAS PLAN [--binary] [-o FILE]
 
 Writes the words of the job's sheet and list: as a text, or with --binary as little-endian words, the form that the
-proved programs read (target/bin/license < FILE).
+proved programs read (crates/license/out/license < FILE).
 ";
 
 const JOB: &str = "\
