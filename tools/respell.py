@@ -36,6 +36,9 @@ def is_walk(path):
 
 
 def dashed(name):
+    """Whether a name has the older spelling: a dash inside, or, of a type that the kit's script turned half, an underscore."""
+    if re.fullmatch(r"[A-Z][a-z]+(?:_[a-z]+)+", name):
+        return True
     return re.search(r"[\w'₀-₉]-[\w'₀-₉]", name) is not None and not name.startswith(("◌", "#"))
 
 
@@ -43,7 +46,7 @@ def spelled(name):
     if name in BY_HAND:
         return BY_HAND[name]
     if name[0].isupper():
-        return "".join(part[:1].upper() + part[1:] for part in name.split("-"))
+        return "".join(part[:1].upper() + part[1:] for part in re.split("[-_]", name))
     return name.replace("-", "_")
 
 

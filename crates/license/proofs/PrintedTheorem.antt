@@ -9,7 +9,7 @@ use Rattle.minimal.proofs.DemandThree.{checks_pass}
 use Rattle.claim.specs.Between.Computed.{claim_of, licensed_of}
 use Rattle.claim.proofs.LicenceTheorem.{licence_of}
 use Rattle.records.specs.Bytes.{input_of}
-use Rattle.program.specs.Printed.{refusal_line, HasRead, Read_from}
+use Rattle.program.specs.Printed.{refusal_line, HasRead, ReadFrom}
 use Rattle.program.specs.declared.input.Input.{Input}
 use Rattle.program.specs.Reply.{reply_further}
 use Rattle.program.proofs.RecordTheorem.{record_opened}
@@ -30,6 +30,6 @@ may_be_lodged_printed w l readable plan =
     }
 
 -- and what is printed for the bytes read is what is printed for the whole input
-pub printed_for_all : (whole bytes : List ℕ) (input : Input) → HasRead 0 1 bytes input → Read_from whole bytes input
+pub printed_for_all : (whole bytes : List ℕ) (input : Input) → HasRead 0 1 bytes input → ReadFrom whole bytes input
     → printed (take input.count bytes) ≡ printed whole
 printed_for_all whole bytes input has reads = reply_to_all 0 refusal_line _ whole bytes input has reads

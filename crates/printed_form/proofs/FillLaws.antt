@@ -107,7 +107,7 @@ fills_split (l ∷ ls) (d ∷ ds) es xs fill =
     }
 
 -- told by their bytes: where lines that are all that is due begin with the bytes of others, they begin with those
-pub record Goes_on (ls : List Line) (end : List Due) (xs : List ℕ) (ms : List Line) (ys : List ℕ) (rest : List (List ℕ)) : Type 0 where
+pub record GoesOn (ls : List Line) (end : List Due) (xs : List ℕ) (ms : List Line) (ys : List ℕ) (rest : List (List ℕ)) : Type 0 where
   pub behind : List Line
   pub kept_behind : List ℕ
   pub lines : ms ≡ ls ++ behind
@@ -116,7 +116,7 @@ pub record Goes_on (ls : List Line) (end : List Due) (xs : List ℕ) (ms : List 
   pub fills : Fills end behind kept_behind
 
 pub takes_same : (ls : List Line) (ds : List Due) (xs : List ℕ) (end : List Due) (ms : List Line) (ys : List ℕ) (rest : List (List ℕ))
-    → Takes ls ds xs end → Fills ds ms ys → bytes_each ms ≡ bytes_each ls ++ rest → Goes_on ls end xs ms ys rest
+    → Takes ls ds xs end → Fills ds ms ys → bytes_each ms ≡ bytes_each ls ++ rest → GoesOn ls end xs ms ys rest
 takes_same [] ds xs end ms ys rest (same, nothing) fill e =
     record {
       behind = ms;
@@ -132,7 +132,7 @@ takes_same (l ∷ ls) (d ∷ ds) xs end (m ∷ ms) ys rest first fill e =
     let same : fill.datum ≡ first.datum =
     datum_once d fill.datum first.datum
     (ap (λ k. k.bytes) fill.is ∙ head-eq_of_cons-eq e ∙ sym (ap (λ k. k.bytes) first.is)) in
-    let on : Goes_on ls end first.others ms fill.others rest =
+    let on : GoesOn ls end first.others ms fill.others rest =
     takes_same ls (adds d first.datum ++ ds) first.others end ms fill.others rest first.rest
     (subst (λ x. Fills (adds d x ++ ds) ms fill.others) same fill.rest) (tail-eq_of_cons-eq e) in
     let line_same : m ≡ l = sym fill.is ∙ ap (line d) same ∙ first.is in

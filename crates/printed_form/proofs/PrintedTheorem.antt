@@ -21,7 +21,7 @@ use Rattle.printed_form.specs.Between.Datum.{line}
 use Rattle.printed_form.specs.Between.Filled.{Takes, Fills}
 use Rattle.printed_form.proofs.JoinLaws.{runs_free, runs_ended, bytes_of_runs, runs_bytes}
 use Rattle.printed_form.proofs.DatumLaws.{datum_fits}
-use Rattle.printed_form.proofs.FillLaws.{bytes_each, takes_both, Goes_on, takes_same, takes_one_line, lines_free}
+use Rattle.printed_form.proofs.FillLaws.{bytes_each, takes_both, GoesOn, takes_same, takes_one_line, lines_free}
 use Rattle.printed_form.proofs.TextTheorem.{text_tape, text_fills, IsText, text_whole, text_once}
 use Rattle.printed_form.proofs.CompletionLaws.{possible_text, takes_possible, FilledUp, filled_up}
 use Rattle.printed_form.proofs.WalkLaws.{Found, AllShort, walk_found}
@@ -63,7 +63,7 @@ pub prints_once : (t u : Text) (bytes : List ℕ) → Prints t bytes → Prints 
 prints_once t u bytes first second =
     let same : bytes_each (lines u) ≡ bytes_each (lines t) =
     append_cancel_right (bytes_each (lines u)) (bytes_each (lines t)) ([] ∷ []) (sym (printed_runs u bytes second) ∙ printed_runs t bytes first) in
-    let on : Goes_on (lines t) [] (text_tape t) (lines u) (text_tape u) [] =
+    let on : GoesOn (lines t) [] (text_tape t) (lines u) (text_tape u) [] =
     takes_same (lines t) form.text_lines (text_tape t) [] (lines u) (text_tape u) [] (text_fills t first.formed) (text_fills u second.formed)
     (same ∙ sym (append-nil (bytes_each (lines t)))) in
     text_once t u first.formed second.formed (sym (append-nil (lines t)) ∙ ap (λ ls. lines t ++ ls) (sym (no_lines on.behind on.bytes)) ∙ sym on.lines)
@@ -123,7 +123,7 @@ module _ (text : List ℕ) (few : length text ≤ most_bytes) where
           subst (λ b. length b < most_number) (sym bytes) (here_short (bytes_each found.lines) found.here found.behind found.runs) in
           false≢true (sym (found.stops more d fs due) ∙ ap (form.fits d) (sym bytes) ∙ datum_fits d fills.datum short)
 
-      refused : Goes_on found.lines found.end found.numbers (lines t) (text_tape t) (found.here ∷ rest) → ⊥
+      refused : GoesOn found.lines found.end found.numbers (lines t) (text_tape t) (found.here ∷ rest) → ⊥
       refused on = first on.behind found.end on.kept_behind found.near on.fills on.bytes
 
   -- the lines that were read, where nothing is due behind them, are those of a text
@@ -169,7 +169,7 @@ module _ (text : List ℕ) (few : length text ≤ most_bytes) where
     all_read : (bytes_each (lines t) ≡ bytes_each found.lines) × (found.here ∷ found.behind ≡ [] ∷ [])
     all_read = let (rest, e, last) = rest_of in none_left rest e last
 
-    going : Goes_on found.lines found.end found.numbers (lines t) (text_tape t) []
+    going : GoesOn found.lines found.end found.numbers (lines t) (text_tape t) []
     going =
         takes_same found.lines form.text_lines found.numbers found.end (lines t) (text_tape t) [] found.takes (text_fills t prints.formed)
         (all_read.0 ∙ sym (append-nil (bytes_each found.lines)))

@@ -14,7 +14,7 @@ use Rattle.records.specs.Between.Needed.{bytes_to_read}
 use Rattle.program.specs.Long.{long_refusal}
 use Rattle.program.specs.Opening.{Refused, opening}
 use Rattle.program.specs.Reply.{reply_further}
-use Rattle.program.specs.Printed.{HasRead, Read_from}
+use Rattle.program.specs.Printed.{HasRead, ReadFrom}
 use Rattle.program.specs.declared.input.Input.{Input}
 use Rattle.records.proofs.InputWordLaws.{words_stay}
 use Rattle.records.proofs.FormLaws.{input_from, input_runs_on, TaskThere, form_says, whole_reads}
@@ -44,7 +44,7 @@ opening_settled further xs ys read = by_form further xs ys read (record_form fur
 
 -- so what a program answers to the bytes that it has read is what it answers to the whole input
 module _ {A : Type 0} (further : ℕ) (refused : Told → A) (answered : List ℕ → List ℕ → List ℕ → A) (whole bytes : List ℕ) (input : Input)
-    (has : HasRead further 1 bytes input) (reads : Read_from whole bytes input) where
+    (has : HasRead further 1 bytes input) (reads : ReadFrom whole bytes input) where
   pub reply_to_all : reply_further further refused answered (take input.count bytes) ≡ reply_further further refused answered whole
   unfolding reply_further
   reply_to_all = rw (reads.in_order, by_end input.ended refl, reply_further)

@@ -34,6 +34,6 @@ pub record HasDone (further : ℕ) (text : List ℕ → List ℕ) (bytes : List 
 
 -- what is assumed of a reader's `read`: the bytes read are the input's first, in order, and where the reading
 -- ended early they are all that it has
-pub record Read_from (whole bytes : List ℕ) (input : Input) : Type 0 where
+pub record ReadFrom (whole bytes : List ℕ) (input : Input) : Type 0 where
   pub in_order : take input.count bytes ≡ take input.count whole
   pub at_end : input.ended ≡ true → length whole ≤ input.count

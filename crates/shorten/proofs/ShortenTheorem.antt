@@ -8,7 +8,7 @@ use Rattle.plan.specs.Limits.{most_steps}
 use Rattle.minimal.specs.Minimised.{most_unmarked}
 use Rattle.minimal.proofs.DemandThree.{demand_three_of}
 use Rattle.records.specs.Bytes.{input_of}
-use Rattle.program.specs.Printed.{refusal_line, HasRead, Read_from}
+use Rattle.program.specs.Printed.{refusal_line, HasRead, ReadFrom}
 use Rattle.program.specs.declared.input.Input.{Input}
 use Rattle.program.specs.Reply.{reply_further}
 use Rattle.program.proofs.RecordTheorem.{record_opened}
@@ -25,6 +25,6 @@ demand_three_printed w l readable plan =
     demand_three_of most_unmarked w l most_steps (λ t m. printed (input_of w l) ≡ reported t w l m) readable plan readable.few for_list
 
 -- and what is printed for the bytes read is what is printed for the whole input
-pub printed_for_all : (whole bytes : List ℕ) (input : Input) → HasRead 0 1 bytes input → Read_from whole bytes input
+pub printed_for_all : (whole bytes : List ℕ) (input : Input) → HasRead 0 1 bytes input → ReadFrom whole bytes input
     → printed (take input.count bytes) ≡ printed whole
 printed_for_all whole bytes input has reads = reply_to_all 0 refusal_line _ whole bytes input has reads

@@ -22,7 +22,7 @@ use Rattle.form.specs.declared.reader.Reader.{Reader}
 use Rattle.text_effects.specs.declared.effects.Run.{Run}
 use Rattle.form.specs.Between.Form.{Effect, Head, numbers, numbers_fit}
 use Rattle.form.specs.Between.Reading.{barred_at, Within, Reads, Room}
-use Rattle.text_effects.specs.Between.Runs.{HasRun, Asks_run, ReadsRun, HasChange, ReadsChange}
+use Rattle.text_effects.specs.Between.Runs.{HasRun, AsksRun, ReadsRun, HasChange, ReadsChange}
 use Rattle.form.proofs.StopLaws.{first_or_none, stopped_reader, past_reader}
 use Rattle.form.proofs.ReadsLaws.{row_alone}
 use Rattle.number_rows.proofs.FactRowLaws.{next_ahead, next_inside, next_plain}
@@ -68,7 +68,7 @@ module _ (c : ℕ) where
       by_case false e = rw (ne_eqb (length (c ∷ (xs ++ zs))) (2 * c + 4) (λ f. eqb-false (length zs) 3 e (omega (arith, long))), e)
 
   -- it asks for as many numbers as it has conditions, twice
-  effect_asks : Asks_run (2 * c) (λ zs. numbers_fit Effect (c ∷ zs))
+  effect_asks : AsksRun (2 * c) (λ zs. numbers_fit Effect (c ∷ zs))
   unfolding numbers_fit
   effect_asks =
       record {
@@ -135,7 +135,7 @@ module _ {text : List ℕ} {at : ℕ} {tape : List ℕ} {from k to : ℕ} {tape'
             );
       }
 
-  pub run_missed : (n : ℕ) → k < n → (w.behind ≡ Space → ⊥) → (test : List ℕ → Bool) → Asks_run n test → LacksNumbers test (drop at text)
+  pub run_missed : (n : ℕ) → k < n → (w.behind ≡ Space → ⊥) → (test : List ℕ → Bool) → AsksRun n test → LacksNumbers test (drop at text)
   run_missed n more no_gap test asks =
       let few : length run.xs < n = omega (arith, run.many) in
       run.lacks test (
@@ -314,7 +314,7 @@ module _ {text : List ℕ} {at : ℕ} {tape : List ℕ} {from : ℕ} {to : ℕ} 
     pub run_read : HasRun text at tape from n to tape' → ReadsRun text at tape from n (record { at = to; reads = true }) tape'
     run_read run = record { found = λ e. run; missed = λ e. absurd (false≢true (sym e)) }
 
-    pub run_unread : ((test : List ℕ → Bool) → Asks_run n test → LacksNumbers test (drop at text)) → ReadsRun text at tape from n (record { at = to; reads = false }) tape'
+    pub run_unread : ((test : List ℕ → Bool) → AsksRun n test → LacksNumbers test (drop at text)) → ReadsRun text at tape from n (record { at = to; reads = false }) tape'
     run_unread lacks = record { found = λ e. absurd (false≢true e); missed = λ e. lacks }
 
     pub run_read_all : {k : ℕ} → HasRun text at tape from k to tape' → k ≤ n → n ≤ k → ReadsRun text at tape from n (record { at = to; reads = true }) tape'

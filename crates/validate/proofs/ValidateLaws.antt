@@ -14,7 +14,7 @@ use Rattle.plan.specs.declared.check.Answer.{Answer}
 use Rattle.plan.specs.declared.check.Answer.TheVariants.{Valid, Refused}
 use Rattle.plan.specs.Checked.{plan_checks, told_answer, lodged_tally, Checks}
 use Rattle.program.specs.declared.input.Input.{Input}
-use Rattle.program.specs.Printed.{tally_line, refusal_line, HasRead, Read_from}
+use Rattle.program.specs.Printed.{tally_line, refusal_line, HasRead, ReadFrom}
 use Rattle.program.proofs.ReplyTheorem.{reply_to_all}
 use Rattle.program.specs.Between.Room.{line_room}
 use Rattle.validate.specs.Validate.{checked, printed}
@@ -36,6 +36,6 @@ module _ (w l : List ℕ) (given : Answer) (state : List ℕ) (checks : Checks (
       rw (checked, fires) (prints, short)
 
 -- what is printed for the bytes read is what is printed for the whole input
-pub printed_for_all : (whole bytes : List ℕ) (input : Input) → HasRead 0 1 bytes input → Read_from whole bytes input
+pub printed_for_all : (whole bytes : List ℕ) (input : Input) → HasRead 0 1 bytes input → ReadFrom whole bytes input
     → printed (take input.count bytes) ≡ printed whole
 printed_for_all whole bytes input has reads = reply_to_all 0 refusal_line _ whole bytes input has reads

@@ -22,13 +22,13 @@ pub record HasRun (text : List ℕ) (at : ℕ) (tape : List ℕ) (from n : ℕ) 
       → LacksNumbers test (drop at text)
 
 -- a test that fails where fewer than n numbers are there, or one of the first n is −1
-pub record Asks_run (n : ℕ) (test : List ℕ → Bool) : Type 0 where
+pub record AsksRun (n : ℕ) (test : List ℕ → Bool) : Type 0 where
   pub short : (xs : List ℕ) (v : ℕ) → length xs < n → test (xs ++ (v ∷ [])) ≡ false
   pub sign : (xs ys : List ℕ) → length xs < n → test (xs ++ (any_value ∷ ys)) ≡ false
 
 pub record ReadsRun (text : List ℕ) (at : ℕ) (tape : List ℕ) (from n : ℕ) (r : Run) (tape' : List ℕ) : Type 0 where
   pub found : r.reads ≡ true → HasRun text at tape from n r.at tape'
-  pub missed : r.reads ≡ false → (test : List ℕ → Bool) → Asks_run n test → LacksNumbers test (drop at text)
+  pub missed : r.reads ≡ false → (test : List ℕ → Bool) → AsksRun n test → LacksNumbers test (drop at text)
 
 -- the numbers that end an effect or a head of an axiom, read and put on the tape
 pub record HasChange (text : List ℕ) (at : ℕ) (tape : List ℕ) (from : ℕ) (to : ℕ) (tape' : List ℕ) : Type 0 where
