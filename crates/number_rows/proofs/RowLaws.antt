@@ -109,14 +109,14 @@ module _ {text : List ℕ} {r : Reader} (within : Within text r) (goes_on : r.br
 
   module _ (read : ReadsWord is_number text r.at w) where
     -- a number that every sheet can say
-    module _ (keeps : Bool) (row : Row) (plain_Row : PlainRow keeps row) where
+    module _ (keeps : Bool) (row : Row) (plain_row : PlainRow keeps row) where
       pub plain_lacks : (w.behind ≡ LineEnd → ⊥) → (tape' : List ℕ) → ReadsRow row text r tape (stopped_reader r) tape'
       unfolding all_plain
       plain_lacks no_end =
           row_lacks within goes_on row tape
           (no_numbers_on is_number number_kind text r.at w read (numbers_fit row)
-          (sign_kind (numbers_fit row) (λ xs. plain_Row.fits (any_value ∷ xs) ∙ fails_either (eqb (length (any_value ∷ xs)) 1)))
-          no_end (λ v x xs. plain_Row.fits (v ∷ x ∷ xs) ∙ rw (ne_eqb (length (v ∷ x ∷ xs)) 1 (λ e. omega arith))))
+          (sign_kind (numbers_fit row) (λ xs. plain_row.fits (any_value ∷ xs) ∙ fails_either (eqb (length (any_value ∷ xs)) 1)))
+          no_end (λ v x xs. plain_row.fits (v ∷ x ∷ xs) ∙ rw (ne_eqb (length (v ∷ x ∷ xs)) 1 (λ e. omega arith))))
 
       pub plain_read : w.behind ≡ LineEnd → Room text tape → (tape' : List ℕ) → tape' ≡ set tape r.count w.value → (count : ℕ)
           → count ≡ r.count + cond keeps 1 0 → ReadsRow row text r tape (past_reader r (w.end + 1) count) tape'
@@ -125,11 +125,11 @@ module _ {text : List ℕ} {r : Reader} (within : Within text r) (goes_on : r.br
           let ahead = one_ahead is_number number_kind read found in
           let inside = one_inside is_number number_kind read found in
           one_read is_number number_kind read found row
-          (plain_Row.fits (w.value ∷ []) ∙ rw (number_plain text r.at w read LineEnd found line_end_is_there)) tape' count r.barred
-          (rw (stored, counted, plain_Row.kept) (one_taken room inside ahead keeps))
+          (plain_row.fits (w.value ∷ []) ∙ rw (number_plain text r.at w read LineEnd found line_end_is_there)) tape' count r.barred
+          (rw (stored, counted, plain_row.kept) (one_taken room inside ahead keeps))
           (rw counted (few keeps))
-          (first_or_none (barred_at r.barred) ∙ ap (λ b. or_else (barred_at r.barred) (when b (r.line + 1))) (sym (plain_Row.passes (w.value ∷ []))))
-          (ap (after_first row) (ap (λ l. get_or l r.count 0) stored ∙ one_first room inside ahead) ∙ sym (plain_Row.adds w.value))
+          (first_or_none (barred_at r.barred) ∙ ap (λ b. or_else (barred_at r.barred) (when b (r.line + 1))) (sym (plain_row.passes (w.value ∷ []))))
+          (ap (after_first row) (ap (λ l. get_or l r.count 0) stored ∙ one_first room inside ahead) ∙ sym (plain_row.adds w.value))
         where
           few : (b : Bool) → 2 * (r.count + cond b 1 0) ≤ r.at + 2
           few true = omega (arith, within.count)
