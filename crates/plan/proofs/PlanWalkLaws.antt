@@ -1,6 +1,6 @@
 -- A walk along a plan, by the cases of its loop: from each position on it finds what the whole walk finds, and so what it hands back is right.
 -- Assumes nothing.
-use Rattle.std.specs.Prelude.{None, Some}
+use Rattle.std.specs.Prelude.{None, Some, Result, Ok, Err}
 use Prim.Native.Nat.{ℕ, ◌+◌, ◌≤◌, ◌<◌}
 use native.Mathlib.Omega.{arith}
 use mathlib.Core.Path.{◌≡◌, refl, sym, ◌∙◌}
@@ -13,7 +13,6 @@ use Rattle.sheet.specs.Decode.{goal, action}
 use Rattle.tally.specs.declared.Tally.{Tally}
 use Rattle.tally.specs.Tally.{nothing, one_more, after}
 use Rattle.step.specs.Between.Advance.{Advances}
-use Rattle.plan.specs.declared.walk.Walked.{Walked}
 use Rattle.plan.specs.Valid.{steps}
 use Rattle.plan.specs.Between.Fault.{fault, final}
 use Rattle.plan.specs.Between.Walk.{Walks}
@@ -26,8 +25,11 @@ pub record Along (w l s : List ℕ) (i : ℕ) (values : List ℕ) (tally : Tally
   pub counted : after tally (map (cost_word w) (drop i l)) ≡ after nothing (map (cost_word w) l)
   pub ends : final values (steps w (drop i l)) ≡ final s (steps w l)
 
-elsewhere : (r : Walked) (k : ℕ) → r.fault ≡ Some k → r.fault ≡ None → ⊥
-elsewhere r k here nowhere = let never : ◌≡◌ {A = ℕ} 0 1 = cc in omega arith
+no_tally : (k : ℕ) (r : Result Tally ℕ) (t : Tally) → r ≡ Err k → r ≡ Ok t → ⊥
+no_tally k r t stopped counted = cc
+
+ok_same : (t u : Tally) → ◌≡◌ {A = Result Tally ℕ} (Ok t) (Ok u) → t ≡ u
+ok_same t u e = cc
 
 pub along_start : (w l s : List ℕ) → Along w l s 0 s nothing
 along_start w l s = record { reached = omega arith; place = refl; counted = refl; ends = refl }
@@ -46,31 +48,32 @@ module _ (w l s : List ℕ) (i : ℕ) (values : List ℕ) (tally : Tally) (along
       }
 
   -- a step that can't be done
-  pub walks_stuck : (values' : List ℕ) (done : Bool) (r : Walked) → i < length l → Advances w values (get_or l i 0) done values' → done ≡ false → r.fault ≡ Some (i + 1) → Walks w l s r values'
-  walks_stuck values' done r here advances is found =
-      let place : r.fault ≡ fault (goal w) s 1 (steps w l) = found ∙ sym (fault_here w l (goal w) values i here (sym advances.applied ∙ is)) ∙ along.place in
-      record { place = place; tally = λ nowhere. absurd (elsewhere r (i + 1) found nowhere); values = λ nowhere. absurd (elsewhere r (i + 1) found nowhere) }
+  pub walks_stuck : (values' : List ℕ) (done : Bool) → i < length l → Advances w values (get_or l i 0) done values' → done ≡ false → Walks w l s (Err (i + 1)) values'
+  walks_stuck values' done here advances is =
+      record {
+        place = sym (fault_here w l (goal w) values i here (sym advances.applied ∙ is)) ∙ along.place;
+        tally = λ t counted. absurd (no_tally (i + 1) _ t refl counted);
+        values = λ t counted. absurd (no_tally (i + 1) _ t refl counted);
+      }
 
   -- the goal is met after the last step
-  pub walks_valid : (holds : Bool) (r : Walked) → length l ≤ i → holds ≡ satisfies values (goal w) → holds ≡ true → r.fault ≡ None → r.tally ≡ tally
-      → Walks w l s r values
-  walks_valid holds r past test is found counts =
+  pub walks_valid : (holds : Bool) → length l ≤ i → holds ≡ satisfies values (goal w) → holds ≡ true → Walks w l s (Ok tally) values
+  walks_valid holds past test is =
       let met : satisfies values (goal w) ≡ true = sym test ∙ is in
-      let place : None ≡ fault (goal w) s 1 (steps w l) = sym (fault_goal w l (goal w) values i past ∙ rw met) ∙ along.place in
       record {
-        place = found ∙ place;
-        tally = λ nowhere. counts ∙ sym (after_over w l tally i past) ∙ along.counted;
-        values = λ nowhere. sym (final_over w l values i past) ∙ along.ends;
+        place = sym (fault_goal w l (goal w) values i past ∙ rw met) ∙ along.place;
+        tally = λ t counted. sym (ok_same tally t counted) ∙ sym (after_over w l tally i past) ∙ along.counted;
+        values = λ t counted. sym (final_over w l values i past) ∙ along.ends;
       }
 
   -- the goal is not met
-  pub walks_unmet : (holds : Bool) (r : Walked) → length l ≤ i → holds ≡ satisfies values (goal w) → holds ≡ false → r.fault ≡ Some (length l + 1) → Walks w l s r values
-  walks_unmet holds r past test is found =
+  pub walks_unmet : (holds : Bool) → length l ≤ i → holds ≡ satisfies values (goal w) → holds ≡ false → Walks w l s (Err (length l + 1)) values
+  walks_unmet holds past test is =
       let unmet : satisfies values (goal w) ≡ false = sym test ∙ is in
       let last : length l ≡ i = omega (arith, along.reached) in
       let place : Some (i + 1) ≡ fault (goal w) s 1 (steps w l) = sym (fault_goal w l (goal w) values i past ∙ rw unmet) ∙ along.place in
       record {
-        place = found ∙ rw last place;
-        tally = λ nowhere. absurd (elsewhere r (length l + 1) found nowhere);
-        values = λ nowhere. absurd (elsewhere r (length l + 1) found nowhere);
+        place = rw last place;
+        tally = λ t counted. absurd (no_tally (length l + 1) _ t refl counted);
+        values = λ t counted. absurd (no_tally (length l + 1) _ t refl counted);
       }

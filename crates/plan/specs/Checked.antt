@@ -16,6 +16,7 @@ use Rattle.sheet.specs.Layout.{actions}
 use Rattle.sheet.specs.Decode.{goal, initial}
 use Rattle.sheet.specs.Causes.{sheet_checks}
 use Rattle.step.specs.State.{in_array}
+use Rattle.plan.specs.declared.check.Checked.{Checked}
 use Rattle.plan.specs.Limits.{most_steps}
 use Rattle.plan.specs.Valid.{steps}
 use Rattle.plan.specs.Between.Fault.{fault, final}
@@ -52,6 +53,19 @@ plan_checks w l = lodged_checks most_steps [] w l
 abbrev pub Answer : Type 0
 Answer = Result Tally Refusal
 
+-- the state in a refusal
+abbrev pub no_state : State
+no_state = replicate limits.variables 0
+
+-- what is answered of a list, and its end state, all zero on a refusal
+abbrev pub answer_in : Result Checked Refusal → Answer
+answer_in (Ok c) = Ok c.tally
+answer_in (Err r) = Err r
+
+abbrev pub state_in : Result Checked Refusal → State
+state_in (Ok c) = c.state.values
+state_in (Err r) = no_state
+
 -- the refusal in an answer, if it is one
 abbrev pub told_answer : Answer → Option Told
 told_answer (Ok t) = none
@@ -69,10 +83,6 @@ lodged_tally w l = record { cost = cost (steps w l); steps = length l }
 -- the end state: the task's variables after the last step, zero past them
 abbrev pub end_state : List ℕ → List ℕ → State
 end_state w l = in_array (final (initial w) (steps w l))
-
--- the state in a refusal
-abbrev pub no_state : State
-no_state = replicate limits.variables 0
 
 -- the check of the list l of the sheet w by these checks: the tally and the end state, all zero on a refusal
 pub record Checks (checks : List Check) (w l : List ℕ) (given : Answer) (state : List ℕ) : Type 0 where

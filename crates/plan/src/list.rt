@@ -14,12 +14,10 @@ fn unknown_action(words: &[u32], plan: &[u32]) -> Option<usize>
     ensures { result ≡ unknown_place words.now plan.now }
 {
     let known = actions(words);
-    let mut i = 0;
-    while i < plan.len() {
-        if known <= plan[i] as usize {
+    for (i, &a) in plan.iter().enumerate() {
+        if known <= a as usize {
             return Some(i + 1);
         }
-        i += 1;
     }
     None
 }
@@ -31,20 +29,16 @@ fn check_list(words: &[u32], plan: &[u32], limit: usize) -> Result<(), Refusal>
     if limit < plan.len() {
         return Err(Refusal::PlanLength(limit));
     }
-    let unknown = unknown_action(words, plan);
-    if let Some(i) = unknown {
-        return Err(Refusal::UnknownAction(i));
+    match unknown_action(words, plan) {
+        Some(i) => Err(Refusal::UnknownAction(i)),
+        None => Ok(()),
     }
-    Ok(())
 }
 
 // The sheet's checks, then the list's.
 pub fn check_read(words: &[u32], plan: &[u32], limit: usize) -> Result<(), Refusal>
     ensures { told result ≡ answer (read_checks limit words.now plan.now) }
 {
-    let sheet = check_sheet(words);
-    match sheet {
-        Err(refusal) => Err(refusal),
-        Ok(()) => check_list(words, plan, limit),
-    }
+    check_sheet(words)?;
+    check_list(words, plan, limit)
 }

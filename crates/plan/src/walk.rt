@@ -7,40 +7,21 @@ use sheet::layout::cost;
 use step::advance::{advance, goal_holds};
 use tally::Tally;
 
-// Where a plan fails to be valid, and, where it does not, its tally.
-#[derive(Clone, Copy)]
-pub(crate) struct Walked {
-    pub fault: Option<usize>,
-    pub tally: Tally,
-}
-
-// Does each step of a plan in turn in a lent state, and looks at the goal after the last.
-pub(crate) fn walk(words: &[u32], plan: &[u32], state: &mut [u32]) -> Walked
+// Does each step of a plan in turn in a lent state, and looks at the goal after the last. Gives the tally of a valid
+// plan, or where it fails to be valid.
+pub(crate) fn walk(words: &[u32], plan: &[u32], state: &mut [u32]) -> Result<Tally, usize>
     requires { length state.old ≤ limits.variables }
     ensures { Walks words.now plan.now state.old result state.new }
 {
     let mut tally = Tally::new();
-    let mut i = 0;
-    while i < plan.len() {
-        let a = plan[i];
-        if advance(words, state, a) {
-            tally = tally.add(cost(words, a));
-            i += 1;
-        } else {
-            return Walked {
-                fault: Some(i + 1),
-                tally,
-            };
+    for (i, &a) in plan.iter().enumerate() {
+        if !advance(words, state, a) {
+            return Err(i + 1);
         }
+        tally = tally.add(cost(words, a));
     }
     if goal_holds(words, state) {
-        return Walked {
-            fault: None,
-            tally,
-        };
+        return Ok(tally);
     }
-    Walked {
-        fault: Some(plan.len() + 1),
-        tally,
-    }
+    Err(plan.len() + 1)
 }

@@ -11,8 +11,8 @@ returns-then-limit-plan c = sym (answer_fires _ _ _ (rw (lt-ltb _ _ c.if-limit-p
 
 pub returns-in-Some : goal.returns-in-Some
 unfolding list_checks
-returns-in-Some c = sym (answer_passes _ _ (rw (le-ltb _ _ c.if-limit-plan.false)) ∙ answer_fires _ _ _ (sym c.unknown_action-unknown.ensures ∙ c.in-Some.is))
+returns-in-Some c = sym (answer_passes _ _ (rw (le-ltb _ _ c.if-limit-plan.false)) ∙ answer_fires _ _ _ (sym c.unknown_action.ensures ∙ c.in-Some.is))
 
-pub returns : goal.returns
+pub returns-in-None : goal.returns-in-None
 unfolding list_checks
-returns c = sym (answer_passes _ _ (rw (le-ltb _ _ c.if-limit-plan.false)) ∙ answer_passes _ _ (sym c.unknown_action-unknown.ensures ∙ c.in_default.is) ∙ answer_nothing)
+returns-in-None c = sym (answer_passes _ _ (rw (le-ltb _ _ c.if-limit-plan.false)) ∙ answer_passes _ _ (sym c.unknown_action.ensures ∙ c.in-None.is) ∙ answer_nothing)

@@ -10,14 +10,11 @@ pub loop-i-init : goal.loop-i-init
 unfolding unknown_place
 loop-i-init c = refl
 
-pub overflow_cast-plan : goal.overflow_cast-plan
-overflow_cast-plan c = omega (arith, c.shared_slice_known-in-loop-i-1.given c.loop-i.i)
-
-pub returns-then-known-plan : goal.returns-then-known-plan
-returns-then-known-plan c = sym (first_of_here _ _ _ _ c.loop-i-test.true (rw (← c.actions-known.ensures.0, le-leb _ _ c.if-known-plan.true))) ∙ c.loop-i.invariant
+pub returns-then-known-a : goal.returns-then-known-a
+returns-then-known-a c = sym (first_of_here _ _ _ _ c.loop-i-test.true (rw (← c.actions-known.ensures.0, le-leb _ _ c.if-known-a.true))) ∙ c.loop-i.invariant
 
 pub loop-i-preserved : goal.loop-i-preserved
-loop-i-preserved c = sym (first_of_more _ _ _ c.loop-i-test.true (rw (← c.actions-known.ensures.0, lt-leb _ _ c.if-known-plan.false))) ∙ c.loop-i.invariant
+loop-i-preserved c = sym (first_of_more _ _ _ c.loop-i-test.true (rw (← c.actions-known.ensures.0, lt-leb _ _ c.if-known-a.false))) ∙ c.loop-i.invariant
 
 pub returns : goal.returns
 returns c = sym (first_of_over _ _ _ c.loop-i-test.false) ∙ c.loop-i.invariant

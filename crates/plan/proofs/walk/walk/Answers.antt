@@ -11,13 +11,13 @@ pub loop-i-preserved : goal.loop-i-preserved
 loop-i-preserved c =
     let turn = c in
     let done = c.advance in
-    (search rules, rw c.add-tally.ensures (along_more _ _ _ _ _ _ turn.loop-i.invariant.1 _ _ _ c.loop-i-test.true done.ensures c.if-advance.true c.cost.ensures.0))
+    (search rules, rw c.add-tally.ensures (along_more _ _ _ _ _ _ turn.loop-i.invariant.1 _ _ _ c.loop-i-test.true done.ensures c.if-not-advance.false c.cost.ensures.0))
 
-pub returns-else-advance : goal.returns-else-advance
-returns-else-advance c = walks_stuck _ _ _ _ _ _ c.loop-i.invariant.1 _ _ _ c.loop-i-test.true c.advance.ensures c.if-advance.false refl
+pub returns-then-not-advance : goal.returns-then-not-advance
+returns-then-not-advance c = walks_stuck _ _ _ _ _ _ c.loop-i.invariant.1 _ _ c.loop-i-test.true c.advance.ensures c.if-not-advance.true
 
 pub returns-then-goal_holds : goal.returns-then-goal_holds
-returns-then-goal_holds c = walks_valid _ _ _ _ _ _ c.loop-i.invariant.1 _ _ c.loop-i-test.false c.goal_holds.ensures c.if-goal_holds.true refl refl
+returns-then-goal_holds c = walks_valid _ _ _ _ _ _ c.loop-i.invariant.1 _ c.loop-i-test.false c.goal_holds.ensures c.if-goal_holds.true
 
 pub returns : goal.returns
-returns c = walks_unmet _ _ _ _ _ _ c.loop-i.invariant.1 _ _ c.loop-i-test.false c.goal_holds.ensures c.if-goal_holds.false refl
+returns c = walks_unmet _ _ _ _ _ _ c.loop-i.invariant.1 _ c.loop-i-test.false c.goal_holds.ensures c.if-goal_holds.false
