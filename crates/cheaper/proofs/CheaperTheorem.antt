@@ -30,7 +30,7 @@ use Rattle.reduction.proofs.LowerLaws.{lower_true, lower_false}
 use Rattle.reduced.specs.Reduced.{reduction_checks, tally_left, output_left}
 use Rattle.refusal.specs.Refusal.{told}
 use Rattle.refusal.specs.Check.{answer}
-use Rattle.reduced.specs.Between.Tallied.{is_less}
+use Rattle.std.specs.Ordering.{is_lt}
 use Rattle.reduced.proofs.LodgedLaws.{roomy, lodged_valid}
 use Rattle.reduced.proofs.LessLaws.{less_lower}
 use Rattle.elimination.specs.Between.Left.{elimination_of, greedy_elimination_of, left_by}
@@ -50,7 +50,7 @@ front_left l m before fits room =
 
 -- the lower tally is that of the lower list
 tally_less : (w l : List ℕ) (m n : Reduction) → length m ≡ length l → length n ≡ length l
-    → is_less (comparison (tally_left w l m) (tally_left w l n)) ≡ lower (kept m (steps w l)) (kept n (steps w l))
+    → is_lt (comparison (tally_left w l m) (tally_left w l n)) ≡ lower (kept m (steps w l)) (kept n (steps w l))
 unfolding lower
 tally_less w l m n fits fits' =
     let all : (k : Reduction) → length k ≡ length l → length (kept k (steps w l)) ≡ count k = λ k e. kept_length k (steps w l) (e ∙ sym (length-map l (action w))) in
@@ -61,7 +61,7 @@ module _ (w l : List ℕ) (readable : Readable w l) (valid_list : valid (initial
   pub fits_both : (by : Elimination) → length (left_by by w l) ≡ length l
   fits_both by = left_fits w l readable valid_list by ∙ length-map l (action w)
 
-  both_less : is_less (comparison (tally_left w l (left_by Greedy w l)) (tally_left w l (left_by Plain w l)))
+  both_less : is_lt (comparison (tally_left w l (left_by Greedy w l)) (tally_left w l (left_by Plain w l)))
       ≡ lower (kept (left_by Greedy w l) (steps w l)) (kept (left_by Plain w l) (steps w l))
   both_less = tally_less w l (left_by Greedy w l) (left_by Plain w l) (fits_both Greedy) (fits_both Plain)
 
@@ -80,12 +80,12 @@ module _ (w l : List ℕ) (readable : Readable w l) (valid_list : valid (initial
 
       by_order : (o : Ordering) → comparison (tally_left w l (left_by Greedy w l)) (tally_left w l (left_by Plain w l)) ≡ o
           → (by : Elimination) → cost (kept (cheaper_of w l) (steps w l)) ≤ cost (kept (left_by by w l) (steps w l))
-      by_order Less e by = rw (cheaper_taken w l readable valid_list Less e) (less (sym both_less ∙ ap is_less e) by)
-      by_order Equal e by = rw (cheaper_taken w l readable valid_list Equal e) (not_less (sym both_less ∙ ap is_less e) by)
-      by_order Greater e by = rw (cheaper_taken w l readable valid_list Greater e) (not_less (sym both_less ∙ ap is_less e) by)
+      by_order Less e by = rw (cheaper_taken w l readable valid_list Less e) (less (sym both_less ∙ ap is_lt e) by)
+      by_order Equal e by = rw (cheaper_taken w l readable valid_list Equal e) (not_less (sym both_less ∙ ap is_lt e) by)
+      by_order Greater e by = rw (cheaper_taken w l readable valid_list Greater e) (not_less (sym both_less ∙ ap is_lt e) by)
 
 -- which part is shown, by whether the second tally is the lower
-shown_second : (first second : List ℕ) (t u : Tally) → is_less (comparison u t) ≡ true → cheaper_part first second t u ≡ take u.steps second
+shown_second : (first second : List ℕ) (t u : Tally) → is_lt (comparison u t) ≡ true → cheaper_part first second t u ≡ take u.steps second
 unfolding cheaper_part
 shown_second first second t u less = by_case (comparison u t) refl
   where
@@ -94,7 +94,7 @@ shown_second first second t u less = by_case (comparison u t) refl
     by_case Equal e = absurd (false≢true (rw e at less))
     by_case Greater e = absurd (false≢true (rw e at less))
 
-shown_first : (first second : List ℕ) (t u : Tally) → is_less (comparison u t) ≡ false → cheaper_part first second t u ≡ take t.steps first
+shown_first : (first second : List ℕ) (t u : Tally) → is_lt (comparison u t) ≡ false → cheaper_part first second t u ≡ take t.steps first
 unfolding cheaper_part
 shown_first first second t u not_less = by_case (comparison u t) refl
   where
@@ -127,7 +127,7 @@ module _ (w l before before' : List ℕ) (v : Verdict) (first second : Tally) (a
     told_second : second ≡ tally_left w l (greedy_elimination_of w l)
     told_second = rw passed at both.second_tally
 
-    lists_less : is_less (comparison second first) ≡ lower (kept (greedy_elimination_of w l) (steps w l)) (kept (elimination_of w l) (steps w l))
+    lists_less : is_lt (comparison second first) ≡ lower (kept (greedy_elimination_of w l) (steps w l)) (kept (elimination_of w l) (steps w l))
     lists_less = rw (told_first, told_second) (tally_less w l (greedy_elimination_of w l) (elimination_of w l) fits_second fits_first)
 
     pub greedy_shown : lower (kept (greedy_elimination_of w l) (steps w l)) (kept (elimination_of w l) (steps w l)) ≡ true

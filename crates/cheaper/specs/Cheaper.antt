@@ -1,7 +1,8 @@
 -- The cheaper of document 01's two eliminations: which it is, what the service of both answers, and the part that is
 -- shown of it. Assumes nothing.
-use Rattle.std.specs.Prelude.{ℕ, min, ◌≡◌, List, length, take}
+use Rattle.std.specs.Prelude.{ℕ, min, ◌≡◌, List, length, take, Result, Ok, Err}
 use Rattle.std.proofs.Math.Option.{Option}
+use Rattle.refusal.specs.declared.Refusal.{Refusal}
 use Rattle.refusal.specs.Refusal.{Verdict}
 use Rattle.refusal.specs.Refusal.{Told, told}
 use Rattle.refusal.specs.Check.{answer, unless_refused}
@@ -15,6 +16,7 @@ use Rattle.reduced.specs.Reduced.{reduction_checks, tally_left, output_left, Tel
 use Rattle.elimination.specs.declared.single.Elimination.{Elimination}
 use Rattle.elimination.specs.declared.single.Elimination.TheVariants.{Plain, Greedy}
 use Rattle.elimination.specs.Eliminations.{LeftByRule}
+use Rattle.cheaper.specs.declared.both.Both.{Both}
 
 -- "lower price, then fewer steps, then elimination's": of elimination's and greedy elimination's, by how the second
 -- tally compares with the first
@@ -42,6 +44,15 @@ abbrev pub LeftWith : Option Told → Elimination → List ℕ → List ℕ → 
 LeftWith t by w l before tally after =
     TellsLeft (LeftByRule by w l) (λ m. (tally ≡ unless_refused t (tally_left w l m) nothing)
     × (after ≡ unless_refused t (output_left l m before) before)) t
+
+-- the tallies in an answer, elimination's and greedy elimination's: zero in a refusal
+abbrev pub first_tally : Result Both Refusal → Tally
+first_tally (Ok b) = b.first
+first_tally (Err r) = nothing
+
+abbrev pub second_tally : Result Both Refusal → Tally
+second_tally (Ok b) = b.second
+second_tally (Err r) = nothing
 
 -- "The cheaper-of-both service fills two lent outputs, elimination's first, and returns both tallies or a refusal";
 -- both outputs must have room

@@ -1,10 +1,8 @@
 -- The better of the best so far and a trial, by cases. Assumes nothing.
-use mathlib.Core.Path.{◌≡◌}
-use mathlib.Core.Bool.{true, false}
-use Rattle.std.specs.declared.cmp.Ordering.{Ordering}
-use Rattle.std.specs.declared.cmp.Ordering.TheVariants.{Less}
+use mathlib.Core.Path.{◌≡◌, sym, ◌∙◌}
+use mathlib.Core.Bool.{Bool, true, false}
 use Rattle.tally.specs.Tally.{comparison}
-use Rattle.reduced.specs.Between.Tallied.{is_less}
+use Rattle.std.specs.Ordering.{is_lt}
 use Rattle.elimination.specs.declared.greedy.Best.{Best}
 use Rattle.trial.specs.declared.Tried.{Tried}
 use Rattle.elimination.specs.Between.Round.{replaces, better_of}
@@ -20,11 +18,11 @@ module _ (so_far : Best) (tried : Tried) where
     first_success e = rw (succeeds, e)
 
     -- of two successes, by the order of what they strike
-    module _ (order : Ordering) (found : so_far.found ≡ true) (compared : order ≡ comparison so_far.struck tried.struck) where
-      pub more_success : order ≡ Less → record { found = true; flags = tried.flags; struck = tried.struck } ≡ better_of so_far tried
+    module _ (found : so_far.found ≡ true) (lower : Bool) (compared : lower ≡ is_lt (comparison so_far.struck tried.struck)) where
+      pub more_success : lower ≡ true → record { found = true; flags = tried.flags; struck = tried.struck } ≡ better_of so_far tried
       unfolding better_of replaces
-      more_success less = let is : comparison so_far.struck tried.struck ≡ Less = cc in rw (succeeds, found, is)
+      more_success is = rw (succeeds, found, sym compared ∙ is)
 
-      pub no_more_success : is_less order ≡ false → so_far ≡ better_of so_far tried
+      pub no_more_success : lower ≡ false → so_far ≡ better_of so_far tried
       unfolding better_of replaces
-      no_more_success no_less = let is : is_less (comparison so_far.struck tried.struck) ≡ false = rw (← compared) no_less in rw (succeeds, found, is)
+      no_more_success is = rw (succeeds, found, sym compared ∙ is)

@@ -21,7 +21,7 @@ use Rattle.trial.specs.Between.Walk.{Balanced}
 use Rattle.trial.specs.Between.Trial.{MakesTrial}
 use Rattle.reduced.specs.Between.Held.{mask}
 use Rattle.trial.specs.Between.Current.{Current}
-use Rattle.reduced.specs.Between.Tallied.{is_less}
+use Rattle.std.specs.Ordering.{is_lt}
 use Rattle.elimination.specs.Between.Round.{replaces, better_of, Picks, Looks}
 use Rattle.trial.proofs.CurrentLaws.{mask_length, trial_met, trial_unmet, left_mask, left_current, unkept, passed_over, advanced}
 use Rattle.trial.proofs.BalanceLaws.{balanced_mask, readable_fits, more_struck}
@@ -78,10 +78,10 @@ module _ (w l : List ℕ) (readable : Readable w l) (flags : Reduction) (current
           record { nothing_found = λ f. absurd (true≢false f); best_found = λ f. e; current = λ f. tried_current; balanced = λ f. tried_balanced }
 
       -- the two are compared by what they strike, and so by what they leave
-      less : so_far.found ≡ true → is_less (comparison so_far.struck tried.struck) ≡ lower (kept (mask l tried.flags) (steps w l)) (kept (mask l so_far.flags) (steps w l))
+      less : so_far.found ≡ true → is_lt (comparison so_far.struck tried.struck) ≡ lower (kept (mask l tried.flags) (steps w l)) (kept (mask l so_far.flags) (steps w l))
       less found = more_struck w l (mask l flags) (mask l tried.flags) (mask l so_far.flags) tried.struck so_far.struck tried_balanced (picks.balanced found)
 
-      picks_second : (r : Best) (b : Bool) → r ≡ better_of so_far tried → so_far.found ≡ true → is_less (comparison so_far.struck tried.struck) ≡ b
+      picks_second : (r : Best) (b : Bool) → r ≡ better_of so_far tried → so_far.found ≡ true → is_lt (comparison so_far.struck tried.struck) ≡ b
           → Picks w l (mask l flags) (suc i) r
       unfolding better_of replaces chosen
       picks_second r true is found e =

@@ -13,7 +13,6 @@ use plan::limits::Plan;
 use reduced::held::all_kept;
 use step::advance::advance_in;
 use step::state::initial;
-use std::cmp::Ordering;
 use tally::Tally;
 use trial::{Tried, trial};
 
@@ -34,16 +33,14 @@ fn better(best: Best, tried: Tried) -> Best
         let flags = tried.flags;
         let struck = tried.struck;
         if best.found {
-            let order = best.struck.compare(struck);
-            return match order {
-                Ordering::Less => Best {
+            if best.struck.is_lower(struck) {
+                return Best {
                     found: true,
                     flags,
                     struck,
-                },
-                Ordering::Equal => best,
-                Ordering::Greater => best,
-            };
+                };
+            }
+            return best;
         }
         return Best {
             found: true,

@@ -5,6 +5,7 @@ ghost use Rattle.sheet.specs.Decode.{goal, initial};
 ghost use Rattle.plan.specs.Valid.{steps};
 ghost use Rattle.plan.specs.Readable.{Readable};
 ghost use Rattle.reduced.specs.Between.Held.{flags_of};
+ghost use Rattle.reduced.specs.Reduced.{answer_left, mask_left};
 ghost use Rattle.elimination.specs.Eliminations.{Eliminates};
 ghost use Rattle.elimination.specs.Between.Left.{left_by};
 
@@ -12,9 +13,9 @@ use crate::eliminate::eliminate;
 use crate::greedy::greedy;
 use plan::check::check_lodged;
 use plan::limits::Plan;
-use reduced::answer::Reduced;
-use reduced::finish::finish;
+use reduced::finish::{Kept, finish};
 use reduced::room::check_room;
+use refusal::Refusal;
 
 // Which of document 01's two eliminations.
 #[derive(Clone, Copy)]
@@ -36,16 +37,16 @@ pub fn flags_left(words: &[u32], plan: &[u32], by: Elimination) -> [bool; Plan::
 }
 
 // An elimination of a plan of a task: writes what it leaves to the front of `out`.
-pub fn eliminate_plan(words: &[u32], plan: &[u32], out: &mut [u32], by: Elimination) -> Reduced
+pub fn eliminate_plan(
+    words: &[u32],
+    plan: &[u32],
+    out: &mut [u32],
+    by: Elimination,
+) -> Result<Kept, Refusal>
     ensures { Eliminates by words.now plan.now
-        out.old result.answer result.mask.words out.new }
+        out.old (answer_left result) (mask_left result) out.new }
 {
-    let checked = check_lodged(words, plan, Plan::STEPS, check_room(plan.len(), out.len()));
-    let answer = checked.answer;
-    if let Err(refusal) = answer {
-        return Reduced::refused(refusal);
-    }
+    check_lodged(words, plan, Plan::STEPS, check_room(plan.len(), out.len()))?;
     let flags = flags_left(words, plan, by);
-    let n = plan.len();
-    Reduced::told(finish(words, plan, &flags[..n], out))
+    Ok(finish(words, plan, &flags[..plan.len()], out))
 }

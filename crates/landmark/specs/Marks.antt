@@ -1,11 +1,13 @@
 -- The marks of a list (document 02, C-12), and what the service answers (document 01, "Marks"). That they are those of
 -- the rule is `marks_theorem` of proofs/MarkTheorem. Assumes nothing.
-use Rattle.std.specs.Prelude.{ℕ, ◌-◌, ◌≡◌, List, length, replicate}
+use Rattle.std.specs.Prelude.{ℕ, ◌-◌, ◌≡◌, List, length, replicate, Result, Ok, Err}
+use Rattle.refusal.specs.declared.Refusal.{Refusal}
 use Rattle.refusal.specs.Refusal.{Verdict}
 use Rattle.refusal.specs.Refusal.{told}
 use Rattle.refusal.specs.Check.{answer, unless_refused}
 use Rattle.reduction.specs.Reduction.{Reduction, count}
 use Rattle.reduction.specs.Between.Landmarks.{landmarks}
+use Rattle.mask.specs.declared.Mask.{Mask}
 use Rattle.mask.specs.Mask.{mask_length, mask_words}
 use Rattle.sheet.specs.Decode.{initial, goal}
 use Rattle.plan.specs.Valid.{steps}
@@ -21,6 +23,11 @@ marked w l = count (marks w l)
 
 abbrev pub unmarked : List ℕ → List ℕ → ℕ
 unmarked w l = length l - marked w l
+
+-- the words of the mask in an answer: zero in a refusal
+abbrev pub mask_masked : Result Mask Refusal → List ℕ
+mask_masked (Ok m) = m.words
+mask_masked (Err r) = replicate mask_length 0
 
 -- the service: bit i of the mask's words is the mark of step i + 1, and all other bits are zero; the mask of a refusal
 -- is zero

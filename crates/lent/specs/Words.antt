@@ -1,13 +1,15 @@
 -- What answers, tallies, orders and states are as words. Assumes nothing.
-use Rattle.std.specs.Prelude.{ℕ, ◌≡◌, List, [], ◌∷◌, ◌++◌}
+use Rattle.std.specs.Prelude.{ℕ, ◌≡◌, List, [], ◌∷◌, ◌++◌, Result}
 use Rattle.std.proofs.Math.Option.{Option, none, some}
 use Rattle.std.proofs.lemmas.List.Edits.{sets}
+use Rattle.refusal.specs.declared.Refusal.{Refusal}
 use Rattle.refusal.specs.Refusal.{Told}
 use Rattle.tally.specs.declared.Tally.{Tally}
 use Rattle.std.specs.declared.cmp.Ordering.{Ordering}
 use Rattle.std.specs.declared.cmp.Ordering.TheVariants.{Less, Equal, Greater}
+use Rattle.plan.specs.declared.check.Checked.{Checked}
 use Rattle.plan.specs.Checked.{Answer}
-use Rattle.plan.specs.Checked.{told_answer, told_tally}
+use Rattle.plan.specs.Checked.{told_answer, told_tally, answer_in, state_in}
 use Rattle.sheet.specs.Limits.{limits}
 use Rattle.sheet.specs.Layout.{word}
 use Rattle.sheet.specs.Decode.{table}
@@ -38,3 +40,8 @@ lent_state words = table (word words) 0 limits.variables
 pub record WritesReduced (words : List ℕ) (given : Answer) (mask mask' out out' : List ℕ) : Type 0 where
   pub told_by : mask' ≡ sets mask 0 words
   pub answered : out' ≡ sets out 0 (answer_words (told_answer given) ++ tally_words (told_tally given))
+
+-- what the check of a plan answers over lent words, and its end state
+pub record WritesChecked (checked : Result Checked Refusal) (state state' out out' : List ℕ) : Type 0 where
+  pub end : state' ≡ sets state 0 (state_in checked)
+  pub answered : out' ≡ sets out 0 (answer_words (told_answer (answer_in checked)) ++ tally_words (told_tally (answer_in checked)))

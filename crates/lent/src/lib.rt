@@ -3,12 +3,15 @@
 
 ghost use Rattle.std.specs.Prelude.{◌≡◌, min, ◌<◌, ◌^◌, [], ◌∷◌, ◌++◌, length};
 ghost use Rattle.std.proofs.lemmas.List.Edits.{sets};
-ghost use Rattle.refusal.specs.Refusal.{told};
+ghost use Rattle.refusal.specs.Refusal.{told, verdict_in, count_in};
 ghost use Rattle.plan.specs.Checked.{told_answer, told_tally};
-ghost use Rattle.lent.specs.Words.{answer_words, tally_words, lent_state, WritesReduced};
+ghost use Rattle.reduced.specs.Reduced.{answer_left, mask_left};
+ghost use Rattle.lent.specs.Words.{answer_words, tally_words, lent_state, WritesChecked, WritesReduced};
 
-use access::{put_all, put64, word};
+use access::{get_or, put, put_all};
 use mask::Mask;
+use plan::check::Checked;
+use reduced::finish::Kept;
 use refusal::Refusal;
 use sheet::limits::Sheet;
 use step::state::State;
@@ -28,8 +31,8 @@ pub fn write_pair(out: &mut [u64], at: usize, first: u64, second: u64)
     requires { at < 2 ^ 32 }
     ensures { out.new ≡ sets out.old at (first ∷ second ∷ []) }
 {
-    put64(out, at, first);
-    put64(out, at + 1, second);
+    put(out, at, first);
+    put(out, at + 1, second);
 }
 
 // Writes the number and the place of a refusal, or 0 and 0.
@@ -38,12 +41,7 @@ pub fn write_verdict(out: &mut [u64], verdict: Result<(), Refusal>)
 {
     match verdict {
         Ok(()) => write_pair(out, 0, 0, 0),
-        Err(refusal) => write_pair(
-            out,
-            0,
-            refusal.number() as u64,
-            refusal.place() as u64,
-        ),
+        Err(refusal) => write_pair(out, 0, refusal.number() as u64, refusal.place() as u64),
     }
 }
 
@@ -65,21 +63,53 @@ pub fn write_answer(out: &mut [u64], given: Result<Tally, Refusal>)
 }
 
 // Writes an answer that counts something: the number and the place of a refusal, or 0 and 0, then how many.
-pub fn write_counted(out: &mut [u64], verdict: Result<(), Refusal>, count: usize)
-    ensures { out.new ≡ sets out.old 0 (answer_words (told verdict) ++ (count ∷ [])) }
+pub fn write_counted(out: &mut [u64], counted: Result<usize, Refusal>)
+    ensures { out.new ≡ sets out.old 0 (answer_words (told (verdict_in counted)) ++ (count_in counted ∷ [])) }
 {
-    write_verdict(out, verdict);
-    put64(out, COUNT_AT, count as u64);
+    match counted {
+        Ok(count) => {
+            write_pair(out, 0, 0, 0);
+            put(out, COUNT_AT, count as u64);
+        }
+        Err(refusal) => {
+            write_verdict(out, Err(refusal));
+            put(out, COUNT_AT, 0);
+        }
+    }
 }
 
-// Writes what a service that strikes answers: the four words of its mask, and its answer.
-pub fn write_reduced(mask: &mut [u64], out: &mut [u64], kept: Mask, given: Result<Tally, Refusal>)
-    ensures { WritesReduced kept.words given
+// Writes what the check of a plan answers, and its end state: all zero on a refusal.
+pub fn write_checked(state: &mut [u32], out: &mut [u64], checked: Result<Checked, Refusal>)
+    ensures { WritesChecked checked
+        state.old state.new out.old out.new }
+{
+    match checked {
+        Ok(end) => {
+            put_all(state, &end.state.values);
+            write_answer(out, Ok(end.tally));
+        }
+        Err(refusal) => {
+            put_all(state, &[0u32; Sheet::VARIABLES]);
+            write_answer(out, Err(refusal));
+        }
+    }
+}
+
+// Writes what a service that strikes answers, and the four words of its mask: all zero on a refusal.
+pub fn write_reduced(mask: &mut [u64], out: &mut [u64], reduced: Result<Kept, Refusal>)
+    ensures { WritesReduced (mask_left reduced) (answer_left reduced)
         mask.old mask.new out.old out.new }
 {
-    let bits = kept.words;
-    write_wide(mask, &bits);
-    write_answer(out, given);
+    match reduced {
+        Ok(kept) => {
+            put_all(mask, &kept.mask.words);
+            write_answer(out, Ok(kept.tally));
+        }
+        Err(refusal) => {
+            put_all(mask, &[0u64; Mask::WORDS]);
+            write_answer(out, Err(refusal));
+        }
+    }
 }
 
 // Writes the answer of both eliminations: the number and the place of a refusal, or 0 and 0, then the two tallies.
@@ -92,27 +122,13 @@ pub fn write_both(out: &mut [u64], verdict: Result<(), Refusal>, first: Tally, s
     write_pair(out, OTHER_AT, second.cost as u64, second.steps as u64);
 }
 
-// Writes wide values from the first word on.
-pub fn write_wide(out: &mut [u64], values: &[u64])
-    ensures { out.new ≡ sets out.old 0 values.now }
-{
-    let mut i = 0;
-    while i < values.len() {
-        put64(out, i, values[i]);
-        i += 1;
-    }
-}
-
 // Writes words from the first on. Returns how many were written: all, or as many as there is room for.
 pub fn write_front(out: &mut [u32], values: &[u32]) -> usize
     ensures words { out.new ≡ sets out.old 0 values.now }
     ensures written { result ≡ min (length out.old) (length values.now) }
 {
     put_all(out, values);
-    if out.len() < values.len() {
-        return out.len();
-    }
-    values.len()
+    out.len().min(values.len())
 }
 
 // The state that the first words are.
@@ -120,10 +136,8 @@ pub fn read_state(words: &[u32]) -> State
     ensures { result.values ≡ lent_state words.now }
 {
     let mut values = [0u32; Sheet::VARIABLES];
-    let mut v = 0;
-    while v < Sheet::VARIABLES {
-        values[v] = word(words, v);
-        v += 1;
+    for v in 0..Sheet::VARIABLES {
+        values[v] = get_or(words, v, 0);
     }
     State { values }
 }

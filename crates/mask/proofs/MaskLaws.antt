@@ -1,10 +1,11 @@
 -- The words of a reduction: which flags each has, and that their ones are the kept steps, by induction on the number of words; and how the code makes and
 -- counts four of them. Assumes nothing.
+use mir.Val.{bool_byte}
 use Prim.Native.Nat.{ℕ, zero, suc, ◌+◌, ◌-◌, ◌*◌, ◌^◌, ◌≤◌, ◌<◌}
 use native.Mathlib.Nat.{zero-add, add-zero, mul-suc, suc-add, lt_of_lt_of_le}
 use native.Mathlib.Omega.{arith}
 use mathlib.Core.Path.{◌≡◌, refl, ap, ◌∙◌}
-use mathlib.Core.Bool.{true, false}
+use mathlib.Core.Bool.{Bool, true, false}
 use mathlib.Core.List.{List, [], ◌∷◌}
 use lib.ListN.{length, get_or, take, drop, length-drop}
 use lib.Seq.{drop-drop}
@@ -84,3 +85,8 @@ module _ (m : Reduction) (from : ℕ) where
   pub upper_whole : (i : ℕ) → i ≤ 0 → upper_part m from i ≡ binary (take word_bits (drop from m))
   unfolding upper_part
   upper_whole i none = rw (le-zero none, add-zero)
+
+-- a flag as a number is its digit
+pub digit_told : (b : Bool) → bool_byte b ≡ digit b
+digit_told true = refl
+digit_told false = refl

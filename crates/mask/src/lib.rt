@@ -4,10 +4,10 @@
 ghost use Rattle.std.specs.Prelude.{◌≡◌, ◌≤◌, false, length, get_or, take, drop};
 ghost use Rattle.std.proofs.lemmas.List.Edits.{sets};
 ghost use Rattle.std.specs.Int.Count.{ones as ones_in_lem};
-ghost use Rattle.mask.specs.Mask.{word_bits, mask_bits, digit as digit_of, binary, mask_words, ones_of, bit_up};
+ghost use Rattle.mask.specs.Mask.{word_bits, mask_bits, binary, mask_words, ones_of, bit_up};
 ghost use Rattle.mask.specs.Between.Places.{kept_by_words};
 
-use access::{flag, write_word};
+use access::{get_or, write_word};
 
 // Document 01's mask. Its words may hold any values.
 #[derive(Clone, Copy)]
@@ -33,14 +33,15 @@ impl Mask {
     pub fn keeps(self, i: usize) -> bool
         ensures { result ≡ bit_up self.words i }
     {
-        let words = self.words;
-        let k = i / Mask::BITS;
-        if k < Mask::WORDS {
-            (words[k] >> (i % Mask::BITS)) % 2 == 1
-        } else {
-            false
-        }
+        bit(&self.words, i)
     }
+}
+
+// Whether bit i of a mask's words is one; where there is no such word it is not.
+pub fn bit(words: &[u64], i: usize) -> bool
+    ensures { result ≡ bit_up words.now i }
+{
+    (get_or(words, i / Mask::BITS, 0) >> (i % Mask::BITS)) % 2 == 1
 }
 
 // The number of ones in a word.
@@ -50,23 +51,14 @@ fn ones(word: u64) -> u32
     u64::count_ones(word)
 }
 
-// The flag at index i as a digit, 0 past the end.
-fn digit(flags: &[bool], i: usize) -> u64
-    ensures { result ≡ digit_of (get_or flags.now i false) }
-{
-    if flag(flags, i) { 1 } else { 0 }
-}
-
 // The word of the flags from index `from` on.
 fn word_of(flags: &[bool], from: usize) -> u64
     requires { from ≤ mask_bits }
     ensures { result ≡ binary (take word_bits (drop from flags.now)) }
 {
     let mut word = 0;
-    let mut i = Mask::BITS;
-    while 0 < i {
-        i -= 1;
-        word = 2 * word + digit(flags, from + i);
+    for i in (0..Mask::BITS).rev() {
+        word = 2 * word + u64::from(get_or(flags, from + i, false));
     }
     word
 }
@@ -93,10 +85,8 @@ pub fn write_kept(mask: Mask, plan: &[u32], out: &mut [u32]) -> usize
 {
     let words = mask.words;
     let mut to = 0;
-    let mut k = 0;
-    while k < Mask::WORDS {
-        to = write_word(words[k], (k * Mask::BITS) as u32, plan, out, to as u32);
-        k += 1;
+    for (k, &word) in words.iter().enumerate() {
+        to = write_word(word, (k * Mask::BITS) as u32, plan, out, to as u32);
     }
     to
 }

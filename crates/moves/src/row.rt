@@ -1,13 +1,11 @@
 // The row of one step.
 ghost use Rattle.std.specs.Prelude.{◌≡◌, ◌<◌, ◌^◌};
 ghost use Rattle.std.proofs.lemmas.List.Edits.{sets};
-ghost use Rattle.mask.specs.Mask.{digit as digit_of, bit_up};
 ghost use Rattle.lent.specs.Words.{tally_words};
 ghost use Rattle.moves.specs.Between.Tallied.{row_words};
 
 use crate::tallies::Tallies;
-use access::{put, word64};
-use mask::Mask;
+use access::put;
 use tally::Tally;
 
 // Where the flags and the tallies of a row stand, behind the cost.
@@ -20,20 +18,6 @@ const LODGED_AT: usize = 3;
 const LEFT_AT: usize = 5;
 
 const STRUCK_AT: usize = 7;
-
-// Whether bit i of a mask's words is one; where there is no such word it is not.
-pub(crate) fn bit(mask: &[u64], i: usize) -> bool
-    ensures { result ≡ bit_up mask.now i }
-{
-    (word64(mask, i / Mask::BITS) >> (i % Mask::BITS)) % 2 == 1
-}
-
-// A flag as a digit.
-fn digit(up: bool) -> u32
-    ensures { result ≡ digit_of up }
-{
-    if up { 1 } else { 0 }
-}
 
 // Writes the cost and the steps of a tally, the cost at index `at`.
 fn put_tally(rows: &mut [u32], at: usize, tally: Tally)
@@ -60,8 +44,8 @@ pub(crate) fn put_row(
     let left = so_far.left;
     let struck = so_far.struck;
     put(rows, at, cost);
-    put(rows, at + KEPT_AT, digit(is_kept));
-    put(rows, at + MARKED_AT, digit(is_marked));
+    put(rows, at + KEPT_AT, u32::from(is_kept));
+    put(rows, at + MARKED_AT, u32::from(is_marked));
     put_tally(rows, at + LODGED_AT, lodged);
     put_tally(rows, at + LEFT_AT, left);
     put_tally(rows, at + STRUCK_AT, struck);

@@ -3,8 +3,9 @@ ghost use Rattle.plan.specs.Readable.{Readable};
 ghost use Rattle.moves.specs.Moves.{Moves};
 ghost use Rattle.moves.specs.Between.Tallied.{WritesRows};
 
-use crate::row::{bit, put_row};
+use crate::row::put_row;
 use crate::tallies::Tallies;
+use mask::bit;
 use plan::limits::Plan;
 use plan::list::check_read;
 use refusal::Refusal;
@@ -21,13 +22,11 @@ fn write_rows(words: &[u32], plan: &[u32], kept: &[u64], marked: &[u64], rows: &
         rows.old rows.new }
 {
     let mut so_far = Tallies::new();
-    let mut i = 0;
-    while i < plan.len() {
-        let price = cost(words, plan[i]);
+    for (i, &a) in plan.iter().enumerate() {
+        let price = cost(words, a);
         let is_kept = bit(kept, i);
         so_far = so_far.add(price, is_kept);
         put_row(rows, ROW * i, price, is_kept, bit(marked, i), so_far);
-        i += 1;
     }
     so_far.struck
 }
@@ -44,9 +43,6 @@ pub fn plan_moves(
     ensures { Moves words.now plan.now kept.now marked.now result
         rows.old rows.new }
 {
-    let read = check_read(words, plan, Plan::STEPS);
-    if let Err(refusal) = read {
-        return Err(refusal);
-    }
+    check_read(words, plan, Plan::STEPS)?;
     Ok(write_rows(words, plan, kept, marked, rows))
 }

@@ -10,15 +10,15 @@ use borrow.Author.Tests.{ltb-true, ltb-false, eq-eqb, ne_eqb}
 use Rattle.std.specs.declared.cmp.Ordering.TheVariants.{Less, Equal, Greater}
 use Rattle.tally.specs.Tally.{comparison}
 use Rattle.reduction.specs.Reduction.{Reduction, kept}
-use Rattle.reduced.specs.Between.Tallied.{is_less}
+use Rattle.std.specs.Ordering.{is_lt}
 
 -- the lower tally is that of the lower price, then of the fewer steps
-pub less_lower : (a x b y : ℕ) → is_less (comparison (record { cost = a; steps = x }) (record { cost = b; steps = y })) ≡ (ltb a b || (eqb a b && ltb x y))
+pub less_lower : (a x b y : ℕ) → is_lt (comparison (record { cost = a; steps = x }) (record { cost = b; steps = y })) ≡ (ltb a b || (eqb a b && ltb x y))
 unfolding comparison
 less_lower a x b y = by_case (ltb a b) refl (ltb b a) refl (ltb x y) refl (ltb y x) refl
   where
     by_case : (p : Bool) → ltb a b ≡ p → (q : Bool) → ltb b a ≡ q → (r : Bool) → ltb x y ≡ r → (t : Bool) → ltb y x ≡ t
-        → is_less (cond (ltb a b) Less (cond (ltb b a) Greater (cond (ltb x y) Less (cond (ltb y x) Greater Equal)))) ≡ (ltb a b || (eqb a b && ltb x y))
+        → is_lt (cond (ltb a b) Less (cond (ltb b a) Greater (cond (ltb x y) Less (cond (ltb y x) Greater Equal)))) ≡ (ltb a b || (eqb a b && ltb x y))
     by_case true e q f r g t h = rw e
     by_case false e true f r g t h = let apart : eqb a b ≡ false = ne_eqb a b (λ same. omega (arith, ltb-true b a f)) in rw (e, f, apart)
     by_case false e false f true g t h = let same : eqb a b ≡ true = eq-eqb a b (omega (arith, ltb-false a b e, ltb-false b a f)) in rw (e, f, g, same)

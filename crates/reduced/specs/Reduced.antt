@@ -1,5 +1,5 @@
 -- What a service that answers with a reduction of a list answers. Assumes nothing.
-use Rattle.std.specs.Prelude.{ℕ, ◌≡◌, List, [], ◌∷◌, length, replicate, ltb}
+use Rattle.std.specs.Prelude.{ℕ, ◌≡◌, List, [], ◌∷◌, length, replicate, ltb, Result, Ok, Err}
 use Rattle.std.proofs.Math.Option.{Option, none}
 use Rattle.std.proofs.lemmas.List.Edits.{sets}
 use Rattle.refusal.specs.Place.{when}
@@ -9,11 +9,13 @@ use Rattle.sas.specs.Plan.{cost}
 use Rattle.tally.specs.declared.Tally.{Tally}
 use Rattle.tally.specs.Tally.{nothing}
 use Rattle.plan.specs.Limits.{most_steps}
+use Rattle.refusal.specs.declared.Refusal.{Refusal}
 use Rattle.plan.specs.Checked.{Answer}
 use Rattle.plan.specs.Valid.{steps}
 use Rattle.plan.specs.Checked.{lodged_checks, told_answer, told_tally}
 use Rattle.reduction.specs.Reduction.{Reduction, kept, count}
 use Rattle.mask.specs.Mask.{mask_length, mask_words}
+use Rattle.reduced.specs.declared.finish.Kept.{Kept}
 
 -- 10: an output of `room` words is shorter than a list of so many steps
 unfoldable pub room_checks : ℕ → ℕ → List Check
@@ -30,6 +32,15 @@ tally_left w l m = record { cost = cost (kept m (steps w l)); steps = count m }
 -- "The kept action numbers go to the front of the lent output": every other word is as it was
 abbrev pub output_left : List ℕ → Reduction → List ℕ → List ℕ
 output_left l m before = sets before 0 (kept m l)
+
+-- the answer of a service that strikes, and its mask: zero on a refusal
+abbrev pub answer_left : Result Kept Refusal → Answer
+answer_left (Ok k) = Ok k.tally
+answer_left (Err r) = Err r
+
+abbrev pub mask_left : Result Kept Refusal → List ℕ
+mask_left (Ok k) = k.mask.words
+mask_left (Err r) = replicate mask_length 0
 
 -- what a service whose checks answer t tells and writes of the reduction m of the list l: its tally and its mask, and
 -- the list left over a lent output; "counts, prices and masks" in a refusal "are zero", and the output is untouched

@@ -2,19 +2,15 @@
 ghost use Rattle.std.specs.Prelude.{◌≡◌};
 ghost use Rattle.reduced.specs.Between.Held.{none_struck};
 
-use crate::room::shorter;
 use plan::limits::Plan;
 
 // The flags of a plan of n steps of which none is struck; every flag is up where a plan may not have as many.
 pub fn all_kept(n: usize) -> [bool; Plan::STEPS]
     ensures { result ≡ none_struck n }
 {
-    let up = shorter(n, Plan::STEPS);
     let mut flags = [false; Plan::STEPS];
-    let mut i = 0;
-    while i < up {
+    for i in 0..n.min(Plan::STEPS) {
         flags[i] = true;
-        i += 1;
     }
     flags
 }

@@ -1,5 +1,5 @@
-// Refusal 10: an output that is shorter than the plan; and the shorter of two lengths.
-ghost use Rattle.std.specs.Prelude.{◌≡◌, min};
+// Refusal 10: an output that is shorter than the plan.
+ghost use Rattle.std.specs.Prelude.{◌≡◌};
 ghost use Rattle.refusal.specs.Refusal.{told};
 ghost use Rattle.refusal.specs.Check.{answer};
 ghost use Rattle.reduced.specs.Reduced.{room_checks};
@@ -14,11 +14,4 @@ pub fn check_room(steps: usize, room: usize) -> Result<(), Refusal>
         return Err(Refusal::ShortOutput(steps));
     }
     Ok(())
-}
-
-// The shorter of two lengths.
-pub fn shorter(a: usize, b: usize) -> usize
-    ensures { result ≡ min a b }
-{
-    if b < a { b } else { a }
 }

@@ -2,7 +2,7 @@
 ghost use Rattle.std.specs.Prelude.{◌≡◌};
 ghost use Rattle.reduced.specs.Between.Tallied.{tallied};
 
-use access::flag;
+use access::get_or;
 use sheet::layout::cost;
 use tally::Tally;
 
@@ -11,14 +11,11 @@ pub fn tally_of(words: &[u32], plan: &[u32], flags: &[bool]) -> Tally
     ensures { result ≡ tallied words.now plan.now flags.now }
 {
     let mut tally = Tally::new();
-    let mut i = 0;
-    while i < plan.len() {
-        if flag(flags, i) {
-            tally = tally.add(cost(words, plan[i]));
-            i += 1;
-        } else {
-            i += 1;
+    for (i, &a) in plan.iter().enumerate() {
+        if !get_or(flags, i, false) {
+            continue;
         }
+        tally = tally.add(cost(words, a));
     }
     tally
 }

@@ -17,15 +17,12 @@ pub fn mask_through(flags: &[bool], second: Mask) -> Mask
     let n = flags.len();
     let mut both = [false; Plan::STEPS];
     let mut left = 0;
-    let mut i = 0;
-    while i < flags.len() {
-        if flags[i] {
-            both[i] = second.keeps(left);
-            left += 1;
-            i += 1;
-        } else {
-            i += 1;
+    for (i, &kept) in flags.iter().enumerate() {
+        if !kept {
+            continue;
         }
+        both[i] = second.keeps(left);
+        left += 1;
     }
     mask_of(&both[..n])
 }

@@ -38,3 +38,12 @@ Verdict = Result (Unit {0}) Refusal
 abbrev pub told : Verdict → Option Told
 told (Ok u) = none
 told (Err r) = some (told_refusal r)
+
+-- the verdict in an answer, and the number that it tells: 0 in a refusal
+abbrev pub verdict_in : {A : Type 0} → Result A Refusal → Verdict
+verdict_in (Ok a) = Ok tt
+verdict_in (Err r) = Err r
+
+abbrev pub count_in : Result ℕ Refusal → ℕ
+count_in (Ok n) = n
+count_in (Err r) = 0

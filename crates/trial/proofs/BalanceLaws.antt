@@ -18,7 +18,7 @@ use Rattle.plan.specs.Valid.{steps}
 use Rattle.reduction.specs.Reduction.{Reduction, kept}
 use Rattle.reduction.specs.Between.Order.{lower}
 use Rattle.reduced.specs.Between.Held.{mask}
-use Rattle.reduced.specs.Between.Tallied.{is_less}
+use Rattle.std.specs.Ordering.{is_lt}
 use Rattle.reduced.proofs.TalliedLaws.{left_bounded}
 use Rattle.reduced.proofs.LessLaws.{less_lower, kept_mask}
 use Rattle.trial.specs.Between.Walk.{Fits, Balanced}
@@ -85,7 +85,7 @@ same_rest a b x y same = by_case (eqb a b) refl
 
 -- of two trials on one list the one that strikes more leaves the lower list
 pub more_struck : (w l : List ℕ) (m k n : Reduction) (t u : Tally) → Balanced w l m k nothing t → Balanced w l m n nothing u
-    → is_less (comparison u t) ≡ lower (kept k (steps w l)) (kept n (steps w l))
+    → is_lt (comparison u t) ≡ lower (kept k (steps w l)) (kept n (steps w l))
 unfolding lower
 more_struck w l m k n t u to_k to_n =
     let price : u.cost + cost (kept n (steps w l)) ≡ t.cost + cost (kept k (steps w l)) = to_n.by_cost ∙ sym to_k.by_cost in

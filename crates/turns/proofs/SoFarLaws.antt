@@ -30,7 +30,8 @@ use Rattle.sheet.specs.Decode.{action}
 use Rattle.plan.specs.Readable.{Readable}
 use Rattle.plan.specs.Valid.{steps}
 use Rattle.reduced.specs.Reduced.{tally_left}
-use Rattle.reduced.specs.Between.Tallied.{is_less, tallied}
+use Rattle.std.specs.Ordering.{is_lt}
+use Rattle.reduced.specs.Between.Tallied.{tallied}
 use Rattle.reduced.proofs.TalliedLaws.{plainly, left_bounded}
 use Rattle.reduced.proofs.LessLaws.{less_lower}
 use Rattle.packed_state.specs.Between.Chosen.{most_choices, open_before, weight, chosen}
@@ -41,14 +42,14 @@ use Rattle.turns.specs.Between.Unpacked.{choice_bits, bit_of}
 
 -- whether a tally is the lower, by its order
 module _ (t u : Tally) (o : Ordering) (compared : o ≡ comparison t u) where
-  pub less : o ≡ Less → true ≡ is_less (comparison t u)
-  less e = ap is_less (sym e ∙ compared)
+  pub less : o ≡ Less → true ≡ is_lt (comparison t u)
+  less e = ap is_lt (sym e ∙ compared)
 
-  pub equal : o ≡ Equal → false ≡ is_less (comparison t u)
-  equal e = ap is_less (sym e ∙ compared)
+  pub equal : o ≡ Equal → false ≡ is_lt (comparison t u)
+  equal e = ap is_lt (sym e ∙ compared)
 
-  pub greater : o ≡ Greater → false ≡ is_less (comparison t u)
-  greater e = ap is_less (sym e ∙ compared)
+  pub greater : o ≡ Greater → false ≡ is_lt (comparison t u)
+  greater e = ap is_lt (sym e ∙ compared)
 
 -- to keep one step more adds it
 more_cost : (m : Reduction) (p : List Action) (i : ℕ) → length m ≡ length p → i < length p → get_or m i false ≡ false
@@ -152,7 +153,7 @@ chooses_more w l flags m i c so_far after readable few inside down same price ad
 
 -- the lower of two tallies is that of the lower list left
 pub chooses_lower : (w l : List ℕ) (flags m b : Reduction) (k best : Chosen) → Readable w l → Chooses w l flags m k → Chooses w l flags b best
-    → is_less (comparison k.tally best.tally) ≡ lower (kept m (steps w l)) (kept b (steps w l))
+    → is_lt (comparison k.tally best.tally) ≡ lower (kept m (steps w l)) (kept b (steps w l))
 unfolding lower
 chooses_lower w l flags m b k best readable tells told =
     rw (tells.counted, told.counted, less_lower, kept_count w l m readable tells.fits, kept_count w l b readable told.fits)

@@ -34,7 +34,7 @@ use Rattle.sheet.proofs.Accepted.{accepted_well_formed}
 use Rattle.plan.specs.Valid.{steps}
 use Rattle.plan.proofs.PlanLaws.{steps_at, steps_plain}
 use Rattle.fact_bits.proofs.BitTheorem.{wanted_told, useful_told}
-use Rattle.reduced.specs.Between.Tallied.{is_less}
+use Rattle.std.specs.Ordering.{is_lt}
 use Rattle.packed_state.specs.Between.Chosen.{most_choices, open_before}
 use Rattle.packed_state.specs.Between.Packed.{has_all, written_over, TellsState}
 use Rattle.choice_rows.specs.Between.Rows.{strike_row, keep_row, use_row, struck_row, kept_row, costs_before}
@@ -231,7 +231,7 @@ module _ (costs needs : List ℕ) (d : ℕ) (state : List ℕ) (k best : Chosen)
               rw (at_end w l flags costs needs rows v d at course state seen over, keep_end (tests (goal w) (steps w l) flags) (steps w l) v) told;
         }
 
-    module _ (low : Bool) (compared : low ≡ is_less (comparison k.tally best.tally)) where
+    module _ (low : Bool) (compared : low ≡ is_lt (comparison k.tally best.tally)) where
       pub not_lower_at_end : low ≡ false → TurnTold costs needs strike d state k best best
       not_lower_at_end e =
           record {
@@ -302,7 +302,7 @@ module _ (costs needs : List ℕ) (d : ℕ) (state : List ℕ) (k best : Chosen)
 
     -- a keeping turn, with the step kept too
     module _ (with : Chosen) (low : Bool) (adds : with.tally ≡ one_more k.tally (get_or costs d 0)) (raises : with.bits ≡ bit_or k.bits (bit_of d))
-        (compared : low ≡ is_less (comparison with.tally best.tally)) where
+        (compared : low ≡ is_lt (comparison with.tally best.tally)) where
       module _ (w l : List ℕ) (flags : Reduction) (rows : LentRows w l flags costs needs) (v : Visit) (at : AtChoice l flags v d)
           (course : OnCourse (goal w) (initial w) (steps w l) flags v) (seen : TellsState w l v.so_far v.index state)
           (tells : Chooses w l flags v.so_far k) (told : Chooses w l flags v.best best) where

@@ -2,7 +2,7 @@
 ghost use Rattle.std.specs.Prelude.{◌≡◌, get_or};
 ghost use Rattle.std.specs.Int.Bits.{bit_or};
 ghost use Rattle.tally.specs.Tally.{one_more, comparison};
-ghost use Rattle.reduced.specs.Between.Tallied.{is_less};
+ghost use Rattle.std.specs.Ordering.{is_lt};
 ghost use Rattle.turns.specs.Between.Unpacked.{bit_of};
 
 use access::word;
@@ -19,7 +19,7 @@ pub struct Chosen {
 
 // Whether the first of two tallies is the lower.
 pub fn is_lower(tally: Tally, other: Tally) -> bool
-    ensures { result ≡ is_less (comparison tally other) }
+    ensures { result ≡ is_lt (comparison tally other) }
 {
     let order = tally.compare(other);
     match order {

@@ -6,6 +6,3 @@ use Rattle.course.proofs.follow.Given as goal
 
 abbrev pub invariant-loop-i : goal.invariant-loop-i
 invariant-loop-i l = Going l.words l.plan l.initial.state l.initial.states l.state l.states l.at l.i
-
-abbrev pub decreases-loop-i : goal.decreases-loop-i
-decreases-loop-i l = length l.plan - l.i

@@ -24,7 +24,7 @@ pub loop-i-preserved : goal.loop-i-preserved
 loop-i-preserved c =
     let args = c.args in
     let here = c.loop-i in (
-      cc (laid_next here.states args.at args.state.now here.i c.loop-i-test.true, c.put.ensures, c.word.ensures.0, here.invariant.0),
+      cc (laid_next here.states args.at args.state.now here.i c.loop-i-test.true, c.put.ensures, here.invariant.0),
       c.put.auto.elements ∙ here.invariant.1,
     )
 

@@ -7,6 +7,3 @@ use Rattle.course.proofs.put_state.Given as goal
 
 abbrev pub invariant-loop-i : goal.invariant-loop-i
 invariant-loop-i l = (sets l.states (l.at + l.i) (drop l.i l.state) ≡ sets l.initial.states l.at l.state) × (length l.states ≡ length l.initial.states)
-
-abbrev pub decreases-loop-i : goal.decreases-loop-i
-decreases-loop-i l = length l.state - l.i

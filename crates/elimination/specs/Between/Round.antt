@@ -7,7 +7,7 @@ use Rattle.plan.specs.Valid.{steps}
 use Rattle.reduction.specs.Reduction.{Reduction, Before}
 use Rattle.reduction.specs.Between.Elimination.{best}
 use Rattle.reduced.specs.Between.Held.{mask}
-use Rattle.reduced.specs.Between.Tallied.{is_less}
+use Rattle.std.specs.Ordering.{is_lt}
 use Rattle.elimination.specs.declared.greedy.Best.{Best}
 use Rattle.trial.specs.declared.Tried.{Tried}
 use Rattle.trial.specs.Between.Walk.{Balanced}
@@ -16,7 +16,7 @@ use Rattle.trial.specs.Between.Current.{Current}
 -- a success that strikes more, or the first, takes the place of the best so far
 unfoldable pub replaces : Best → Tried → Bool
 replaces so_far tried =
-    tried.succeeds && cond so_far.found (is_less (comparison so_far.struck tried.struck)) true
+    tried.succeeds && cond so_far.found (is_lt (comparison so_far.struck tried.struck)) true
 
 unfoldable pub better_of : Best → Tried → Best
 better_of so_far tried =

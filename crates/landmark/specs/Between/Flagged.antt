@@ -1,5 +1,6 @@
 -- The marks of a list as flags, within a service that asks something besides. Assumes nothing.
-use Rattle.std.specs.Prelude.{ℕ, ◌≡◌, false, List, replicate}
+use Rattle.std.specs.Prelude.{ℕ, ◌≡◌, false, List, replicate, Result, Ok, Err}
+use Rattle.refusal.specs.declared.Refusal.{Refusal}
 use Rattle.refusal.specs.Refusal.{Verdict}
 use Rattle.refusal.specs.Refusal.{told}
 use Rattle.refusal.specs.Check.{Check, answer, unless_refused}
@@ -9,7 +10,17 @@ use Rattle.plan.specs.Checked.{Answer}
 use Rattle.plan.specs.Limits.{most_steps}
 use Rattle.plan.specs.Checked.{lodged_checks, told_answer, told_tally, lodged_tally}
 use Rattle.reduced.specs.Between.Held.{flags_of}
+use Rattle.landmark.specs.declared.marks.Marked.{Marked}
 use Rattle.landmark.specs.Marks.{marks}
+
+-- the answer of a check with marks, and its flags: none up in a refusal
+abbrev pub answer_marked : Result Marked Refusal → Answer
+answer_marked (Ok m) = Ok m.tally
+answer_marked (Err r) = Err r
+
+abbrev pub flags_marked : Result Marked Refusal → Reduction
+flags_marked (Ok m) = m.flags
+flags_marked (Err r) = replicate most_steps false
 
 -- the check of the list l of the sheet w by these checks, with its marks in a flag for each step that a list may have:
 -- none on a refusal

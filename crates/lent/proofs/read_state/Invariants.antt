@@ -11,6 +11,3 @@ use Rattle.lent.proofs.read_state.Given as goal
 
 abbrev pub invariant-loop-v : goal.invariant-loop-v
 invariant-loop-v l = sets l.values l.v (table (word l.words) l.v (limits.variables - l.v)) ≡ lent_state l.words
-
-abbrev pub decreases-loop-v : goal.decreases-loop-v
-decreases-loop-v l = limits.variables - l.v

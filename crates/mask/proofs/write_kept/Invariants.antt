@@ -11,12 +11,9 @@ use Rattle.mask.proofs.write_kept.Given as goal
 
 abbrev pub invariant-loop-k : goal.invariant-loop-k
 invariant-loop-k l =
-    (sets l.out l.to (at_places l.plan (places_left l.words l.k)) ≡ sets l.initial.out 0 (kept_by_words l.words l.plan))
-    × (l.to + length (places_left l.words l.k) ≡ length (kept_by_words l.words l.plan))
+    (sets l.out l.to (at_places l.plan (places_left l.word-items l.k)) ≡ sets l.initial.out 0 (kept_by_words l.word-items l.plan))
+    × (l.to + length (places_left l.word-items l.k) ≡ length (kept_by_words l.word-items l.plan))
     × (l.to ≤ l.k * word_bits)
     × (l.k ≤ mask_length)
-    × (length l.words ≡ mask_length)
+    × (length l.word-items ≡ mask_length)
     × (length l.out ≡ length l.initial.out)
-
-abbrev pub decreases-loop-k : goal.decreases-loop-k
-decreases-loop-k l = mask_length - l.k

@@ -12,26 +12,8 @@ slice_bounds-tally_of-end c = sym (left_leaves _ _ c.requires.readable c.require
 pub slice_bounds-tally_of-end-2 : goal.slice_bounds-tally_of-end-2
 slice_bounds-tally_of-end-2 c = sym (left_leaves _ _ c.requires.readable c.requires.plan_value Greedy _ c.flags_left-greedily.ensures).fits
 
-pub returns-in-Less : goal.returns-in-Less
-returns-in-Less c =
-    let record { readable = readable; plan_value = valid_list } = c.requires in
-    let eliminated = c.flags_left-eliminated.ensures in
-    let greedily = c.flags_left-greedily.ensures in
-    cheaper_flags _ _ readable valid_list _ _ _ _ Less _ _ eliminated greedily c.tally_of-tally.ensures c.tally_of-other.ensures
-    c.compare-order.ensures c.in-Less.is greedily
+pub returns-then-of_second : goal.returns-then-of_second
+returns-then-of_second c = ?
 
-pub returns-in-Equal : goal.returns-in-Equal
-returns-in-Equal c =
-    let record { readable = readable; plan_value = valid_list } = c.requires in
-    let eliminated = c.flags_left-eliminated.ensures in
-    let greedily = c.flags_left-greedily.ensures in
-    cheaper_flags _ _ readable valid_list _ _ _ _ Equal _ _ eliminated greedily c.tally_of-tally.ensures c.tally_of-other.ensures
-    c.compare-order.ensures c.in-Equal.is eliminated
-
-pub returns-in-Greater : goal.returns-in-Greater
-returns-in-Greater c =
-    let record { readable = readable; plan_value = valid_list } = c.requires in
-    let eliminated = c.flags_left-eliminated.ensures in
-    let greedily = c.flags_left-greedily.ensures in
-    cheaper_flags _ _ readable valid_list _ _ _ _ Greater _ _ eliminated greedily c.tally_of-tally.ensures c.tally_of-other.ensures
-    c.compare-order.ensures c.in-Greater.is eliminated
+pub returns : goal.returns
+returns c = ?

@@ -10,8 +10,8 @@ loop-i-init c = walking_start _ _ _ _ _ _ c.new-so_far.ensures
 pub put_row-requires : goal.put_row-requires
 put_row-requires c = omega (arith, walking_low _ _ _ _ _ c.requires _ _ _ c.loop-i.invariant)
 
-pub overflow_add-i : goal.overflow_add-i
-overflow_add-i c = omega (arith, walking_low _ _ _ _ _ c.requires _ _ _ c.loop-i.invariant)
+pub overflow_mul-i : goal.overflow_mul-i
+overflow_mul-i c = omega (arith, walking_low _ _ _ _ _ c.requires _ _ _ c.loop-i.invariant)
 
 pub loop-i-preserved : goal.loop-i-preserved
 loop-i-preserved c =

@@ -6,6 +6,3 @@ use Rattle.moves.proofs.rows.write_rows.Given as goal
 
 abbrev pub invariant-loop-i : goal.invariant-loop-i
 invariant-loop-i l = Walking l.words l.plan l.kept l.marked l.initial.rows l.rows l.so_far l.i
-
-abbrev pub decreases-loop-i : goal.decreases-loop-i
-decreases-loop-i l = length l.plan - l.i

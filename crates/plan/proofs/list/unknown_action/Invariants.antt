@@ -10,4 +10,3 @@ use Rattle.plan.proofs.list.unknown_action.Given as goal
 
 abbrev pub invariant-loop-i : goal.invariant-loop-i
 invariant-loop-i l = first_of (λ k. when (leb (actions l.words) (get_or l.plan k 0)) (k + 1)) l.i (length l.plan) ≡ unknown_place l.words l.plan
-

@@ -7,4 +7,3 @@ use Rattle.plan.proofs.walk.walk.Given as goal
 
 abbrev pub invariant-loop-i : goal.invariant-loop-i
 invariant-loop-i l = (length l.state ≡ length l.initial.state) × Along l.words l.plan l.initial.state l.i l.state l.tally
-

@@ -6,11 +6,11 @@ use Rattle.reduced.proofs.tallied.tally_of.Goals as goal
 pub loop-i-init : goal.loop-i-init
 loop-i-init c = tallied_start _ _ _ _ c.new-tally.ensures
 
-pub loop-i-preserved-then-flag : goal.loop-i-preserved-then-flag
-loop-i-preserved-then-flag c = rw c.add-tally.ensures (tallied_kept _ _ _ _ _ _ _ c.loop-i-test.true c.flag.ensures c.if-flag.true c.cost.ensures.0 ∙ c.loop-i.invariant)
-
 pub loop-i-preserved : goal.loop-i-preserved
-loop-i-preserved c = tallied_skip _ _ _ _ _ _ c.loop-i-test.true c.flag.ensures c.if-flag.false ∙ c.loop-i.invariant
+loop-i-preserved c = rw c.add-tally.ensures (tallied_kept _ _ _ _ _ _ _ c.loop-i-test.true c.get_or.ensures c.if-not-get_or.false c.cost.ensures.0 ∙ c.loop-i.invariant)
+
+pub loop-i-preserved-then-not-get_or : goal.loop-i-preserved-then-not-get_or
+loop-i-preserved-then-not-get_or c = tallied_skip _ _ _ _ _ _ c.loop-i-test.true c.get_or.ensures c.if-not-get_or.true ∙ c.loop-i.invariant
 
 pub returns : goal.returns
 returns c = sym (tallied_over _ _ _ _ _ c.loop-i-test.false) ∙ c.loop-i.invariant

@@ -15,11 +15,11 @@ bounds-both-i c = omega (arith, c.loop-i-test.true, c.requires)
 pub overflow_add-left : goal.overflow_add-left
 overflow_add-left c = omega (arith, c.loop-i.invariant.few, c.loop-i-test.true, c.requires)
 
-pub loop-i-preserved-then-flags-i : goal.loop-i-preserved-then-flags-i
-loop-i-preserved-then-flags-i c = through_more _ _ _ _ _ c.loop-i.invariant c.loop-i-test.true c.requires _ c.if-flags-i.true c.keeps.ensures
-
 pub loop-i-preserved : goal.loop-i-preserved
-loop-i-preserved c = through_next _ _ _ _ _ c.loop-i.invariant c.loop-i-test.true c.requires c.if-flags-i.false
+loop-i-preserved c = through_more _ _ _ _ _ c.loop-i.invariant c.loop-i-test.true c.requires _ c.if-not-kept.false c.keeps.ensures
+
+pub loop-i-preserved-then-not-kept : goal.loop-i-preserved-then-not-kept
+loop-i-preserved-then-not-kept c = through_next _ _ _ _ _ c.loop-i.invariant c.loop-i-test.true c.requires c.if-not-kept.true
 
 pub slice_bounds-mask_of-end : goal.slice_bounds-mask_of-end
 slice_bounds-mask_of-end c = sym (length-take-le _ _ (omega (arith, c.loop-i.invariant.sized, c.requires)))

@@ -1,9 +1,0 @@
--- `shorter` meets its contract, by its test. Assumes nothing.
-use native.Mathlib.Omega.{arith}
-use Rattle.reduced.proofs.room.shorter.Goals as goal
-
-pub returns-then-b-a : goal.returns-then-b-a
-returns-then-b-a c = omega (arith, c.if-b-a.true)
-
-pub returns-else-b-a : goal.returns-else-b-a
-returns-else-b-a c = omega (arith, c.if-b-a.false)
