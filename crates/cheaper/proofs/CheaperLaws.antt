@@ -1,4 +1,6 @@
 -- Which of the two eliminations is the cheaper: what it leaves of a valid list that can be read is what one of them leaves, as flags too. Assumes nothing.
+use Rattle.std.proofs.Common.{Bool, true, false, cond}
+use Rattle.std.specs.Ordering.{is_lt}
 use Prim.Native.Nat.{ℕ}
 use mathlib.Core.Path.{◌≡◌, refl, sym, ◌∙◌, ap, subst}
 use mathlib.Core.Bool.{true}
@@ -36,13 +38,22 @@ module _ (w l : List ℕ) (readable : Readable w l) (valid_list : valid (initial
   cheaper_taken Equal is = rw (cheaper_of, is)
   cheaper_taken Greater is = rw (cheaper_of, is)
 
-  pub cheaper_flags : (first second : Reduction) (t u : Tally) (o order : Ordering) (flags : Reduction)
+  -- by whether greedy elimination's list is the lower
+  taken_by : (b : Bool) → is_lt (comparison (tally_left w l (left_by Greedy w l)) (tally_left w l (left_by Plain w l))) ≡ b → cheaper_of w l ≡ left_by (cond b Greedy Plain) w l
+  taken_by b is = by_order (comparison (tally_left w l (left_by Greedy w l)) (tally_left w l (left_by Plain w l))) refl
+    where
+      by_order : (o : Ordering) → comparison (tally_left w l (left_by Greedy w l)) (tally_left w l (left_by Plain w l)) ≡ o → cheaper_of w l ≡ left_by (cond b Greedy Plain) w l
+      by_order Less e = let so : b ≡ true = sym is ∙ ap is_lt e in rw so (cheaper_taken Less e)
+      by_order Equal e = let so : b ≡ false = sym is ∙ ap is_lt e in rw so (cheaper_taken Equal e)
+      by_order Greater e = let so : b ≡ false = sym is ∙ ap is_lt e in rw so (cheaper_taken Greater e)
+
+  pub cheaper_flags : (first second : Reduction) (t u : Tally) (b : Bool) (flags : Reduction)
       → first ≡ flags_of l (left_by Plain w l) → second ≡ flags_of l (left_by Greedy w l) → t ≡ tallied w l (mask l first) → u ≡ tallied w l (mask l second)
-      → order ≡ comparison u t → order ≡ o → flags ≡ flags_of l (left_by (cheaper_by o) w l) → flags ≡ flags_of l (cheaper_of w l)
-  cheaper_flags first second t u o order flags is_first is_second counted counted' compared is flagged =
+      → is_lt (comparison u t) ≡ b → flags ≡ flags_of l (left_by (cond b Greedy Plain) w l) → flags ≡ flags_of l (cheaper_of w l)
+  cheaper_flags first second t u b flags is_first is_second counted counted' is flagged =
       let of_first = counted_left w l readable valid_list Plain first t is_first counted in
       let of_second = counted_left w l readable valid_list Greedy second u is_second counted' in
-      flagged ∙ ap (flags_of l) (sym (cheaper_taken o (rw (← of_first, ← of_second) (sym compared ∙ is))))
+      flagged ∙ ap (flags_of l) (sym (taken_by b (rw (← of_first, ← of_second) is)))
 
   -- so it leaves what one of the two does
   pub cheaper_is : (by : Elimination) × (cheaper_of w l ≡ left_by by w l)

@@ -85,7 +85,7 @@ module _ (w l : List ℕ) (readable : Readable w l) (valid_list : valid (initial
       by_order Greater e by = rw (cheaper_taken w l readable valid_list Greater e) (not_less (sym both_less ∙ ap is_lt e) by)
 
 -- which part is shown, by whether the second tally is the lower
-shown_second : (first second : List ℕ) (t u : Tally) → is_lt (comparison u t) ≡ true → cheaper_part first second t u ≡ take u.steps second
+pub shown_second : (first second : List ℕ) (t u : Tally) → is_lt (comparison u t) ≡ true → cheaper_part first second t u ≡ take u.steps second
 unfolding cheaper_part
 shown_second first second t u less = by_case (comparison u t) refl
   where
@@ -94,7 +94,7 @@ shown_second first second t u less = by_case (comparison u t) refl
     by_case Equal e = absurd (false≢true (rw e at less))
     by_case Greater e = absurd (false≢true (rw e at less))
 
-shown_first : (first second : List ℕ) (t u : Tally) → is_lt (comparison u t) ≡ false → cheaper_part first second t u ≡ take t.steps first
+pub shown_first : (first second : List ℕ) (t u : Tally) → is_lt (comparison u t) ≡ false → cheaper_part first second t u ≡ take t.steps first
 unfolding cheaper_part
 shown_first first second t u not_less = by_case (comparison u t) refl
   where

@@ -38,17 +38,3 @@ module _ (w l before before' : List ℕ) (room : ℕ) (given : Answer) (shorter 
         first_output = rw (← same) keeps.written;
         second_output = rw (← same') keeps'.written;
       })
-
--- the part shown, by the order of the tallies
-module _ (first second : List ℕ) (t u : Tally) (order : Ordering) (part : List ℕ) (compared : order ≡ comparison u t) where
-  pub second_shown : order ≡ Less → part ≡ take u.steps second → part ≡ cheaper_part first second t u
-  unfolding cheaper_part
-  second_shown is shown = shown ∙ rw (sym compared ∙ is, cheaper_part)
-
-  pub first_shown_equal : order ≡ Equal → part ≡ take t.steps first → part ≡ cheaper_part first second t u
-  unfolding cheaper_part
-  first_shown_equal is shown = shown ∙ rw (sym compared ∙ is, cheaper_part)
-
-  pub first_shown : order ≡ Greater → part ≡ take t.steps first → part ≡ cheaper_part first second t u
-  unfolding cheaper_part
-  first_shown is shown = shown ∙ rw (sym compared ∙ is, cheaper_part)

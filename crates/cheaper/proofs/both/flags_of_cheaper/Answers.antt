@@ -2,8 +2,8 @@
 use Rattle.elimination.proofs.LeavesLaws.{left_leaves}
 use Rattle.cheaper.proofs.CheaperLaws.{cheaper_flags}
 use Rattle.elimination.specs.declared.single.Elimination.TheVariants.{Plain, Greedy}
-use Rattle.std.specs.declared.cmp.Ordering.TheVariants.{Less, Equal, Greater}
-use mathlib.Core.Path.{sym}
+use mathlib.Core.Path.{sym, ◌∙◌}
+use mathlib.Core.Bool.{true, false}
 use Rattle.cheaper.proofs.both.flags_of_cheaper.Goals as goal
 
 pub slice_bounds-tally_of-end : goal.slice_bounds-tally_of-end
@@ -12,8 +12,14 @@ slice_bounds-tally_of-end c = sym (left_leaves _ _ c.requires.readable c.require
 pub slice_bounds-tally_of-end-2 : goal.slice_bounds-tally_of-end-2
 slice_bounds-tally_of-end-2 c = sym (left_leaves _ _ c.requires.readable c.requires.plan_value Greedy _ c.flags_left-greedily.ensures).fits
 
-pub returns-then-of_second : goal.returns-then-of_second
-returns-then-of_second c = ?
+pub returns-then-is_lower : goal.returns-then-is_lower
+returns-then-is_lower c =
+    let greedily = c.flags_left-greedily.ensures in
+    cheaper_flags _ _ c.requires.readable c.requires.plan_value _ _ _ _ true _ c.flags_left-eliminated.ensures greedily
+    c.tally_of-of_first.ensures c.tally_of-of_second.ensures (sym c.is_lower.ensures ∙ c.if-is_lower.true) greedily
 
 pub returns : goal.returns
-returns c = ?
+returns c =
+    let eliminated = c.flags_left-eliminated.ensures in
+    cheaper_flags _ _ c.requires.readable c.requires.plan_value _ _ _ _ false _ eliminated c.flags_left-greedily.ensures
+    c.tally_of-of_first.ensures c.tally_of-of_second.ensures (sym c.is_lower.ensures ∙ c.if-is_lower.false) eliminated
