@@ -9,13 +9,13 @@ use Rattle.plan.proofs.PlanLaws.{passed_readable}
 use Rattle.reduced.proofs.AnswerLaws.{answers_same}
 use Rattle.reduced.proofs.LodgedLaws.{lodged_plan}
 use Rattle.claim.specs.declared.answer.Claim.TheVariants.{Open}
-use Rattle.claim.specs.declared.answer.Licensed.{Licensed}
+use Rattle.claim.specs.Licensed.{Licensing}
 use Rattle.claim.specs.Statement.{Licence}
 use Rattle.claim.specs.Licensed.{licence_refusal, Licenses}
 use Rattle.claim.specs.Between.Computed.{claim_of, licensed_of, LicensesOf}
 use Rattle.claim.proofs.LicenceTheorem.{licence_of, licence_once}
 
-module _ (w l before : List ℕ) (r : Licensed) (after : List ℕ) where
+module _ (w l before : List ℕ) (r : Licensing) (after : List ℕ) where
   pub licenses_so : LicensesOf w l before r after → Licenses w l before r after
   licenses_so computed =
       record {

@@ -38,14 +38,14 @@ use Rattle.landmark.specs.Marks.{marks, marked, unmarked}
 use Rattle.landmark.proofs.MarkTheorem.{marks_length}
 use Rattle.cheaper.specs.Between.Computed.{cheaper_of}
 use Rattle.cheaper.proofs.CheaperLaws.{cheaper_valid, cheaper_leaves}
-use Rattle.minimal.specs.declared.within.Shortened.{Shortened}
+use Rattle.minimal.specs.Minimised.{Shortening}
 use Rattle.minimal.specs.Minimised.{most_unmarked, minimal_checks, Minimises}
 use Rattle.minimal.specs.Between.Computed.{MinimisesOf, minimal_of}
 use Rattle.minimal.proofs.ComputedTheorem.{minimises_of}
 use Rattle.minimal.proofs.DemandThree.{is_minimal, many_refused, refused_many, passed_few}
 use Rattle.claim.specs.declared.answer.Claim.{Claim}
 use Rattle.claim.specs.declared.answer.Claim.TheVariants.{Irreducible, Open}
-use Rattle.claim.specs.declared.answer.Licensed.{Licensed}
+use Rattle.claim.specs.Licensed.{Licensing}
 use Rattle.claim.specs.Between.Computed.{LicensesOf, claim_of, claimed_by, cheaper_list}
 use Rattle.claim.specs.Between.Further.{GoesFurther}
 use Rattle.claim.proofs.LicenceTheorem.{cheaper_readable, cheaper_plan, claims_irreducible, claims_open}
@@ -144,14 +144,14 @@ module _ (w l before : List ℕ) (lodged : Tally) (others : ℕ) (further : Goes
       pub front_long : length (take tally.steps list) ≡ tally.steps
       front_long = rw front_is (sym steps_left)
 
-      module _ (r : Shortened) (after : List ℕ) (minimises : Minimises most_unmarked w (take tally.steps list) before r after) where
+      module _ (r : Shortening) (after : List ℕ) (minimises : Minimises most_unmarked w (take tally.steps list) before r after) where
         there : MinimisesOf most_unmarked w (cheaper_list w l) before r after
         there = subst (λ k. MinimisesOf most_unmarked w k before r after) front_is (minimises_of most_unmarked w (take tally.steps list) before r after minimises)
 
         -- the minimal reduction answers
         pub licenses_irreducible : (least : Tally) (m : Mask) → r.answer ≡ Ok least
             → ((n : Reduction) → r.mask.words ≡ mask_words n → length n ≤ mask_bits → m.words ≡ mask_words (compose (mask l flags) n))
-            → (given : Licensed) → given ≡ record { claim = Irreducible; told = record { answer = Ok least; mask = m; lodged = lodged; marked = length l - others } }
+            → (given : Licensing) → given ≡ record { claim = Irreducible; told = record { answer = Ok least; mask = m; lodged = lodged; marked = length l - others } }
             → LicensesOf w l before given after
         licenses_irreducible least m is through given granted =
             let passes : answer (minimal_checks most_unmarked w (cheaper_list w l) (length before)) ≡ none = sym there.answers.refusal ∙ ap told_answer is in
@@ -169,7 +169,7 @@ module _ (w l before : List ℕ) (lodged : Tally) (others : ℕ) (further : Goes
         -- or too many steps are unmarked there too
         pub licenses_open : (refusal : Refusal) (n : ℕ) (m : Mask) (after' : List ℕ) → r.answer ≡ Err refusal → n ≡ (told_refusal refusal).place → m.words ≡ words
             → after' ≡ sets after 0 (take tally.steps list)
-            → (given : Licensed) → given ≡ record { claim = Open n; told = record { answer = Ok tally; mask = m; lodged = lodged; marked = length l - others } }
+            → (given : Licensing) → given ≡ record { claim = Open n; told = record { answer = Ok tally; mask = m; lodged = lodged; marked = length l - others } }
             → LicensesOf w l before given after'
         licenses_open refusal n m after' is counted told_by written given granted =
             let refuses : answer (minimal_checks most_unmarked w (cheaper_list w l) (length before)) ≡ some (told_refusal refusal) =

@@ -25,13 +25,13 @@ use Rattle.reduced.specs.Reduced.{room_checks, reduction_checks, Answers}
 use Rattle.reduced.proofs.LodgedLaws.{lodged_plan, room_checked, nothing_refused, roomy}
 use Rattle.reduced.proofs.AnswerLaws.{answers_refused}
 use Rattle.landmark.specs.Marks.{unmarked}
-use Rattle.minimal.specs.declared.within.Shortened.{Shortened}
+use Rattle.minimal.specs.Minimised.{Shortening}
 use Rattle.minimal.specs.Minimised.{most_unmarked, unmarked_checks, minimal_checks, minimal_refusal, Minimises}
 use Rattle.minimal.specs.Between.Computed.{MinimisesOf}
 use Rattle.minimal.proofs.ComputedTheorem.{minimises_of}
 use Rattle.minimal.proofs.DemandThree.{checks_pass, many_refused, refused_many, passed_few}
 use Rattle.claim.specs.declared.answer.Claim.TheVariants.{Least}
-use Rattle.claim.specs.declared.answer.Licensed.{Licensed}
+use Rattle.claim.specs.Licensed.{Licensing}
 use Rattle.claim.specs.Licensed.{licence_refusal}
 use Rattle.claim.specs.Between.Computed.{LicensesOf, claim_of, licensed_of}
 use Rattle.claim.specs.Statement.{MayBeLodged}
@@ -40,7 +40,7 @@ use Rattle.claim.specs.Between.Further.{GoesFurther}
 use Rattle.claim.proofs.LicenceTheorem.{licence_of, claims_least}
 
 -- one of the checks 1 to 11 refuses
-pub refuses_all : (w l before : List ℕ) (refusal : Refusal) (r : Licensed) → licence_refusal w l before ≡ some (told_refusal refusal) → RefusesLicence refusal r
+pub refuses_all : (w l before : List ℕ) (refusal : Refusal) (r : Licensing) → licence_refusal w l before ≡ some (told_refusal refusal) → RefusesLicence refusal r
     → LicensesOf w l before r before
 refuses_all w l before refusal r fires refuses =
     record {
@@ -62,7 +62,7 @@ module _ (w l before : List ℕ) (passed : licence_refusal w l before ≡ none) 
   room = roomy w l (length before) passed
 
   -- the minimal reduction answers
-  pub licenses_least : (r : Shortened) (tally : Tally) (after : List ℕ) → MinimisesOf most_unmarked w l before r after → r.answer ≡ Ok tally
+  pub licenses_least : (r : Shortening) (tally : Tally) (after : List ℕ) → MinimisesOf most_unmarked w l before r after → r.answer ≡ Ok tally
       → LicensesOf w l before (record { claim = Least; told = r }) after
   licenses_least r tally after minimises valid =
       let passes : answer (minimal_checks most_unmarked w l (length before)) ≡ none = sym minimises.answers.refusal ∙ ap told_answer valid in
@@ -91,7 +91,7 @@ module _ (w l before : List ℕ) (passed : licence_refusal w l before ≡ none) 
       record { passes = passed; tally = is; counted = counted ∙ ap (λ t. t.place) told; many = many }
 
 -- what is answered meets the one statement
-pub may_be_lodged : (w l before : List ℕ) (r : Licensed) (after : List ℕ) → LicensesOf w l before r after → MayBeLodged w l before r after
+pub may_be_lodged : (w l before : List ℕ) (r : Licensing) (after : List ℕ) → LicensesOf w l before r after → MayBeLodged w l before r after
 may_be_lodged w l before r after licenses readable plan roomy =
     let passed : licence_refusal w l before ≡ none = checks_pass w l readable plan (length before) roomy in
     record {
@@ -104,7 +104,7 @@ may_be_lodged w l before r after licenses readable plan roomy =
 -- what the check of a list answers where its room is asked besides
 module _ (w l before : List ℕ) (v : Verdict) (given : Answer) (state : List ℕ) (asked : told v ≡ answer (room_checks (length l) (length before)))
     (checks : ChecksLodged most_steps w l v given state) where
-  pub lodged_refuses : (refusal : Refusal) (r : Licensed) → given ≡ Err refusal → RefusesLicence refusal r → LicensesOf w l before r before
+  pub lodged_refuses : (refusal : Refusal) (r : Licensing) → given ≡ Err refusal → RefusesLicence refusal r → LicensesOf w l before r before
   lodged_refuses refusal r is = refuses_all w l before refusal r (sym (room_checked w l (length before) v given state asked checks) ∙ ap told_answer is)
 
   pub lodged_further : (lodged : Tally) (refusal : Refusal) (others : ℕ) → given ≡ Ok lodged → minimal_refusal most_unmarked w l before ≡ some (told_refusal refusal)
@@ -114,7 +114,7 @@ module _ (w l before : List ℕ) (v : Verdict) (given : Answer) (state : List �
       goes_further w l before passed refusal lodged others refuses (rw (passed, is) at (checks.checked (room_checks (length l) (length before)) asked).tally) counted
 
 -- what the service answers, by what the minimal reduction does
-module _ (w l before : List ℕ) (r : Shortened) (after : List ℕ) (answered : Minimises most_unmarked w l before r after) where
+module _ (w l before : List ℕ) (r : Shortening) (after : List ℕ) (answered : Minimises most_unmarked w l before r after) where
   minimises : MinimisesOf most_unmarked w l before r after
   minimises = minimises_of most_unmarked w l before r after answered
 
@@ -136,5 +136,5 @@ module _ (w l before : List ℕ) (r : Shortened) (after : List ℕ) (answered : 
     pub refuses_there : minimal_refusal most_unmarked w l after ≡ some (told_refusal refusal)
     refuses_there = rw stays refuses
 
-    pub answers_there : (given : Licensed) (last : List ℕ) → LicensesOf w l after given last → LicensesOf w l before given last
+    pub answers_there : (given : Licensing) (last : List ℕ) → LicensesOf w l after given last → LicensesOf w l before given last
     answers_there given last licenses = subst (λ b. LicensesOf w l b given last) stays licenses

@@ -16,7 +16,7 @@ use Rattle.minimal.specs.Minimised.{most_unmarked}
 use Rattle.minimal.specs.Statement.{IsMarked, AreMarks, ValidStriking}
 use Rattle.claim.specs.declared.answer.Claim.{Claim}
 use Rattle.claim.specs.declared.answer.Claim.TheVariants.{Least, Irreducible, Open}
-use Rattle.claim.specs.declared.answer.Licensed.{Licensed}
+use Rattle.claim.specs.Licensed.{Licensing}
 
 module _ (w l : List ℕ) where
   -- what the licence asks of the list l of the sheet w: every valid striking of it strikes nothing
@@ -70,7 +70,7 @@ module _ (w l : List ℕ) where
 
 -- by the service: for every accepted sheet, every valid list of no more steps than a list may have, and every output
 -- that has as many words as the list has steps
-abbrev pub MayBeLodged : List ℕ → List ℕ → List ℕ → Licensed → List ℕ → Type 0
+abbrev pub MayBeLodged : List ℕ → List ℕ → List ℕ → Licensing → List ℕ → Type 0
 MayBeLodged w l before r after =
     Readable w l → Plan (task w) (steps w l) → length l ≤ length before → LicensedWith w l
     (λ c m. (r.claim ≡ c) × Answers none w l m before r.told.answer r.told.mask.words after)

@@ -1,16 +1,36 @@
 // Plans with too many unmarked steps for the minimal reduction: what the cheaper elimination leaves of them, and of
 // that the minimal reduction where few enough steps are unmarked there.
+ghost use Rattle.std.specs.Prelude.{◌≡◌};
+ghost use Rattle.claim.specs.Licensed.{licensing};
 ghost use Rattle.claim.specs.Between.Computed.{LicensesOf};
 ghost use Rattle.claim.specs.Between.Further.{GoesFurther};
 
-use crate::answer::{Claim, Licensed, grant};
+use crate::answer::{Claim, Licensed};
 use access::put_all;
 use cheaper::both::flags_of_cheaper;
 use minimal::reduce::minimal_reduction;
+use minimal::within::Shortened;
 use plan::limits::Plan;
-use reduced::finish::finish;
+use reduced::finish::{Kept, finish};
 use reduced::through::mask_through;
 use tally::Tally;
+
+// A claim of what is left, with the lodged plan's tally and its number of marked steps.
+fn grant(claim: Claim, left: Kept, lodged: Tally, marked: u32) -> Licensed
+    ensures { result ≡ record {
+      claim = claim;
+      told = record { left = left; lodged = lodged; marked = marked };
+    } }
+{
+    Licensed {
+        claim,
+        told: Shortened {
+            left,
+            lodged,
+            marked,
+        },
+    }
+}
 
 // Licenses a plan of this tally, of which so many steps are unmarked.
 pub(crate) fn license_further(
@@ -21,28 +41,23 @@ pub(crate) fn license_further(
     unmarked: usize,
 ) -> Licensed
     requires { GoesFurther words.now plan.now out.old lodged unmarked }
-    ensures { LicensesOf words.now plan.now out.old result out.new }
+    ensures { LicensesOf words.now plan.now out.old (licensing (Ok result)) out.new }
 {
     let n = plan.len();
     let marked = (n - unmarked) as u32;
     let flags = flags_of_cheaper(words, plan);
     let mut list = [0u32; Plan::STEPS];
     let kept = finish(words, plan, &flags[..n], &mut list);
-    let tally = kept.tally;
-    let mask = kept.mask;
-    let left = tally.steps as usize;
-    let exact = minimal_reduction(words, &list[..left], out);
-    let answer = exact.answer;
-    let second = exact.mask;
-    match answer {
-        Ok(least) => {
-            let through = mask_through(&flags[..n], second);
-            grant(Claim::Irreducible, least, through, lodged, marked)
+    let left = kept.tally.steps as usize;
+    match minimal_reduction(words, &list[..left], out) {
+        Ok(exact) => {
+            let mask = mask_through(&flags[..n], exact.left.mask);
+            let tally = exact.left.tally;
+            grant(Claim::Irreducible, Kept { tally, mask }, lodged, marked)
         }
         Err(refusal) => {
             put_all(out, &list[..left]);
-            let others = refusal.place();
-            grant(Claim::Open(others), tally, mask, lodged, marked)
+            grant(Claim::Open(refusal.place()), kept, lodged, marked)
         }
     }
 }

@@ -20,7 +20,7 @@ use Rattle.plan.proofs.PlanLaws.{passed_readable}
 use Rattle.reduced.specs.Reduced.{room_checks, reduction_checks}
 use Rattle.reduced.proofs.LodgedLaws.{lodged_plan}
 use Rattle.claim.specs.declared.answer.Claim.{Claim}
-use Rattle.claim.specs.declared.answer.Licensed.{Licensed}
+use Rattle.claim.specs.Licensed.{Licensing}
 use Rattle.claim.specs.Licensed.{Licenses}
 use Rattle.claim.specs.Between.Computed.{claim_of, licensed_of, LicensesOf}
 use Rattle.claim.proofs.ComputedTheorem.{licenses_of}
@@ -39,7 +39,7 @@ pub claim_put : {claim case : Claim} {at : ℕ} {before after : List ℕ} {end :
     → length (claim_line case) ≤ line_room → PutsLines 1 (claim_line claim) at before after end
 claim_put is prints short = rw is (record { prints = prints; short = omega (arith, short) })
 
-module _ (w l before : List ℕ) (r : Licensed) (after : List ℕ) (room : length before ≡ most_steps) (answered : Licenses w l before r after) where
+module _ (w l before : List ℕ) (r : Licensing) (after : List ℕ) (room : length before ≡ most_steps) (answered : Licenses w l before r after) where
   licenses : LicensesOf w l before r after
   licenses = licenses_of w l before r after answered
 

@@ -42,7 +42,7 @@ use Rattle.elimination.specs.Between.Left.{left_by}
 use Rattle.elimination.proofs.LeavesLaws.{rule_leaves}
 use Rattle.cheaper.specs.Cheaper.{ReducesBoth, cheaper_part}
 use Rattle.cheaper.proofs.CheaperTheorem.{greedy_shown, elimination_shown, nothing_shown}
-use Rattle.minimal.specs.declared.within.Shortened.{Shortened}
+use Rattle.minimal.specs.Minimised.{Shortening}
 use Rattle.demands.specs.Two.{CheckedTruly, CourseTruly, MarksTruly, TallyTruly, Cheaper, ShownTruly}
 use Rattle.demands.specs.Two.{MaskTruly, ShortenedTruly, DemandTwo}
 use Rattle.demands.proofs.OrderLaws.{compared_truly}
@@ -155,7 +155,7 @@ module _ (w l : List ℕ) where
       fits h by = (computed_flags w l _ by (sym both.refusal ∙ h)).fits
 
   -- what is told of a list that is shortened to such a reduction
-  shortened_truly : (t : Option Told) (m : Reduction) (before : List ℕ) (r : Shortened) (after : List ℕ) → Answers t w l m before r.answer r.mask.words after
+  shortened_truly : (t : Option Told) (m : Reduction) (before : List ℕ) (r : Shortening) (after : List ℕ) → Answers t w l m before r.answer r.mask.words after
       → (t ≡ none → FlagsEach l m (length before)) → r.lodged ≡ unless_refused t (lodged_tally w l) nothing
       → r.marked ≡ unless_refused t (marked w l) 0 → ShortenedTruly w l m r
   shortened_truly t m before r after answers each lodged counted_marks =

@@ -20,9 +20,9 @@ use Rattle.elimination.specs.declared.single.Elimination.{Elimination}
 use Rattle.elimination.specs.Eliminations.{Eliminates}
 use Rattle.cheaper.specs.Cheaper.{ReducesCheaper, ReducesBoth, cheaper_part}
 use Rattle.moves.specs.Moves.{moves_checks, Moves}
-use Rattle.minimal.specs.declared.within.Shortened.{Shortened}
+use Rattle.minimal.specs.Minimised.{Shortening}
 use Rattle.minimal.specs.Minimised.{most_unmarked, minimal_checks, Minimises}
-use Rattle.claim.specs.declared.answer.Licensed.{Licensed}
+use Rattle.claim.specs.Licensed.{Licensing}
 use Rattle.claim.specs.Licensed.{Licenses}
 use Rattle.translation.specs.declared.translate.Translated.{Translated}
 use Rattle.planner.specs.Text.{Text, most_bytes}
@@ -144,12 +144,12 @@ pub record DemandOne : Type 0 where
       → RefusesJust read_numbers (moves_checks w l) (told_answer given)
       × ((t : Told) → told_answer given ≡ some t → after ≡ before)
   -- 1.2, 1.3, 1.5 and 1.6: the exact reduction
-  pub exact_reduction : (w l before : List ℕ) (r : Shortened) (after : List ℕ)
+  pub exact_reduction : (w l before : List ℕ) (r : Shortening) (after : List ℕ)
       (minimises : Minimises most_unmarked w l before r after)
       → RefusesJust exact_numbers (minimal_checks most_unmarked w l (length before)) (told_answer r.answer)
       × OutputLent (told_answer r.answer) l minimises.answers.left before after
   -- 1.2, 1.3, 1.5 and 1.6: the licence, with the refusals of the eliminations
-  pub licence : (w l before : List ℕ) (r : Licensed) (after : List ℕ) (licenses : Licenses w l before r after)
+  pub licence : (w l before : List ℕ) (r : Licensing) (after : List ℕ) (licenses : Licenses w l before r after)
       → RefusesJust greedy_numbers (reduction_checks w l (length before)) (told_answer r.told.answer)
       × OutputLent (told_answer r.told.answer) l licenses.answers.left before after
   -- 1.5 and 1.6: a planner's text read into a sheet

@@ -30,10 +30,10 @@ use Rattle.elimination.specs.declared.single.Elimination.{Elimination}
 use Rattle.elimination.specs.declared.single.Elimination.TheVariants.{Plain, Greedy}
 use Rattle.elimination.specs.Eliminations.{RuleLeaves, Eliminates}
 use Rattle.cheaper.specs.Cheaper.{ReducesBoth, cheaper_part}
-use Rattle.minimal.specs.declared.within.Shortened.{Shortened}
+use Rattle.minimal.specs.Minimised.{Shortening}
 use Rattle.minimal.specs.Minimised.{most_unmarked, Minimises}
 use Rattle.minimal.specs.Statement.{IsMarked, AreMarks}
-use Rattle.claim.specs.declared.answer.Licensed.{Licensed}
+use Rattle.claim.specs.Licensed.{Licensing}
 use Rattle.claim.specs.Licensed.{Licenses}
 
 -- a mask tells the reduction m
@@ -98,7 +98,7 @@ module _ (w l : List ℕ) where
 
   -- what is told of the list that is shortened to the reduction m (2.6): its tally and its mask, the tally of the
   -- lodged list and how many of its steps are marked; in a refusal none
-  pub record ShortenedTruly (m : Reduction) (r : Shortened) : Type 0 where
+  pub record ShortenedTruly (m : Reduction) (r : Shortening) : Type 0 where
     pub tally : TallyTruly m (told_answer r.answer) (told_tally r.answer)
     pub mask : MaskTruly m (told_answer r.answer) r.mask.words
     pub lodged : TallyTruly (whole l) (told_answer r.answer) r.lodged
@@ -160,10 +160,10 @@ pub record DemandTwo : Type 0 where
       → part ≡ cheaper_part after after' first second
       → ShownTruly w l both.elimination.left both.greedy.left (told verdict) part
   -- 2.6: the exact reduction, of which demand 3 says what it leaves
-  pub exact_reduction : (w l before : List ℕ) (r : Shortened) (after : List ℕ)
+  pub exact_reduction : (w l before : List ℕ) (r : Shortening) (after : List ℕ)
       (minimises : Minimises most_unmarked w l before r after) → ShortenedTruly w l minimises.answers.left r
   -- 2.6: the licence, of which `MayBeLodged` says what it leaves
-  pub licence : (w l before : List ℕ) (r : Licensed) (after : List ℕ) (licenses : Licenses w l before r after)
+  pub licence : (w l before : List ℕ) (r : Licensing) (after : List ℕ) (licenses : Licenses w l before r after)
       → ShortenedTruly w l licenses.answers.left r.told
   -- 2.6: a tally with one step more, and which of two tallies is the lower
   pub tally_add : (t : Tally) (price : ℕ) (r : Tally) → r ≡ one_more t price → AddedTruly t price r

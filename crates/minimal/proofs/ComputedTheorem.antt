@@ -13,7 +13,7 @@ use Rattle.plan.specs.Valid.{steps}
 use Rattle.reduced.specs.Reduced.{reduction_checks}
 use Rattle.reduced.proofs.AnswerLaws.{answers_same}
 use Rattle.reduced.proofs.LodgedLaws.{lodged_valid}
-use Rattle.minimal.specs.declared.within.Shortened.{Shortened}
+use Rattle.minimal.specs.Minimised.{Shortening}
 use Rattle.minimal.specs.Minimised.{unmarked_checks, minimal_checks, Minimises}
 use Rattle.minimal.specs.Between.Computed.{minimal_of, MinimisesOf}
 
@@ -26,7 +26,7 @@ module _ (limit : ℕ) (w l : List ℕ) (room : ℕ) (passes : answer (minimal_c
   pub minimal_left : MinimalReduction (initial w) (goal w) (steps w l) (minimal_of w l)
   minimal_left = minimal_found (meets (goal w)) (initial w) (steps w l) (lodged_valid _ w l first_pass)
 
-module _ (limit : ℕ) (w l before : List ℕ) (r : Shortened) (after : List ℕ) where
+module _ (limit : ℕ) (w l before : List ℕ) (r : Shortening) (after : List ℕ) where
   pub minimises_so : MinimisesOf limit w l before r after → Minimises limit w l before r after
   minimises_so computed =
       record {

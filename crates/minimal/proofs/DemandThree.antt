@@ -24,7 +24,7 @@ use Rattle.plan.specs.Valid.{steps}
 use Rattle.plan.specs.Checked.{plan_checks}
 use Rattle.plan.proofs.PlanTheorem.{plan_theorem}
 use Rattle.reduced.specs.Reduced.{room_checks, reduction_checks, Answers}
-use Rattle.minimal.specs.declared.within.Shortened.{Shortened}
+use Rattle.minimal.specs.Minimised.{Shortening}
 use Rattle.minimal.specs.Minimised.{unmarked_checks, minimal_checks}
 use Rattle.minimal.specs.Between.Computed.{MinimisesOf, minimal_of}
 use Rattle.minimal.specs.Statement.{AreMarks, DemandThreeOf, DemandThree}
@@ -99,7 +99,7 @@ demand_three_of limit w l room Tells readable plan roomy told =
       refused = λ many. subst (λ t. Tells t (minimal_of w l)) (many_refused w l readable plan limit room roomy many) told;
     }
 
-pub demand_three : (limit : ℕ) (w l before : List ℕ) (r : Shortened) (after : List ℕ) → MinimisesOf limit w l before r after
+pub demand_three : (limit : ℕ) (w l before : List ℕ) (r : Shortening) (after : List ℕ) → MinimisesOf limit w l before r after
     → DemandThree limit w l before r.answer r.mask.words after
 demand_three limit w l before r after minimises readable plan roomy =
     demand_three_of limit w l (length before) (λ t m. Answers t w l m before r.answer r.mask.words after) readable plan roomy minimises.answers

@@ -44,7 +44,7 @@ use Rattle.reduced.proofs.AnswerLaws.{keeps, answers_refused, answers_kept}
 use Rattle.packed_state.specs.Between.Chosen.{most_choices, open_before}
 use Rattle.packed_state.proofs.ChosenLaws.{open_counted}
 use Rattle.turns.specs.Between.Told.{Finds}
-use Rattle.minimal.specs.declared.within.Shortened.{Shortened}
+use Rattle.minimal.specs.Minimised.{Shortening, shortening}
 use Rattle.minimal.specs.Minimised.{unmarked_checks, minimal_checks}
 use Rattle.minimal.specs.Between.Computed.{MinimisesOf, minimal_of}
 use Rattle.minimal.specs.Between.Refused.{Refuses}
@@ -53,8 +53,12 @@ marks_kept : (w l : List ℕ) → Readable w l → FlagsKept (meets (goal w)) (i
 unfolding marks
 marks_kept w l readable = landmarks_kept (initial w) (goal w) (steps w l) (steps_formed w l readable.accepted readable.known)
 
+-- a refusal tells zeros
+pub zeros_told : (r : Refusal) → Refuses r (shortening (Err r))
+zeros_told r = record { answer = refl; mask = refl; lodged = refl; marked = refl }
+
 -- a refusal, by the check that fires
-refuses_all : (limit : ℕ) (w l before : List ℕ) (refusal : Refusal) (r : Shortened) → answer (minimal_checks limit w l (length before)) ≡ some (told_refusal refusal)
+refuses_all : (limit : ℕ) (w l before : List ℕ) (refusal : Refusal) (r : Shortening) → answer (minimal_checks limit w l (length before)) ≡ some (told_refusal refusal)
     → Refuses refusal r → MinimisesOf limit w l before r before
 refuses_all limit w l before refusal r fires refuses =
     record {
@@ -69,7 +73,7 @@ module _ (limit : ℕ) (w l before : List ℕ) (v : Verdict) (given : Answer) (f
   checked = lodges.checked (room_checks (length l) (length before)) asked
 
   -- one of the checks 1 to 11 refuses
-  pub first_refuses : (refusal : Refusal) (r : Shortened) → given ≡ Err refusal → Refuses refusal r → MinimisesOf limit w l before r before
+  pub first_refuses : (refusal : Refusal) (r : Shortening) → given ≡ Err refusal → Refuses refusal r → MinimisesOf limit w l before r before
   unfolding minimal_checks
   first_refuses refusal r is refuses =
       refuses_all limit w l before refusal r (answer_first (reduction_checks w l (length before)) _ (sym checked.refusal ∙ ap told_answer is)) refuses
@@ -118,7 +122,7 @@ module _ (limit : ℕ) (w l before : List ℕ) (v : Verdict) (given : Answer) (f
       others = rw ones_marked
 
       -- too many steps are unmarked
-      pub last_refuses : (r : Shortened) → limit < length l - ones → Refuses (Unmarked (length l - ones)) r → MinimisesOf limit w l before r before
+      pub last_refuses : (r : Shortening) → limit < length l - ones → Refuses (Unmarked (length l - ones)) r → MinimisesOf limit w l before r before
       unfolding unmarked_checks
       last_refuses r h refuses =
           let fires : answer (unmarked_checks limit w l) ≡ some (told_refusal (Unmarked (length l - ones))) =

@@ -20,7 +20,7 @@ use Rattle.sheet.specs.Layout.{cost_word}
 use Rattle.plan.specs.Checked.{lodged_tally}
 use Rattle.landmark.specs.Marks.{marked}
 use Rattle.reduced.specs.Reduced.{tally_left}
-use Rattle.minimal.specs.declared.within.Shortened.{Shortened}
+use Rattle.minimal.specs.Minimised.{Shortening}
 use Rattle.program.specs.Printed.{tally_line}
 use Rattle.program.specs.Between.Room.{word_room, line_room, ShortLine}
 use Rattle.report.specs.Report.{step_lines, report}
@@ -97,7 +97,7 @@ steps_all w l mask at before i after end all put m told low =
     rw (← all) (rw (whole, listed) at (put m told low))
 
 -- the report, line by line
-pub reports : (w l : List ℕ) (told : Shortened) (kept : Tally) {at : ℕ} {before first second third after : List ℕ} {marks left steps end : ℕ}
+pub reports : (w l : List ℕ) (told : Shortening) (kept : Tally) {at : ℕ} {before first second third after : List ℕ} {marks left steps end : ℕ}
     → Prints (tally_line (ascii "lodged") told.lodged) at before first marks → length (tally_line (ascii "lodged") told.lodged) ≤ line_room
     → Prints (line (ascii "marked") (told.marked ∷ [])) marks first second left → length (line (ascii "marked") (told.marked ∷ [])) ≤ line_room
     → Prints (tally_line (ascii "kept") kept) left second third steps → length (tally_line (ascii "kept") kept) ≤ line_room

@@ -24,7 +24,7 @@ use Rattle.plan.specs.Readable.{Readable}
 use Rattle.plan.specs.Checked.{told_answer}
 use Rattle.plan.proofs.PlanLaws.{passed_readable}
 use Rattle.reduced.specs.Reduced.{room_checks, reduction_checks}
-use Rattle.minimal.specs.declared.within.Shortened.{Shortened}
+use Rattle.minimal.specs.Minimised.{Shortening}
 use Rattle.minimal.specs.Minimised.{most_unmarked, unmarked_checks, minimal_checks, Minimises}
 use Rattle.minimal.specs.Between.Computed.{minimal_of, MinimisesOf}
 use Rattle.minimal.proofs.ComputedTheorem.{minimises_of}
@@ -44,7 +44,7 @@ minimal_length ends s p = by_case (found ends s p) refl
     by_case none e = rw e (length-replicate (length p) true)
     by_case (some m) e = rw e (found_minimal ends s p e).valid.fits
 
-module _ (w l before : List ℕ) (r : Shortened) (after : List ℕ) (room : length before ≡ most_steps) (answered : Minimises most_unmarked w l before r after) where
+module _ (w l before : List ℕ) (r : Shortening) (after : List ℕ) (room : length before ≡ most_steps) (answered : Minimises most_unmarked w l before r after) where
   minimises : MinimisesOf most_unmarked w l before r after
   minimises = minimises_of most_unmarked w l before r after answered
 

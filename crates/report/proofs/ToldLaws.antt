@@ -15,10 +15,10 @@ use Rattle.plan.specs.Limits.{most_steps}
 use Rattle.plan.specs.Checked.{told_answer, lodged_tally}
 use Rattle.landmark.specs.Marks.{marked}
 use Rattle.reduced.specs.Reduced.{Answers}
-use Rattle.minimal.specs.declared.within.Shortened.{Shortened}
+use Rattle.minimal.specs.Minimised.{Shortening}
 use Rattle.report.specs.Between.Reported.{Reports}
 
-module _ (t : Option Told) (w l : List ℕ) (m : Reduction) (before : List ℕ) (told : Shortened) (after : List ℕ)
+module _ (t : Option Told) (w l : List ℕ) (m : Reduction) (before : List ℕ) (told : Shortening) (after : List ℕ)
     (answers : Answers t w l m before told.answer told.mask.words after) (kept : Tally) (is : told.answer ≡ Ok kept) where
   pub nothing_fires : t ≡ none
   nothing_fires = sym answers.refusal ∙ ap told_answer is

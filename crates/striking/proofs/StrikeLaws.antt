@@ -17,7 +17,7 @@ use Rattle.minimal.specs.Minimised.{most_unmarked}
 use Rattle.minimal.specs.Statement.{DemandThreeOf, DemandThree}
 use Rattle.claim.specs.declared.answer.Claim.{Claim}
 use Rattle.claim.specs.declared.answer.Claim.TheVariants.{Least, Irreducible, Open}
-use Rattle.claim.specs.declared.answer.Licensed.{Licensed}
+use Rattle.claim.specs.Licensed.{Licensing}
 use Rattle.claim.specs.Licensed.{licence_refusal, Licenses}
 use Rattle.claim.specs.Statement.{MayBeLodged}
 use Rattle.lent.specs.Words.{answer_words, tally_words, WritesReduced}
@@ -87,7 +87,7 @@ lent_demand w l output output' mask mask' out out' words given demand writes rea
     }
 
 -- the licence of a list, written to lent words
-module _ (w l output output' mask mask' out between out' : List ℕ) (r : Licensed) (writes : WritesReduced r.told.mask.words r.told.answer mask mask' out between)
+module _ (w l output output' mask mask' out between out' : List ℕ) (r : Licensing) (writes : WritesReduced r.told.mask.words r.told.answer mask mask' out between)
     (claimed : out' ≡ sets between 4 (claim_words r.claim)) where
   all_written : out' ≡ sets out 0 (answer_words (told_answer r.told.answer) ++ (tally_words (told_tally r.told.answer) ++ claim_words r.claim))
   all_written = claimed ∙ rw writes.answered (claim_written out (told_answer r.told.answer) (told_tally r.told.answer) r.claim)

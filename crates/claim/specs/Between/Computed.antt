@@ -12,7 +12,7 @@ use Rattle.minimal.specs.Minimised.{most_unmarked}
 use Rattle.minimal.specs.Between.Computed.{minimal_of}
 use Rattle.claim.specs.declared.answer.Claim.{Claim}
 use Rattle.claim.specs.declared.answer.Claim.TheVariants.{Least, Irreducible, Open}
-use Rattle.claim.specs.declared.answer.Licensed.{Licensed}
+use Rattle.claim.specs.Licensed.{Licensing}
 use Rattle.claim.specs.Licensed.{licence_refusal}
 
 -- the list that the cheaper elimination leaves of the list l of the sheet w
@@ -36,7 +36,7 @@ abbrev pub licensed_of : List ℕ → List ℕ → Reduction
 licensed_of w l = claimed_by (claim_of w l) w l
 
 -- what is answered with them
-pub record LicensesOf (w l before : List ℕ) (r : Licensed) (after : List ℕ) : Type 0 where
+pub record LicensesOf (w l before : List ℕ) (r : Licensing) (after : List ℕ) : Type 0 where
   pub answers : Reduces w l (licensed_of w l) before r.told.answer r.told.mask.words after
   pub claims : r.claim ≡ unless_refused (licence_refusal w l before) (claim_of w l) (Open 0)
   pub lodged : r.told.lodged ≡ unless_refused (licence_refusal w l before) (lodged_tally w l) nothing

@@ -10,7 +10,7 @@ use Rattle.plan.specs.Valid.{steps}
 use Rattle.plan.specs.Checked.{lodged_tally}
 use Rattle.reduced.specs.Reduced.{Answers}
 use Rattle.landmark.specs.Marks.{marked}
-use Rattle.minimal.specs.declared.within.Shortened.{Shortened}
+use Rattle.minimal.specs.Minimised.{Shortening}
 use Rattle.minimal.specs.Minimised.{minimal_refusal}
 
 -- of the list l of the sheet w
@@ -18,7 +18,7 @@ abbrev pub minimal_of : List ℕ → List ℕ → Reduction
 minimal_of w l = minimal (meets (goal w)) (initial w) (steps w l)
 
 -- what is answered with it
-pub record MinimisesOf (limit : ℕ) (w l before : List ℕ) (r : Shortened) (after : List ℕ) : Type 0 where
+pub record MinimisesOf (limit : ℕ) (w l before : List ℕ) (r : Shortening) (after : List ℕ) : Type 0 where
   pub answers : Answers (minimal_refusal limit w l before) w l (minimal_of w l) before
       r.answer r.mask.words after
   pub lodged : r.lodged ≡ unless_refused (minimal_refusal limit w l before) (lodged_tally w l) nothing

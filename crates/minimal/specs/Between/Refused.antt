@@ -3,10 +3,10 @@
 use Rattle.std.specs.Prelude.{◌≡◌, replicate, Err}
 use Rattle.refusal.specs.declared.Refusal.{Refusal}
 use Rattle.tally.specs.Tally.{nothing}
-use Rattle.minimal.specs.declared.within.Shortened.{Shortened}
+use Rattle.minimal.specs.Minimised.{Shortening}
 use Rattle.mask.specs.Mask.{mask_length}
 
-pub record Refuses (refusal : Refusal) (r : Shortened) : Type 0 where
+pub record Refuses (refusal : Refusal) (r : Shortening) : Type 0 where
   pub answer : r.answer ≡ Err refusal
   pub mask : r.mask.words ≡ replicate mask_length 0
   pub lodged : r.lodged ≡ nothing

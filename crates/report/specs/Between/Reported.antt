@@ -12,7 +12,7 @@ use Rattle.plan.specs.Checked.{lodged_tally}
 use Rattle.landmark.specs.Marks.{marked}
 use Rattle.reduced.specs.Reduced.{tally_left}
 use Rattle.program.specs.Between.Room.{line_room}
-use Rattle.minimal.specs.declared.within.Shortened.{Shortened}
+use Rattle.minimal.specs.Minimised.{Shortening}
 
 -- the most bytes that are printed: three lines, and one for each step
 abbrev pub report_room : ℕ
@@ -25,7 +25,7 @@ pub record MasksSteps (l : List ℕ) (m : Reduction) (mask : Mask) : Type 0 wher
   pub told_by : mask.words ≡ mask_words m
 
 -- what is told of the list l of the sheet w and of its reduction m
-pub record Reports (w l : List ℕ) (m : Reduction) (r : Shortened) (kept : Tally) : Type 0 where
+pub record Reports (w l : List ℕ) (m : Reduction) (r : Shortening) (kept : Tally) : Type 0 where
   pub lodged : r.lodged ≡ lodged_tally w l
   pub marks : r.marked ≡ marked w l
   pub left : kept ≡ tally_left w l m
