@@ -8,8 +8,7 @@ ghost use Rattle.sheet.specs.Between.Group.{facts_in};
 ghost use Rattle.fact_table.specs.Between.Tables.{stamped, has_fact, passed_back};
 
 use access::{byte, put8};
-use sheet::effects::Effects;
-use sheet::group::{ActionFacts, Group};
+use sheet::group::{ActionFacts, Facts};
 use sheet::limits::Sheet;
 
 // The size of a table: an accepted task has no fact past it.
@@ -19,25 +18,12 @@ pub const IN: u8 = 1;
 
 pub const OUT: u8 = 0;
 
-// Writes x at each fact of a group.
-pub fn stamp(words: &[u32], table: &mut [u8], group: Group, x: u8)
-    ensures { table.new ≡ stamped table.old (facts_in words.now group) x }
+// Writes x at each of some facts.
+pub fn stamp<F: Facts>(table: &mut [u8], facts: F, x: u8)
+    ensures { table.new ≡ stamped table.old (F.facts_left facts) x }
 {
-    let mut rest = group;
-    while rest.at < rest.end {
-        put8(table, rest.first(words) as usize, x);
-        rest = rest.rest();
-    }
-}
-
-// Writes x at each fact that an action's effects may write.
-pub fn stamp_effects(words: &[u32], table: &mut [u8], effects: Effects, x: u8)
-    ensures { table.new ≡ stamped table.old (written_in words.now effects) x }
-{
-    let mut rest = effects;
-    while rest.at < rest.end {
-        put8(table, rest.first(words) as usize, x);
-        rest = rest.rest(words);
+    for fact in facts {
+        put8(table, fact as usize, x);
     }
 }
 
@@ -55,8 +41,8 @@ pub fn pass_back(words: &[u32], table: &mut [u8], facts: ActionFacts, flagged: b
         (facts_in words.now facts.precondition)
         (written_in words.now facts.effects) flagged }
 {
-    stamp_effects(words, table, facts.effects, OUT);
+    stamp(table, facts.effects.facts(words), OUT);
     if flagged {
-        stamp(words, table, facts.precondition, IN);
+        stamp(table, facts.precondition.facts(words), IN);
     }
 }

@@ -5,6 +5,7 @@ use native.Mathlib.Omega.{arith}
 use mathlib.Core.Path.{◌≡◌, refl, sym, ◌∙◌, ap}
 use mathlib.Core.Bool.{Bool, true, false, cond}
 use mathlib.Core.List.{List, [], ◌∷◌, ◌++◌}
+use lib.ListN.{length}
 use lib.Dec.{ltb}
 use borrow.Author.Tests.{lt-ltb, le-ltb, ltb-true, ltb-false}
 use Rattle.sas.specs.Task.{Fact, State, Effect, always}
@@ -169,6 +170,13 @@ module _ (w : List ℕ) (e : Effects) where
   pub written_next : e.at < e.end → written_in w e ≡ fact_of (first_written w e) ∷ written_in w (rest_effects w e)
   unfolding written_in
   written_next h = rw (effects_next h)
+
+  -- a walk along either leaves fewer
+  pub fewer_effects : e.at < e.end → length (effects_in w (rest_effects w e)) < length (effects_in w e)
+  fewer_effects h = rw (effects_next h) (omega arith)
+
+  pub fewer_written : e.at < e.end → length (written_in w (rest_effects w e)) < length (written_in w e)
+  fewer_written h = rw (written_next h) (omega arith)
 
   -- and of those that they write always
   pub always_over : e.end ≤ e.at → always_in w e ≡ []
