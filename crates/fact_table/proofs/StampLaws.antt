@@ -1,4 +1,4 @@
--- A table stamped with facts: by the cases of a loop along a group or an action's effects, and what stands at a fact afterwards, by list induction, since two facts with values below
+-- A table stamped with facts: by the cases of a loop along them, and what stands at a fact afterwards, by list induction, since two facts with values below
 -- the limit have one word only where they are the same. Assumes nothing.
 use Prim.Native.Nat.{ℕ, ◌≤◌, ◌<◌}
 use native.Mathlib.Omega.{arith}
@@ -6,7 +6,7 @@ use mathlib.Core.Path.{◌≡◌, refl, sym, ◌∙◌, ap}
 use mathlib.Core.Bool.{Bool, true, false, cond, true≢false}
 use mathlib.Core.List.{List, [], ◌∷◌, Memᴰ}
 use lib.ListN.{length, get_or, set, length-set}
-use lib.Seq.{get_or-set_same, get_or-set_other}
+use lib.Seq.{set_out, get_or-set_same, get_or-set_other}
 use Rattle.sas.specs.Task.{Fact, Assignment}
 use Rattle.reduction.specs.Between.Wanted.{same_fact, has}
 use Rattle.sas.specs.Conflict.{some_of}
@@ -18,16 +18,20 @@ use Rattle.sheet.proofs.FactWords.{word_of_fact}
 use Rattle.fact_table.specs.Between.Tables.{stamped}
 
 -- where no fact is left nothing is stamped
-pub stamped_none : (t : List ℕ) (q : Assignment) (x : ℕ) → q ≡ [] → stamped t q x ≡ t
+pub stamped_none : (t : List Bool) (q : Assignment) (x : Bool) → q ≡ [] → stamped t q x ≡ t
 unfolding stamped
 stamped_none t q x none = rw none
 
 -- and the first of those that are left is stamped first
-pub stamped_first : (t : List ℕ) (q later : Assignment) (x y : ℕ) → q ≡ fact_of y ∷ later → stamped t q x ≡ stamped (set t y x) later x
+pub stamped_first : (t : List Bool) (q later : Assignment) (x : Bool) (y : ℕ) → q ≡ fact_of y ∷ later → stamped t q x ≡ stamped (set t y x) later x
 unfolding stamped
 stamped_first t q later x y first = rw first (ap (λ j. stamped (set t j x) later x) (word_of_fact y))
 
-pub stamped_length : (t : List ℕ) (q : Assignment) (x : ℕ) → length (stamped t q x) ≡ length t
+-- which writes nothing past the end of the table
+pub stamped_past : (t : List Bool) (q later : Assignment) (x : Bool) (y : ℕ) → q ≡ fact_of y ∷ later → length t ≤ y → stamped t q x ≡ stamped t later x
+stamped_past t q later x y first past = stamped_first t q later x y first ∙ ap (λ u. stamped u later x) (set_out t y x past)
+
+pub stamped_length : (t : List Bool) (q : Assignment) (x : Bool) → length (stamped t q x) ≡ length t
 unfolding stamped
 stamped_length t [] x = refl
 stamped_length t (f ∷ q) x = stamped_length (set t (fact_word f) x) q x ∙ length-set t (fact_word f) x
@@ -45,8 +49,8 @@ same_word f g small small' e =
     rw (← same) (same_fact_refl f)
 
 -- what stands at a fact of a stamped table
-pub stamped_at : (t : List ℕ) (q : Assignment) (x : ℕ) (f : Fact) → ((g : Fact) → Memᴰ g q → Small g) → Small f → fact_word f < length t
-    → get_or (stamped t q x) (fact_word f) 0 ≡ cond (has q f) x (get_or t (fact_word f) 0)
+pub stamped_at : (t : List Bool) (q : Assignment) (x : Bool) (f : Fact) → ((g : Fact) → Memᴰ g q → Small g) → Small f → fact_word f < length t
+    → get_or (stamped t q x) (fact_word f) false ≡ cond (has q f) x (get_or t (fact_word f) false)
 unfolding stamped has some_of
 stamped_at t [] x f smalls small room = refl
 stamped_at t (g ∷ q) x f smalls small room =
@@ -56,7 +60,7 @@ stamped_at t (g ∷ q) x f smalls small room =
     one true = refl
     one false = refl
 
-    by_case : (b : Bool) → same_fact f g ≡ b → cond (has q f) x (get_or (set t (fact_word g) x) (fact_word f) 0) ≡ cond (has (g ∷ q) f) x (get_or t (fact_word f) 0)
-    by_case true e = rw (e, ← same_fact_true f g e, get_or-set_same t (fact_word f) x 0 room) (one (has q f))
+    by_case : (b : Bool) → same_fact f g ≡ b → cond (has q f) x (get_or (set t (fact_word g) x) (fact_word f) false) ≡ cond (has (g ∷ q) f) x (get_or t (fact_word f) false)
+    by_case true e = rw (e, ← same_fact_true f g e, get_or-set_same t (fact_word f) x false room) (one (has q f))
     by_case false e =
-        rw (e, get_or-set_other t (fact_word g) (fact_word f) x 0 (λ same. true≢false (sym (same_word f g small (smalls g (Memᴰ.head refl)) same) ∙ e)))
+        rw (e, get_or-set_other t (fact_word g) (fact_word f) x false (λ same. true≢false (sym (same_word f g small (smalls g (Memᴰ.head refl)) same) ∙ e)))
