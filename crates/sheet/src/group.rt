@@ -1,7 +1,8 @@
 // The groups of facts of a sheet, the goal and each action's precondition, and where an action's effects stand. How a
 // group's facts lie among the words is known here and to the sheet's own checks alone: every other function goes
 // through a group fact by fact, from the first or from the last.
-ghost use Rattle.std.specs.Prelude.{◌≡◌, ◌<◌, ◌^◌, ℕ, Option};
+ghost use Rattle.std.specs.Prelude.{◌≡◌, ◌<◌, ◌^◌, ℕ, Option, []};
+ghost use Rattle.std.specs.Bool.{Decides};
 ghost use Rattle.std.specs.Iterator.{YieldsFirstBy, YieldsLastBy, IsFinite, item_count};
 ghost use Rattle.sas.specs.Task.{Assignment};
 ghost use Rattle.sheet.specs.Decode.{fact_of};
@@ -92,6 +93,15 @@ pub trait Facts: Iterator<Item = u32> + Drop {
 pub struct GroupFacts<'a> {
     words: &'a [u32],
     rest: Group,
+}
+
+impl<'a> GroupFacts<'a> {
+    // Whether none is left.
+    pub fn is_empty(&self) -> bool
+        ensures { Decides result (group_left self.now ≡ []) }
+    {
+        self.rest.end <= self.rest.at
+    }
 }
 
 impl<'a> Iterator for GroupFacts<'a> {

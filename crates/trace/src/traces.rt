@@ -2,7 +2,7 @@
 ghost use Rattle.std.specs.Prelude.{◌≡◌};
 ghost use Rattle.sheet.specs.Limits.{limits};
 ghost use Rattle.sheet.specs.Decode.{initial as initial_of};
-ghost use Rattle.sheet.specs.Between.Effects.{written_in, always_in, first_always};
+ghost use Rattle.sheet.specs.Between.Effects.{written_in, always_in};
 ghost use Rattle.step.specs.State.{in_array};
 ghost use Rattle.trace.specs.Between.Traces.{until_at, supporting, trace_wrote, traces_wrote};
 ghost use Rattle.trace.specs.Between.Traces.{latest_wrote, latest_each, tables, wrote_each, started};
@@ -69,10 +69,8 @@ fn note_effects(words: &[u32], traces: &mut [u8], latest: &[u32], at: u8, effect
     ensures { traces.new ≡ traces_wrote at latest.now
         (written_in words.now effects) traces.old }
 {
-    let mut rest = effects;
-    while rest.at < rest.end {
-        note_fact(traces, latest, at, rest.first(words));
-        rest = rest.rest(words);
+    for fact in effects.facts(words) {
+        note_fact(traces, latest, at, fact);
     }
 }
 
@@ -87,28 +85,15 @@ fn mark_fact(latest: &mut [u32], at: u8, fact: u32)
     put(latest, v + OTHER, seen);
 }
 
-// The same of the fact of its first effect, where that has no condition: another value counts only where it is always
-// written.
-fn mark_first(words: &[u32], latest: &mut [u32], at: u8, effects: Effects)
-    ensures { latest.new ≡ latest_each at
-        (first_always words.now effects) latest.old }
-{
-    let condition = effects.condition(words);
-    if condition.at < condition.end {
-        return;
-    }
-    mark_fact(latest, at, effects.first(words));
-}
-
-// The same of all its effects.
+// The same of the facts of those effects that have no condition: another value counts only where it is always written.
 fn mark_effects(words: &[u32], latest: &mut [u32], at: u8, effects: Effects)
     ensures { latest.new ≡ latest_each at
         (always_in words.now effects) latest.old }
 {
-    let mut rest = effects;
-    while rest.at < rest.end {
-        mark_first(words, latest, at, rest);
-        rest = rest.rest(words);
+    for effect in effects.each(words) {
+        if effect.condition.is_empty() {
+            mark_fact(latest, at, effect.fact);
+        }
     }
 }
 
@@ -138,11 +123,9 @@ pub fn start(words: &[u32]) -> [u32; LATEST]
 {
     let values = initial(words);
     let mut latest = [0u32; LATEST];
-    let mut v = 0;
-    while v < Sheet::VARIABLES {
-        latest[VARIABLE * v] = (v * Sheet::VALUES) as u32 + values[v] % Sheet::VALUES as u32;
+    for (v, value) in values.iter().enumerate() {
+        latest[VARIABLE * v] = (v * Sheet::VALUES) as u32 + *value % Sheet::VALUES as u32;
         latest[VARIABLE * v + AT] = 1;
-        v += 1;
     }
     latest
 }

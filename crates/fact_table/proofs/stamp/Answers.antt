@@ -5,16 +5,14 @@ use Rattle.fact_table.proofs.stamp.Goals as goal
 
 pub loop-fact-preserved-then-at-table : goal.loop-fact-preserved-then-at-table
 loop-fact-preserved-then-at-table g c =
-    let laws : _ = g.met.F.Facts in
-    (
+    let laws : _ = g.met.F.Facts in (
       (laws.goes_on _, laws.ends _),
       sym (stamped_first _ _ _ _ _ (laws.gives _ _ _ c.in-Some.ensures.steps)) ∙ c.loop-fact.invariant.1,
     )
 
 pub loop-fact-preserved : goal.loop-fact-preserved
 loop-fact-preserved g c =
-    let laws : _ = g.met.F.Facts in
-    (
+    let laws : _ = g.met.F.Facts in (
       (laws.goes_on _, laws.ends _),
       sym (stamped_past _ _ _ _ _ (laws.gives _ _ _ c.in-Some.ensures.steps) c.if-at-table.false) ∙ c.loop-fact.invariant.1,
     )
