@@ -3,7 +3,6 @@ use native.Mathlib.Omega.{arith}
 use mathlib.Core.Path.{sym}
 use Prim.Native.Nat.{◌/◌}
 use Rattle.sas.proofs.FactLaws.{holds_known, holds_unknown}
-use Rattle.std.proofs.Common.{rules}
 use Rattle.step.proofs.facts.holds.Goals as goal
 
 pub overflow_cast-result : goal.overflow_cast-result
