@@ -6,7 +6,7 @@ ghost use Rattle.sheet.specs.Decode.{fact_of};
 ghost use Rattle.sheet.specs.Between.Group.{group_left};
 ghost use Rattle.conflict.specs.Between.Table.{denies as denies_fact};
 
-use access::word;
+use access::get_or;
 use sheet::group::GroupFacts;
 use sheet::limits::Sheet;
 use sheet::values::{value, variable};
@@ -18,7 +18,7 @@ pub(crate) const UNSAID: u32 = Sheet::VALUES as u32;
 fn denies(table: &[u32], fact: u32) -> bool
     ensures { result ≡ denies_fact table.now (fact_of fact) }
 {
-    let said = word(table, variable(fact));
+    let said = get_or(table, variable(fact), 0);
     said != UNSAID && said != value(fact)
 }
 

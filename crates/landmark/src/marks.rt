@@ -8,6 +8,7 @@ use mask::{Mask, mask_of};
 use plan::check::check_lodged;
 use plan::limits::Plan;
 use refusal::Refusal;
+use tally::Tally;
 
 // What the check of a plan answers, and the marks: a flag for each step, none past the last, and none at all on a
 // refusal.

@@ -5,6 +5,7 @@ ghost use Rattle.mask.specs.Mask.{mask_length};
 use crate::finish::Kept;
 use mask::Mask;
 use refusal::Refusal;
+use tally::Tally;
 
 // The tally of the list left or a refusal, and the mask of the steps kept: zero on a refusal.
 #[derive(Clone, Copy)]

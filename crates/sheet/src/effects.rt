@@ -8,7 +8,7 @@ ghost use Rattle.sheet.specs.Between.Effects.{effects_in, written_in, effects_le
 
 use crate::group::{Facts, Group, GroupFacts};
 use crate::layout::effect_fact;
-use access::word;
+use access::get_or;
 
 // The effects of an action, or what is left of them: from word `at` up to, not including, word `end`. In edition 1 each
 // is a fact; in edition 2 each has a condition.
@@ -54,7 +54,7 @@ impl Effects {
     pub fn first(self, w: &[u32]) -> u32
         ensures { (result ≡ first_written w.now self) × (result < 2 ^ 32) }
     {
-        word(w, self.fact_place(w))
+        get_or(w, self.fact_place(w), 0)
     }
 
     // The condition of the first of them, which is empty in edition 1.

@@ -12,7 +12,7 @@ ghost use Rattle.sheet.specs.Between.Effects.{effects_of};
 
 use crate::effects::Effects;
 use crate::layout::{ACTION_HEADER, FIRST_ACTION, GOAL, has_conditions, number, offset, size};
-use access::word;
+use access::get_or;
 
 // A group of facts, or what is left of one: from word `at` up to, not including, word `end`.
 #[derive(Clone, Copy)]
@@ -26,7 +26,7 @@ impl Group {
     pub fn first(self, w: &[u32]) -> u32
         ensures { (result ≡ first_fact w.now self) × (result < 2 ^ 32) }
     {
-        word(w, self.at)
+        get_or(w, self.at, 0)
     }
 
     // Its facts from the first on.
@@ -57,7 +57,7 @@ impl Group {
         ensures { (result ≡ last_fact w.now self) × (result < 2 ^ 32) }
     {
         if self.at < self.end {
-            return word(w, self.end - 1);
+            return get_or(w, self.end - 1, 0);
         }
         0
     }
@@ -113,7 +113,7 @@ impl<'a> Iterator for GroupFacts<'a> {
 
     fn next(&mut self) -> Option<u32> {
         if self.rest.at < self.rest.end {
-            let fact = word(self.words, self.rest.at);
+            let fact = get_or(self.words, self.rest.at, 0);
             self.rest.at += 1;
             return Some(fact);
         }
@@ -127,7 +127,7 @@ impl<'a> DoubleEndedIterator for GroupFacts<'a> {
     fn next_back(&mut self) -> Option<u32> {
         if self.rest.at < self.rest.end {
             self.rest.end -= 1;
-            return Some(word(self.words, self.rest.end));
+            return Some(get_or(self.words, self.rest.end, 0));
         }
         None
     }

@@ -12,19 +12,14 @@ use access::{front, put_all};
 use sheet::effects::{EachEffect, Effects};
 use sheet::group::GroupFacts;
 use sheet::limits::Sheet;
-use sheet::values::{assign, put_fact};
+use sheet::values::{assign, put_fact, value, variable};
 
 // Whether the fact that a word is holds in the state.
 pub fn holds(state: &[u32], fact: u32) -> bool
     ensures { result ≡ holds_in state.now (fact_of fact) }
 {
-    let variable = fact as usize / Sheet::VALUES;
-    let value = fact as usize % Sheet::VALUES;
-    if variable < state.len() {
-        state[variable] as usize == value
-    } else {
-        false
-    }
+    let v = variable(fact);
+    v < state.len() && state[v] == value(fact)
 }
 
 // The fact at which facts are seen to fail in the state, by its word, or none where they hold. They are looked at from

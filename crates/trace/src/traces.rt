@@ -7,10 +7,11 @@ ghost use Rattle.step.specs.State.{in_array};
 ghost use Rattle.trace.specs.Between.Traces.{until_at, supporting, trace_wrote, traces_wrote};
 ghost use Rattle.trace.specs.Between.Traces.{latest_wrote, latest_each, tables, wrote_each, started};
 
-use access::{byte, put, put8, word};
+use access::{get_or, put};
 use fact_table::FACTS;
 use sheet::effects::Effects;
 use sheet::limits::Sheet;
+use sheet::values::variable;
 use step::state::initial;
 
 // The bytes of a fact: the position of its last writer, and its support, which is that writer where a marked step wrote
@@ -34,11 +35,11 @@ pub const LATEST: usize = VARIABLE * Sheet::VARIABLES;
 fn until(latest: &[u32], fact: u32) -> u32
     ensures { result ≡ until_at latest.now fact }
 {
-    let v = VARIABLE * (fact as usize / Sheet::VALUES);
-    if word(latest, v) == fact {
-        word(latest, v + OTHER)
+    let v = VARIABLE * variable(fact);
+    if get_or(latest, v, 0) == fact {
+        get_or(latest, v + OTHER, 0)
     } else {
-        word(latest, v + AT)
+        get_or(latest, v + AT, 0)
     }
 }
 
@@ -55,13 +56,13 @@ fn note_fact(traces: &mut [u8], latest: &[u32], at: u8, fact: u32)
     ensures { traces.new ≡ trace_wrote at latest.now fact traces.old }
 {
     let here = TRACE * fact as usize;
-    let last = byte(traces, here);
+    let last = get_or(traces, here, 0);
     if last == at {
         return;
     }
     let seen = until(latest, fact);
-    put8(traces, here + SUPPORT, support(last, seen, at));
-    put8(traces, here, at);
+    put(traces, here + SUPPORT, support(last, seen, at));
+    put(traces, here, at);
 }
 
 // The same of all facts that its effects may write.
@@ -79,7 +80,7 @@ fn mark_fact(latest: &mut [u32], at: u8, fact: u32)
     ensures { latest.new ≡ latest_wrote at fact latest.old }
 {
     let seen = until(latest, fact);
-    let v = VARIABLE * (fact as usize / Sheet::VALUES);
+    let v = VARIABLE * variable(fact);
     put(latest, v, fact);
     put(latest, v + AT, at as u32 + 1);
     put(latest, v + OTHER, seen);
