@@ -2,12 +2,12 @@
 use Prim.Native.Nat.{ℕ}
 use mathlib.Core.Path.{◌≡◌, refl}
 use mathlib.Core.Bool.{Bool, true, false, not}
-use mathlib.Core.List.{[], ◌∷◌}
+use mathlib.Core.List.{List, [], ◌∷◌}
 use lib.ListN.{get_or}
 use lib.Dec.{eqb}
 use borrow.Author.Tests.{eq-eqb, ne_eqb}
 use Rattle.std.specs.List.{list_any}
-use Rattle.sas.specs.Task.{Fact, Assignment, State}
+use Rattle.sas.specs.Task.{Assignment, State}
 use Rattle.sas.specs.Conflict.{some_of}
 use Rattle.sheet.specs.Decode.{fact_of}
 use Rattle.conflict.specs.Between.Table.{unsaid, denies}
@@ -37,7 +37,7 @@ module _ (t : State) (q : Assignment) where
     denied_later passed = rw (first, ← tested, passed)
 
 -- which is what the library says of `any`
-pub some_of_any : (test : Fact → Bool) (q : Assignment) → some_of test q ≡ list_any test q
+pub some_of_any : {A : Type 0} (test : A → Bool) (xs : List A) → some_of test xs ≡ list_any test xs
 unfolding some_of
 some_of_any test [] = refl
-some_of_any test (f ∷ q) = rw (some_of_any test q)
+some_of_any test (x ∷ xs) = rw (some_of_any test xs)

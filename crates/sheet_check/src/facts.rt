@@ -7,7 +7,7 @@ ghost use Rattle.sheet.specs.Causes.{bad_fact, group_place, bad_effect, effect_p
 ghost use Rattle.sheet_check.specs.Between.BadEffects.{BadInEffects};
 
 use crate::variables::domain;
-use sheet::effects::Effects;
+use sheet::effects::{EffectPlaces, Effects};
 use sheet::group::{Group, facts_of, goal};
 use sheet::layout::{actions, effect_fact, number, variables};
 use sheet::limits::Sheet;
@@ -36,16 +36,7 @@ fn bad_fact(w: &[u32], from: usize, i: usize) -> bool
 fn bad_in_group(w: &[u32], group: Group) -> Option<usize>
     ensures { result ≡ group_place w.now group.at group.end }
 {
-    let from = group.at;
-    let end = group.end;
-    let mut i = from;
-    while i < end {
-        if bad_fact(w, from, i) {
-            return Some(i);
-        }
-        i += 1;
-    }
-    None
+    (group.at..group.end).find(|i| bad_fact(w, group.at, *i))
 }
 
 // Whether the fact of the effect with a condition at word i is bad: the first effect stands at word `from`.
@@ -91,17 +82,10 @@ fn bad_in_conditional(w: &[u32], from: usize, end: usize) -> Option<usize>
     ensures { result ≡ first_in (effect_place w.now from end)
         (effect_words w.now end from (end - from)) }
 {
-    let mut i = from;
-    while i < end {
-        let found = bad_in_effect(w, from, end, i);
-        if let Some(k) = found {
+    for i in EffectPlaces::new(w, from, end) {
+        if let Some(k) = bad_in_effect(w, from, end, i) {
             return Some(k);
         }
-        let at = effect_fact(w, end, i);
-        if end <= at {
-            return None;
-        }
-        i = at + 1;
     }
     None
 }
@@ -138,14 +122,10 @@ fn bad_in_action(w: &[u32], a: u32) -> Option<usize>
 fn bad_in_actions(w: &[u32]) -> Option<usize>
     ensures { result ≡ first_of (action_place w.now) 0 (actions_of w.now) }
 {
-    let n = actions(w);
-    let mut a = 0;
-    while a < n {
-        let found = bad_in_action(w, a as u32);
-        if let Some(i) = found {
+    for a in 0..actions(w) {
+        if let Some(i) = bad_in_action(w, a as u32) {
             return Some(i);
         }
-        a += 1;
     }
     None
 }

@@ -1,6 +1,5 @@
 -- `cost` meets its contract: the word at the offset that the action's pair has. Assumes nothing.
 use mathlib.Core.Path.{◌∙◌}
-use Rattle.std.proofs.Common.{rules}
 use Rattle.sheet.proofs.layout.cost.Goals as goal
 
 pub returns : goal.returns

@@ -1,6 +1,5 @@
 -- `first` of effects meets its contract: the word where its fact stands. Assumes nothing.
 use Rattle.sheet.specs.Between.Effects.{first_written}
-use Rattle.std.proofs.Common.{rules}
 use Rattle.sheet.proofs.effects.Effects.first.Goals as goal
 
 -- src/effects.rt:30:5

@@ -1,5 +1,4 @@
 -- `last` meets its contract: the group has a fact, or it is empty. Assumes nothing.
-use native.Mathlib.Omega.{arith}
 use mathlib.Core.Path.{sym, ◌∙◌}
 use Rattle.sheet.proofs.GroupLaws.{last_fact_some, last_fact_none}
 use Rattle.std.proofs.Common.{rules}
