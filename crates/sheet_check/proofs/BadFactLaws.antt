@@ -1,5 +1,6 @@
 -- The place of cause 6: in the first group that has a bad fact. What the code calls is a variable here, with what is known of it as a premise. Assumes nothing.
-use Rattle.std.specs.Prelude.{None, Some}
+use Rattle.std.specs.Prelude.{None, Some, MatchOption}
+use Rattle.std.specs.Bool.{then_some}
 use Prim.Native.Nat.{ℕ, zero, suc, ◌+◌, ◌-◌, ◌/◌, ◌%◌, ◌<◌}
 use mathlib.Core.Path.{◌≡◌, refl, ◌∙◌}
 use mathlib.Core.Logic.{⊎_elim}
@@ -9,11 +10,11 @@ use mathlib.Core.List.Memᴰ
 use lib.Dec.{ltb}
 use borrow.Author.Tests.{lt-leb, ltb-true, ltb-false}
 use Rattle.refusal.specs.Place.{Place}
-use Rattle.refusal.specs.Place.{first_of}
+use Rattle.refusal.specs.Place.{when, or_else, first_of}
 use Rattle.sheet.specs.declared.group.Group.{Group}
 use Rattle.sheet.specs.declared.effects.Effects.{Effects}
 use Rattle.sheet.specs.Limits.{limits}
-use Rattle.sheet.specs.Layout.{word, variables, actions, domain, effect_fact}
+use Rattle.sheet.specs.Layout.{word, variables, actions, domain, effect_start, effect_end, effect_fact}
 use Rattle.sheet.specs.Decode.{effect_words}
 use Rattle.sheet.specs.Between.Group.{goal_group, needed_group}
 use Rattle.sheet.specs.Between.Effects.{effects_of}
@@ -26,26 +27,35 @@ use Rattle.sheet_check.specs.Between.BadEffects.{BadInEffects}
 abbrev pub BadIn : List ℕ → Group → Place → Type 0
 BadIn w g p = p ≡ group_place w g.at g.end
 
-module _ (w : List ℕ) (a : ℕ) (g : Group) (p : Place) (group : g ≡ needed_group w a) (found : BadIn w g p) where
-  pub in_precondition : (i : ℕ) → p ≡ Some i → Some i ≡ action_place w a
-  unfolding action_place
-  in_precondition i e = let there : BadIn w (needed_group w a) p = rw group at found in rw (← there, e)
+-- a place where a test holds, as the library has it
+some_when : (b : Bool) (k : ℕ) → then_some b k ≡ when b k
+some_when true k = refl
+some_when false k = refl
 
-  pub not_in_precondition : (e : Effects) (q : Place) → p ≡ None → e ≡ effects_of w a → BadInEffects w e q → q ≡ action_place w a
+-- what the library says of a second place where there is no first
+pub or_else_told : {P : Type 0} (p q r : Place) → MatchOption p P (λ k. r ≡ Some k) → (P → r ≡ q) → r ≡ or_else p q
+or_else_told None q r told second = second told
+or_else_told (Some k) q r told second = told
+
+module _ {P : Type 0} (w : List ℕ) (p r : Place) (told : MatchOption p P (λ k. r ≡ Some k)) where
+  -- the goal, or else the actions
+  pub fact_placed : (g : Group) → g ≡ goal_group w → BadIn w g p → (P → r ≡ first_of (action_place w) 0 (actions w)) → r ≡ fact_place w
+  unfolding fact_place
+  fact_placed g group found second = let there : BadIn w (goal_group w) p = rw group at found in or_else_told p _ r told second ∙ rw there
+
+  -- the precondition of an action, or else its effects
+  pub action_placed : (a : ℕ) (g : Group) (e : Effects) → g ≡ needed_group w a → e ≡ effects_of w a → BadIn w g p → (P → BadInEffects w e r) → r ≡ action_place w a
   unfolding action_place effects_place
-  not_in_precondition e q none effects found' =
+  action_placed a g e group effects found second =
       let there : BadIn w (needed_group w a) p = rw group at found in
-      let behind : BadInEffects w (effects_of w a) q = rw effects at found' in
-      behind ∙ rw (← there, none)
+      or_else_told p (effects_place w (effect_start w a) (effect_end w a)) r told (λ post. rw effects at (second post)) ∙ rw there
 
-module _ (w : List ℕ) (g : Group) (p : Place) (group : g ≡ goal_group w) (found : BadIn w g p) where
-  pub in_goal : (i : ℕ) → p ≡ Some i → Some i ≡ fact_place w
-  unfolding fact_place
-  in_goal i e = let there : BadIn w (goal_group w) p = rw group at found in rw (← there, e)
-
-  pub not_in_goal : (q : Place) → p ≡ None → q ≡ first_of (action_place w) 0 (actions w) → q ≡ fact_place w
-  unfolding fact_place
-  not_in_goal q e behind = let there : BadIn w (goal_group w) p = rw group at found in behind ∙ rw (← there, e)
+  -- the condition of the effect of edition 2 at word i, or else its own fact, at word k
+  pub effect_placed : (from end i k : ℕ) → k ≡ effect_fact w end i → BadIn w (record { at = i + 1; end = k }) p → (P → r ≡ then_some (bad_effect w from end i) k)
+      → r ≡ effect_place w from end i
+  unfolding effect_place
+  effect_placed from end i k there found second =
+      or_else_told p (when (bad_effect w from end i) k) r told (λ post. second post ∙ some_when (bad_effect w from end i) k) ∙ rw (found, there)
 
 -- an effect of edition 2 whose fact is known is bad just where that fact falls
 module _ (w : List ℕ) (from end i k fact : ℕ) (there : k ≡ effect_fact w end i) (read : fact ≡ word w k) where
@@ -53,23 +63,6 @@ module _ (w : List ℕ) (from end i k fact : ℕ) (there : k ≡ effect_fact w e
       → bad_effect w from end i ≡ (ltb from i && ltb fact (word w (i - 1)))
   unfolding bad_effect
   bad_if_falls v d counted known sized inside = rw (← there, ← read, ← counted, lt-leb v (fact / limits.values) known, ← sized, lt-leb d (fact % limits.values) inside)
-
--- the first bad fact of the effect of edition 2 at word i: in its condition, p, or its own, at word k
-module _ (w : List ℕ) (from end i k : ℕ) (p : Place) (there : k ≡ effect_fact w end i) (found : BadIn w (record { at = i + 1; end = k }) p) where
-  condition_bad : p ≡ group_place w (i + 1) (effect_fact w end i)
-  condition_bad = rw there at found
-
-  pub in_condition : (j : ℕ) → p ≡ Some j → Some j ≡ effect_place w from end i
-  unfolding effect_place
-  in_condition j e = rw (← condition_bad, e)
-
-  pub in_fact : (b : Bool) → p ≡ None → b ≡ bad_effect w from end i → b ≡ true → Some k ≡ effect_place w from end i
-  unfolding effect_place
-  in_fact b none tested bad = rw (← condition_bad, none, ← tested, bad, there)
-
-  pub not_in_effect : (b : Bool) → p ≡ None → b ≡ bad_effect w from end i → b ≡ false → None ≡ effect_place w from end i
-  unfolding effect_place
-  not_in_effect b none tested good = rw (← condition_bad, none, ← tested, good)
 
 -- the effects of edition 2 that are left, by the words at which they stand: each stands before the end
 places_before : (w : List ℕ) (end i n k : ℕ) → Memᴰ k (effect_words w end i n) → k < end

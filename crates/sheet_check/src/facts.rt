@@ -65,16 +65,9 @@ fn bad_in_effect(w: &[u32], from: usize, end: usize, i: usize) -> Option<usize>
     ensures { result ≡ effect_place w.now from end i }
 {
     let at = effect_fact(w, end, i);
-    let found = bad_in_group(w, Group { at: i + 1, end: at });
-    match found {
-        Some(k) => Some(k),
-        None => {
-            if bad_effect(w, from, end, i) {
-                return Some(at);
-            }
-            None
-        }
-    }
+    bad_in_group(w, Group { at: i + 1, end: at }).or_else(|| bad_effect(w, from, end, i).then_some(
+        at,
+    ))
 }
 
 // The first bad fact of all effects with conditions that stand from word `from` up to word `end`.
@@ -111,11 +104,7 @@ fn bad_in_action(w: &[u32], a: u32) -> Option<usize>
     ensures { result ≡ action_place w.now a }
 {
     let facts = facts_of(w, a);
-    let found = bad_in_group(w, facts.precondition);
-    match found {
-        Some(i) => Some(i),
-        None => bad_in_effects(w, facts.effects),
-    }
+    bad_in_group(w, facts.precondition).or_else(|| bad_in_effects(w, facts.effects))
 }
 
 // The first bad fact of all actions.
@@ -134,9 +123,5 @@ fn bad_in_actions(w: &[u32]) -> Option<usize>
 pub(crate) fn bad_fact_place(w: &[u32]) -> Option<usize>
     ensures { result ≡ fact_place w.now }
 {
-    let found = bad_in_group(w, goal(w));
-    match found {
-        Some(i) => Some(i),
-        None => bad_in_actions(w),
-    }
+    bad_in_group(w, goal(w)).or_else(|| bad_in_actions(w))
 }
