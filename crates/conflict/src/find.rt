@@ -10,13 +10,10 @@ use sheet::layout::{actions, has_conditions};
 fn first_clash(w: &[u32]) -> Option<usize>
     ensures { result ≡ clash_place w.now }
 {
-    let n = actions(w);
-    let mut a = 0;
-    while a < n {
+    for a in 0..actions(w) {
         if some_clash(w, a as u32) {
             return Some(a);
         }
-        a += 1;
     }
     None
 }

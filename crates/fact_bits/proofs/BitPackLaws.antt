@@ -5,6 +5,7 @@ use native.Mathlib.Nat.{add-zero, mul-add, mul_comm, mul_assoc, mul-zero, one-mu
 use native.Mathlib.Numerals.{add-one}
 use native.Mathlib.Omega.{arith}
 use mathlib.Core.Path.{◌≡◌}
+use mathlib.Core.Bool.{Bool}
 use mathlib.Core.List.{List}
 use lib.ListN.{take}
 use lib.Seq.{take-nil}
@@ -22,7 +23,7 @@ use Rattle.fact_bits.specs.Between.Bits.{flagged, packed}
 regroup : (b p t d : ℕ) → b + p * (2 * t + d) ≡ b + d * p + p * 2 * t
 regroup b p t d = rw (mul-add, mul_comm d p, mul_assoc) (omega arith)
 
-module _ (t w : List ℕ) where
+module _ (t : List Bool) (w : List ℕ) where
   -- the number that the first n facts make
   abbrev pub to_come : ℕ → Effects → ℕ
   to_come n g = binary (take n (flagged t (written_in w g)))

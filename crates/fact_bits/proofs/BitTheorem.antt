@@ -8,7 +8,6 @@ use mathlib.Core.Bool.{Bool, true, false, cond, not, ◌||◌, or-false}
 use mathlib.Core.List.Memᴰ
 use mathlib.Core.List.{List, [], ◌∷◌}
 use lib.ListN.{length, get_or, drop, replicate, length-replicate, get_or-replicate}
-use lib.Dec.{eqb}
 use Rattle.sas.specs.Task.{Fact, Action}
 use Rattle.sas.specs.Plan.{written, needed, may_write}
 use Rattle.sas.specs.Between.WellFormed.{Known, ActionFormed, Plain}
@@ -30,16 +29,16 @@ use Rattle.plan.specs.Readable.{Readable}
 use Rattle.plan.specs.Valid.{steps}
 use Rattle.plan.proofs.FaultLaws.{steps_drop, drop_next}
 use Rattle.plan.proofs.PlanLaws.{steps_at, rest_formed}
-use Rattle.fact_table.specs.Between.Tables.{most_facts, is_in, is_out, has_fact}
+use Rattle.fact_table.specs.Between.Tables.{most_facts, has_fact}
 use Rattle.fact_table.proofs.StampLaws.{stamped_length}
 use Rattle.fact_table.proofs.WantsLaws.{fits, before_length, wants_next, goal_known, goal_length, goal_wants, stamped_known}
 use Rattle.fact_bits.specs.Between.Bits.{packed, table_before, unneeded_behind, step_bits, useless_bits, ToldBehind, bits_hold, idle_or_held}
 use Rattle.fact_bits.proofs.HoldLaws.{bits_tell, idle_sound, others_tell}
 
 -- what a stamp leaves at a fact that a table has where a test fails it
-one_stamp : (x test : Bool) (n : ℕ) → eqb n is_in ≡ not test → eqb (cond x is_out n) is_in ≡ not (x || test)
-one_stamp true test n e = refl
-one_stamp false test n e = e
+one_stamp : (x test had : Bool) → had ≡ not test → cond x false had ≡ not (x || test)
+one_stamp true test had e = refl
+one_stamp false test had e = e
 
 module _ (w : List ℕ) (accepted : Accepted w) where
   table_before_length : (l : List ℕ) (flags : Reduction) → length (table_before w l flags) ≡ most_facts
@@ -49,11 +48,11 @@ module _ (w : List ℕ) (accepted : Accepted w) where
 
   unneeded_length : (l : List ℕ) → length (unneeded_behind w l) ≡ most_facts
   unfolding unneeded_behind
-  unneeded_length [] = stamped_length (replicate most_facts is_in) (goal w) is_out ∙ length-replicate {A = ℕ} most_facts is_in
-  unneeded_length (a ∷ l) = stamped_length (unneeded_behind w l) (needed (action w a)) is_out ∙ unneeded_length l
+  unneeded_length [] = stamped_length (replicate most_facts true) (goal w) false ∙ length-replicate {A = Bool} most_facts true
+  unneeded_length (a ∷ l) = stamped_length (unneeded_behind w l) (needed (action w a)) false ∙ unneeded_length l
 
   -- the table tells at each known fact whether it passes a test
-  abbrev TellsKnown : List ℕ → (Fact → Bool) → Type 0
+  abbrev TellsKnown : List Bool → (Fact → Bool) → Type 0
   TellsKnown t test = (f : Fact) → Known (domains w) f → has_fact t (fact_word f) ≡ test f
 
   -- the one before the steps l tells the facts that are wanted there
@@ -70,14 +69,14 @@ module _ (w : List ℕ) (accepted : Accepted w) where
   unfolding unneeded_behind needed_in has_fact
   unneeded_tells [] formed f known =
       rw (
-        stamped_known w accepted (replicate most_facts is_in) (goal w) is_out f (length-replicate {A = ℕ} most_facts is_in) (goal_known w accepted) known,
-        get_or-replicate most_facts (fact_word f) is_in 0 (fits w accepted f known).1,
+        stamped_known w accepted (replicate most_facts true) (goal w) false f (length-replicate {A = Bool} most_facts true) (goal_known w accepted) known,
+        get_or-replicate most_facts (fact_word f) true false (fits w accepted f known).1,
       )
-      (one_stamp (has (goal w) f) false is_in refl ∙ ap not (or-false (has (goal w) f)))
+      (one_stamp (has (goal w) f) false true refl ∙ ap not (or-false (has (goal w) f)))
   unneeded_tells (a ∷ l) formed f known =
       let this : ActionFormed (domains w) (action w a) = formed (action w a) (Memᴰ.head refl) in
-      rw (stamped_known w accepted (unneeded_behind w l) (needed (action w a)) is_out f (unneeded_length l) (λ g n. needed_known (action w a) this n) known)
-      (one_stamp (has (needed (action w a)) f) (needed_in (goal w) (steps w l) f) (get_or (unneeded_behind w l) (fact_word f) 0)
+      rw (stamped_known w accepted (unneeded_behind w l) (needed (action w a)) false f (unneeded_length l) (λ g n. needed_known (action w a) this n) known)
+      (one_stamp (has (needed (action w a)) f) (needed_in (goal w) (steps w l) f) (get_or (unneeded_behind w l) (fact_word f) false)
       (unneeded_tells l (λ b m. formed b (Memᴰ.tail m)) f known))
 
   -- each fact that a plain action may write has a bit
@@ -100,7 +99,7 @@ module _ (w l : List ℕ) (flags : Reduction) (wanted_words useless_words : List
   here_formed = formed_from v.index here (rw (drop_next l v.index inside) (Memᴰ.head refl))
 
   -- at each fact that the step may write the tables tell
-  behind : (t : List ℕ) (test : Fact → Bool) → TellsKnown w readable.accepted t test → (f : Fact) → may_write here f → has_fact t (fact_word f) ≡ test f
+  behind : (t : List Bool) (test : Fact → Bool) → TellsKnown w readable.accepted t test → (f : Fact) → may_write here f → has_fact t (fact_word f) ≡ test f
   behind t test tells f m = tells f (here_formed.known f m)
 
   -- what the words have as of no use is so: where each fact that the step may write has its bit or holds, the step is of none

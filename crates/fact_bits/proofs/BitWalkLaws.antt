@@ -20,7 +20,7 @@ use Rattle.sheet.proofs.GroupLaws.{goal_facts, needed_facts}
 use Rattle.sheet.proofs.EffectLaws.{effects_written}
 use Rattle.plan.specs.Limits.{most_steps}
 use Rattle.plan.proofs.FaultLaws.{drop_next}
-use Rattle.fact_table.specs.Between.Tables.{most_facts, is_in, is_out, stamped, passed_back, wanted_before, goal_table}
+use Rattle.fact_table.specs.Between.Tables.{most_facts, stamped, passed_back, wanted_before, goal_table}
 use Rattle.fact_table.proofs.StampLaws.{stamped_length}
 use Rattle.fact_table.proofs.WantsLaws.{passed_action, before_length}
 use Rattle.fact_bits.specs.Between.Bits.{packed, table_before, unneeded_behind, step_bits, useless_bits, ToldBehind}
@@ -52,7 +52,7 @@ module _ (l : List ℕ) (flags : Reduction) (told : ℕ → ℕ) where
               get_or-set_other bits (i - 1) k x 0 apart ∙ so_far.word k (omega (arith, apart)) below within unflagged
 
 -- where the walk stands before index i, with the words and the tables that it has there
-pub record BehindFrom (w l : List ℕ) (flags : Reduction) (i : ℕ) (wanted useless wanting unneeded : List ℕ) : Type 0 where
+pub record BehindFrom (w l : List ℕ) (flags : Reduction) (i : ℕ) (wanted useless : List ℕ) (wanting unneeded : List Bool) : Type 0 where
   pub reached : i ≤ length l
   pub wanting_room : length wanting ≡ most_facts
   pub unneeded_room : length unneeded ≡ most_facts
@@ -63,23 +63,23 @@ pub record BehindFrom (w l : List ℕ) (flags : Reduction) (i : ℕ) (wanted use
 
 module _ (w l : List ℕ) (flags : Reduction) where
   -- behind the last step, with the goal's facts stamped into an empty table and out of a full one
-  pub behind_end : (table full : List ℕ) (g h : Group) → g ≡ goal_group w → table ≡ stamped (replicate most_facts is_out) (facts_in w g) is_in
-      → h ≡ goal_group w → full ≡ stamped (replicate most_facts is_in) (facts_in w h) is_out
+  pub behind_end : (table full : List Bool) (g h : Group) → g ≡ goal_group w → table ≡ stamped (replicate most_facts false) (facts_in w g) true
+      → h ≡ goal_group w → full ≡ stamped (replicate most_facts true) (facts_in w h) false
       → BehindFrom w l flags (length l) (replicate most_steps 0) (replicate most_steps 0) table full
   unfolding table_before unneeded_behind goal_table
   behind_end table full g h group stamps group' stamps' =
       let none : drop (length l) l ≡ [] = drop_of_length-le l {i = length l} (omega arith) in
       record {
         reached = omega arith;
-        wanting_room = rw (stamps, stamped_length) (length-replicate {A = ℕ} most_facts is_out);
-        unneeded_room = rw (stamps', stamped_length) (length-replicate {A = ℕ} most_facts is_in);
+        wanting_room = rw (stamps, stamped_length) (length-replicate {A = Bool} most_facts false);
+        unneeded_room = rw (stamps', stamped_length) (length-replicate {A = Bool} most_facts true);
         wanted_words = words_end l flags (step_bits w l flags);
         useless_words = words_end l flags (useless_bits w l);
         wants = rw none (stamps ∙ rw (group, goal_facts w));
         idles = rw none (stamps' ∙ rw (group', goal_facts w));
       }
 
-  module _ (i : ℕ) (wanted useless wanting unneeded : List ℕ) (along : BehindFrom w l flags i wanted useless wanting unneeded) where
+  module _ (i : ℕ) (wanted useless : List ℕ) (wanting unneeded : List Bool) (along : BehindFrom w l flags i wanted useless wanting unneeded) where
     -- before the first step
     pub behind_start : i ≤ 0 → ToldBehind w l flags wanted useless
     behind_start none_left =
@@ -116,16 +116,16 @@ module _ (w l : List ℕ) (flags : Reduction) where
           let later : drop 1 (drop (i - 1) flags) ≡ drop i flags = drop-drop 1 (i - 1) flags ∙ rw further in
           rw (here, flag, later, ← along.wants)
 
-      needs_stamped : stamped unneeded (facts_in w facts.precondition) is_out ≡ unneeded_behind w (drop (i - 1) l)
+      needs_stamped : stamped unneeded (facts_in w facts.precondition) false ≡ unneeded_behind w (drop (i - 1) l)
       unfolding unneeded_behind
       needs_stamped = rw (needs, needed_facts w (get_or l (i - 1) 0), here, ← along.idles)
 
       -- one step further to the front
-      pub behind_more : (up : Bool) (x y : ℕ) (wanted' useless' wanting' unuseless' : List ℕ) → up ≡ get_or flags (i - 1) false
+      pub behind_more : (up : Bool) (x y : ℕ) (wanted' useless' : List ℕ) (wanting' unuseless' : List Bool) → up ≡ get_or flags (i - 1) false
           → x ≡ cond up 0 (packed wanting (written_in w facts.effects)) → wanted' ≡ set wanted (i - 1) x
           → y ≡ cond up 0 (packed unneeded (written_in w facts.effects)) → useless' ≡ set useless (i - 1) y
           → wanting' ≡ passed_back wanting (facts_in w facts.precondition) (written_in w facts.effects) up
-          → unuseless' ≡ stamped unneeded (facts_in w facts.precondition) is_out → BehindFrom w l flags (i - 1) wanted' useless' wanting' unuseless'
+          → unuseless' ≡ stamped unneeded (facts_in w facts.precondition) false → BehindFrom w l flags (i - 1) wanted' useless' wanting' unuseless'
       behind_more up x y wanted' useless' wanting' unuseless' raised packs puts packs' puts' passes stamps =
           let passed : wanting' ≡ wanted_before wanting (action w (get_or l (i - 1) 0)) up =
           passes ∙ passed_action w wanting (get_or l (i - 1) 0) facts up needs writes in

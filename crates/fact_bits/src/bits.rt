@@ -8,21 +8,21 @@ ghost use Rattle.fact_table.specs.Between.Tables.{has_fact};
 ghost use Rattle.fact_bits.specs.Between.Bits.{packed, ToldBehind};
 
 use access::{flag, put64};
-use fact_table::{FACTS, IN, OUT, has, pass_back, stamp};
+use fact_table::{FACTS, has, pass_back, stamp};
 use mask::Mask;
 use plan::limits::Plan;
 use sheet::effects::Effects;
 use sheet::group::{facts_of, goal};
 
 // One for a fact that the table has.
-fn digit(table: &[u8], fact: u32) -> u64
+fn digit(table: &[bool], fact: u32) -> u64
     ensures { result ≡ digit_of (has_fact table.now fact) }
 {
     if has(table, fact) { 1 } else { 0 }
 }
 
 // The bits of the facts that effects may write, the first the lowest. A fact past the last bit has none.
-fn pack(words: &[u32], table: &[u8], effects: Effects) -> u64
+fn pack(words: &[u32], table: &[bool], effects: Effects) -> u64
     ensures { result ≡ packed table.now (written_in words.now effects) }
 {
     let mut bits = 0;
@@ -40,7 +40,7 @@ fn pack(words: &[u32], table: &[u8], effects: Effects) -> u64
 }
 
 // The same of a step's facts, unless the step is flagged: nothing is asked there.
-fn pack_unflagged(words: &[u32], table: &[u8], effects: Effects, flagged: bool) -> u64
+fn pack_unflagged(words: &[u32], table: &[bool], effects: Effects, flagged: bool) -> u64
     ensures { result ≡ cond flagged 0 (packed table.now (written_in words.now effects)) }
 {
     if flagged {
@@ -62,10 +62,10 @@ pub fn bits_behind(words: &[u32], plan: &[u32], flags: &[bool]) -> Behind
     ensures { ToldBehind words.now plan.now flags.now
         result.wanted result.useless }
 {
-    let mut wanting = [OUT; FACTS];
-    stamp(words, &mut wanting, goal(words), IN);
-    let mut unneeded = [IN; FACTS];
-    stamp(words, &mut unneeded, goal(words), OUT);
+    let mut wanting = [false; FACTS];
+    stamp(&mut wanting, goal(words).facts(words), true);
+    let mut unneeded = [true; FACTS];
+    stamp(&mut unneeded, goal(words).facts(words), false);
     let mut wanted = [0u64; Plan::STEPS];
     let mut useless = [0u64; Plan::STEPS];
     let mut i = plan.len();
@@ -84,7 +84,7 @@ pub fn bits_behind(words: &[u32], plan: &[u32], flags: &[bool]) -> Behind
             pack_unflagged(words, &unneeded, facts.effects, flagged),
         );
         pass_back(words, &mut wanting, facts, flagged);
-        stamp(words, &mut unneeded, facts.precondition, OUT);
+        stamp(&mut unneeded, facts.precondition.facts(words), false);
     }
     Behind { wanted, useless }
 }

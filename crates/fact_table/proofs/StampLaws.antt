@@ -1,6 +1,6 @@
--- A table stamped with facts: by the cases of a loop along a group or an action's effects, and what stands at a fact afterwards, by list induction, since two facts with values below
+-- A table stamped with facts: by the cases of a loop along them, and what stands at a fact afterwards, by list induction, since two facts with values below
 -- the limit have one word only where they are the same. Assumes nothing.
-use Prim.Native.Nat.{ℕ, ◌≤◌, ◌<◌}
+use Prim.Native.Nat.{ℕ, ◌<◌}
 use native.Mathlib.Omega.{arith}
 use mathlib.Core.Path.{◌≡◌, refl, sym, ◌∙◌, ap}
 use mathlib.Core.Bool.{Bool, true, false, cond, true≢false}
@@ -11,40 +11,23 @@ use Rattle.sas.specs.Task.{Fact, Assignment}
 use Rattle.reduction.specs.Between.Wanted.{same_fact, has}
 use Rattle.sas.specs.Conflict.{some_of}
 use Rattle.reduction.proofs.MemberLaws.{same_fact_true, same_fact_refl}
-use Rattle.sheet.specs.declared.group.Group.{Group}
-use Rattle.sheet.specs.declared.effects.Effects.{Effects}
 use Rattle.sheet.specs.Limits.{limits}
+use Rattle.sheet.specs.Decode.{fact_of}
 use Rattle.sheet.specs.Between.Encode.{fact_word}
-use Rattle.sheet.specs.Between.Group.{facts_in, first_fact, rest_of}
 use Rattle.sheet.proofs.FactWords.{word_of_fact}
-use Rattle.sheet.specs.Between.Effects.{written_in, first_written, rest_effects}
-use Rattle.sheet.proofs.GroupLaws.{group_over, group_next}
-use Rattle.sheet.proofs.EffectLaws.{written_over, written_next}
 use Rattle.fact_table.specs.Between.Tables.{stamped}
 
-module _ (t w : List ℕ) (g : Group) (x : ℕ) where
-  -- from the end on nothing is stamped
-  pub stamped_over : g.end ≤ g.at → stamped t (facts_in w g) x ≡ t
-  unfolding stamped
-  stamped_over h = rw (group_over w g h)
+-- where no fact is left nothing is stamped
+pub stamped_none : (t : List Bool) (q : Assignment) (x : Bool) → q ≡ [] → stamped t q x ≡ t
+unfolding stamped
+stamped_none t q x none = rw none
 
-  -- before the end, the fact here is stamped first
-  pub stamped_next : (y : ℕ) → g.at < g.end → y ≡ first_fact w g → stamped t (facts_in w g) x ≡ stamped (set t y x) (facts_in w (rest_of g)) x
-  unfolding stamped
-  stamped_next y h read = rw (group_next w g h, ← read) (ap (λ j. stamped (set t j x) (facts_in w (rest_of g)) x) (word_of_fact y))
+-- and the first of those that are left is stamped first
+pub stamped_first : (t : List Bool) (q later : Assignment) (x : Bool) (y : ℕ) → q ≡ fact_of y ∷ later → stamped t q x ≡ stamped (set t y x) later x
+unfolding stamped
+stamped_first t q later x y first = rw first (ap (λ j. stamped (set t j x) later x) (word_of_fact y))
 
--- the same of an action's effects
-module _ (t w : List ℕ) (e : Effects) (x : ℕ) where
-  pub stamped_effects_over : e.end ≤ e.at → stamped t (written_in w e) x ≡ t
-  unfolding stamped
-  stamped_effects_over h = rw (written_over w e h)
-
-  pub stamped_effects_next : (y : ℕ) → e.at < e.end → y ≡ first_written w e
-      → stamped t (written_in w e) x ≡ stamped (set t y x) (written_in w (rest_effects w e)) x
-  unfolding stamped
-  stamped_effects_next y h read = rw (written_next w e h, ← read) (ap (λ j. stamped (set t j x) (written_in w (rest_effects w e)) x) (word_of_fact y))
-
-pub stamped_length : (t : List ℕ) (q : Assignment) (x : ℕ) → length (stamped t q x) ≡ length t
+pub stamped_length : (t : List Bool) (q : Assignment) (x : Bool) → length (stamped t q x) ≡ length t
 unfolding stamped
 stamped_length t [] x = refl
 stamped_length t (f ∷ q) x = stamped_length (set t (fact_word f) x) q x ∙ length-set t (fact_word f) x
@@ -62,8 +45,8 @@ same_word f g small small' e =
     rw (← same) (same_fact_refl f)
 
 -- what stands at a fact of a stamped table
-pub stamped_at : (t : List ℕ) (q : Assignment) (x : ℕ) (f : Fact) → ((g : Fact) → Memᴰ g q → Small g) → Small f → fact_word f < length t
-    → get_or (stamped t q x) (fact_word f) 0 ≡ cond (has q f) x (get_or t (fact_word f) 0)
+pub stamped_at : (t : List Bool) (q : Assignment) (x : Bool) (f : Fact) → ((g : Fact) → Memᴰ g q → Small g) → Small f → fact_word f < length t
+    → get_or (stamped t q x) (fact_word f) false ≡ cond (has q f) x (get_or t (fact_word f) false)
 unfolding stamped has some_of
 stamped_at t [] x f smalls small room = refl
 stamped_at t (g ∷ q) x f smalls small room =
@@ -73,7 +56,7 @@ stamped_at t (g ∷ q) x f smalls small room =
     one true = refl
     one false = refl
 
-    by_case : (b : Bool) → same_fact f g ≡ b → cond (has q f) x (get_or (set t (fact_word g) x) (fact_word f) 0) ≡ cond (has (g ∷ q) f) x (get_or t (fact_word f) 0)
-    by_case true e = rw (e, ← same_fact_true f g e, get_or-set_same t (fact_word f) x 0 room) (one (has q f))
+    by_case : (b : Bool) → same_fact f g ≡ b → cond (has q f) x (get_or (set t (fact_word g) x) (fact_word f) false) ≡ cond (has (g ∷ q) f) x (get_or t (fact_word f) false)
+    by_case true e = rw (e, ← same_fact_true f g e, get_or-set_same t (fact_word f) x false room) (one (has q f))
     by_case false e =
-        rw (e, get_or-set_other t (fact_word g) (fact_word f) x 0 (λ same. true≢false (sym (same_word f g small (smalls g (Memᴰ.head refl)) same) ∙ e)))
+        rw (e, get_or-set_other t (fact_word g) (fact_word f) x false (λ same. true≢false (sym (same_word f g small (smalls g (Memᴰ.head refl)) same) ∙ e)))

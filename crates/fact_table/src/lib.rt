@@ -1,5 +1,5 @@
-// Tables with a byte for each fact, at the index that is the fact's word: the search's cuts are told by them. An entry
-// is a byte, since to fill tables of words costs more than the walks along a plan of small actions.
+// Tables with a flag for each fact, at the index that is the fact's word: the search's cuts are told by them. An entry
+// takes a byte, since to fill tables of words costs more than the walks along a plan of small actions.
 #![tactic(auto)]
 
 ghost use Rattle.std.specs.Prelude.{◌≡◌};
@@ -7,56 +7,38 @@ ghost use Rattle.sheet.specs.Between.Effects.{written_in};
 ghost use Rattle.sheet.specs.Between.Group.{facts_in};
 ghost use Rattle.fact_table.specs.Between.Tables.{stamped, has_fact, passed_back};
 
-use access::{byte, put8};
-use sheet::effects::Effects;
-use sheet::group::{ActionFacts, Group};
+use access::{get_or, put};
+use sheet::group::{ActionFacts, Facts};
 use sheet::limits::Sheet;
 
 // The size of a table: an accepted task has no fact past it.
 pub const FACTS: usize = Sheet::VARIABLES * Sheet::VALUES;
-// What stands at a fact that a table has, and at one that it has not.
-pub const IN: u8 = 1;
 
-pub const OUT: u8 = 0;
-
-// Writes x at each fact of a group.
-pub fn stamp(words: &[u32], table: &mut [u8], group: Group, x: u8)
-    ensures { table.new ≡ stamped table.old (facts_in words.now group) x }
+// Writes x at each of some facts.
+pub fn stamp<F: Facts>(table: &mut [bool], facts: F, x: bool)
+    ensures { table.new ≡ stamped table.old (F.facts_left facts) x }
 {
-    let mut rest = group;
-    while rest.at < rest.end {
-        put8(table, rest.first(words) as usize, x);
-        rest = rest.rest();
-    }
-}
-
-// Writes x at each fact that an action's effects may write.
-pub fn stamp_effects(words: &[u32], table: &mut [u8], effects: Effects, x: u8)
-    ensures { table.new ≡ stamped table.old (written_in words.now effects) x }
-{
-    let mut rest = effects;
-    while rest.at < rest.end {
-        put8(table, rest.first(words) as usize, x);
-        rest = rest.rest(words);
+    for fact in facts {
+        put(table, fact as usize, x);
     }
 }
 
 // Whether the table has a fact.
-pub fn has(table: &[u8], fact: u32) -> bool
+pub fn has(table: &[bool], fact: u32) -> bool
     ensures { result ≡ has_fact table.now fact }
 {
-    byte(table, fact as usize) == IN
+    get_or(table, fact as usize, false)
 }
 
 // Makes a table of the facts that are wanted behind a step one of those that are wanted before it: what the step may
 // write is wanted no more, and what it needs is wanted, where it is flagged.
-pub fn pass_back(words: &[u32], table: &mut [u8], facts: ActionFacts, flagged: bool)
+pub fn pass_back(words: &[u32], table: &mut [bool], facts: ActionFacts, flagged: bool)
     ensures { table.new ≡ passed_back table.old
         (facts_in words.now facts.precondition)
         (written_in words.now facts.effects) flagged }
 {
-    stamp_effects(words, table, facts.effects, OUT);
+    stamp(table, facts.effects.facts(words), false);
     if flagged {
-        stamp(words, table, facts.precondition, IN);
+        stamp(table, facts.precondition.facts(words), true);
     }
 }

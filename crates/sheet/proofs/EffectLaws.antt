@@ -5,6 +5,7 @@ use native.Mathlib.Omega.{arith}
 use mathlib.Core.Path.{◌≡◌, refl, sym, ◌∙◌, ap}
 use mathlib.Core.Bool.{Bool, true, false, cond}
 use mathlib.Core.List.{List, [], ◌∷◌, ◌++◌}
+use lib.ListN.{length}
 use lib.Dec.{ltb}
 use borrow.Author.Tests.{lt-ltb, le-ltb, ltb-true, ltb-false}
 use Rattle.sas.specs.Task.{Fact, State, Effect, always}
@@ -56,6 +57,21 @@ module _ (w : List ℕ) (end : ℕ) where
       let more : end - i ≡ suc (end - i - 1) = omega arith in
       ap (effect_words w end i) more ∙ effect_words_next i (end - i - 1) h
       ∙ ap (λ l. i ∷ l) (effect_words_enough (effect_fact w end i + 1) (end - i - 1) (omega arith))
+
+  -- the first of them, and those behind it, which are fewer
+  module _ (i next : ℕ) (h : i < end) (behind : next ≡ min (effect_fact w end i + 1) end) where
+    pub effect_words_first : effect_words w end i (end - i) ≡ i ∷ effect_words w end next (end - next)
+    effect_words_first = effect_words_all i h ∙ ap (λ l. i ∷ l) (by_case (ltb (effect_fact w end i + 1) end) refl)
+      where
+        by_case : (b : Bool) → ltb (effect_fact w end i + 1) end ≡ b
+            → effect_words w end (effect_fact w end i + 1) (end - (effect_fact w end i + 1)) ≡ effect_words w end next (end - next)
+        by_case true e = let same : next ≡ effect_fact w end i + 1 = omega (arith, behind, ltb-true _ _ e) in rw same
+        by_case false e =
+            let past : end ≤ effect_fact w end i + 1 = ltb-false _ _ e in
+            effect_words_over (effect_fact w end i + 1) _ past ∙ sym (effect_words_over next _ (omega (arith, behind)))
+
+    pub fewer_words : length (effect_words w end next (end - next)) < length (effect_words w end i (end - i))
+    fewer_words = rw effect_words_first (omega arith)
 
 module _ (w : List ℕ) where
   pub effects_none : (conditional : Bool) (i end : ℕ) → end ≤ i → effects conditional w i end ≡ []
@@ -169,6 +185,13 @@ module _ (w : List ℕ) (e : Effects) where
   pub written_next : e.at < e.end → written_in w e ≡ fact_of (first_written w e) ∷ written_in w (rest_effects w e)
   unfolding written_in
   written_next h = rw (effects_next h)
+
+  -- a walk along either leaves fewer
+  pub fewer_effects : e.at < e.end → length (effects_in w (rest_effects w e)) < length (effects_in w e)
+  fewer_effects h = rw (effects_next h) (omega arith)
+
+  pub fewer_written : e.at < e.end → length (written_in w (rest_effects w e)) < length (written_in w e)
+  fewer_written h = rw (written_next h) (omega arith)
 
   -- and of those that they write always
   pub always_over : e.end ≤ e.at → always_in w e ≡ []

@@ -13,7 +13,7 @@ use borrow.Author.Tests.{eqb-true, not-false}
 use Rattle.sas.specs.Task.{Action, Task}
 use Rattle.sas.specs.Between.WellFormed.{WellFormed}
 use Rattle.sheet.specs.Layout.{edition as edition_of, first_edition, second_edition, has_conditions, variables, actions, pairs_end}
-use Rattle.sheet.specs.Decode.{table, domains, action, task}
+use Rattle.sheet.specs.Decode.{table, action, task}
 use Rattle.sheet.specs.Between.Encode.{fact_word, fact_words, effects_part, action_part, parts, first_offset, sheet_of, encode, Encodable}
 use Rattle.sheet.specs.Causes.{bad_edition, past_part, pair_place, Accepted}
 use Rattle.sheet.proofs.TableLaws.{table_length}

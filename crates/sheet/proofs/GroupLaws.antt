@@ -2,15 +2,18 @@
 -- of an action's precondition are. By the laws of the facts among words. Assumes nothing.
 use Prim.Native.Nat.{ℕ, ◌+◌, ◌-◌, ◌≤◌, ◌<◌}
 use native.Mathlib.Omega.{arith}
-use mathlib.Core.Path.{◌≡◌, refl}
+use mathlib.Core.Path.{◌≡◌, refl, sym, ◌∙◌, ap}
+use mathlib.Core.Bool.{true}
 use mathlib.Core.List.{List, [], ◌∷◌, ◌++◌}
-use borrow.Author.Tests.{lt-ltb, le-ltb}
+use lib.ListN.{length}
+use lib.Dec.{leb}
+use borrow.Author.Tests.{lt-ltb, le-ltb, leb-true, le-leb}
 use Rattle.sas.specs.Plan.{needed}
 use Rattle.sheet.specs.declared.group.Group.{Group}
 use Rattle.sheet.specs.Layout.{word}
 use Rattle.sheet.specs.Decode.{fact_of, goal, action}
 use Rattle.sheet.specs.Between.Group.{goal_group, needed_group, facts_in, first_fact, rest_of, last_fact, front_of}
-use Rattle.sheet.proofs.TableLaws.{facts_over, facts_next, facts_last}
+use Rattle.sheet.proofs.TableLaws.{facts_length, facts_over, facts_next, facts_last}
 
 module _ (g : Group) where
   -- what is left of a group that has a fact
@@ -47,6 +50,27 @@ module _ (w : List ℕ) (g : Group) where
   pub group_next : g.at < g.end → facts_in w g ≡ fact_of (first_fact w g) ∷ facts_in w (rest_of g)
   unfolding facts_in
   group_next h = rw (rest_of_some g h) (facts_next w g.at g.end h)
+
+  -- a walk along it: the next fact, and the facts that are left, which are fewer
+  pub group_first : g.at < g.end → facts_in w g ≡ fact_of (word w g.at) ∷ facts_in w (record { at = g.at + 1; end = g.end })
+  unfolding facts_in
+  group_first h = facts_next w g.at g.end h
+
+  pub group_final : g.at < g.end → facts_in w g ≡ facts_in w (record { at = g.at; end = g.end - 1 }) ++ (fact_of (word w (g.end - 1)) ∷ [])
+  unfolding facts_in
+  group_final h = facts_last w g.at g.end h
+
+  pub fewer_first : g.at < g.end → length (facts_in w (record { at = g.at + 1; end = g.end })) < length (facts_in w g)
+  unfolding facts_in
+  fewer_first h = rw (facts_length w g.at g.end, facts_length w (g.at + 1) g.end) (omega arith)
+
+  pub fewer_final : g.at < g.end → length (facts_in w (record { at = g.at; end = g.end - 1 })) < length (facts_in w g)
+  unfolding facts_in
+  fewer_final h = rw (facts_length w g.at g.end, facts_length w g.at (g.end - 1)) (omega arith)
+
+  pub group_empty : (leb g.end g.at ≡ true → facts_in w g ≡ []) × (facts_in w g ≡ [] → leb g.end g.at ≡ true)
+  unfolding facts_in
+  group_empty = (λ past. group_over (leb-true _ _ past), λ none. le-leb g.end g.at (omega (arith, sym (facts_length w g.at g.end) ∙ ap length none)))
 
   -- the word of the last fact of a group that has one, and of one that has none
   pub last_fact_some : g.at < g.end → last_fact w g ≡ word w (g.end - 1)

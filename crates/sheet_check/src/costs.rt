@@ -9,13 +9,10 @@ use sheet::limits::Sheet;
 pub(crate) fn bad_cost_place(w: &[u32]) -> Option<usize>
     ensures { result ≡ cost_place w.now }
 {
-    let n = actions(w);
-    let mut a = 0;
-    while a < n {
+    for a in 0..actions(w) {
         if Sheet::COST < cost(w, a as u32) {
             return Some(a);
         }
-        a += 1;
     }
     None
 }

@@ -7,7 +7,7 @@ ghost use Rattle.sheet.specs.Causes.{bad_fact, group_place, bad_effect, effect_p
 ghost use Rattle.sheet_check.specs.Between.BadEffects.{BadInEffects};
 
 use crate::variables::domain;
-use sheet::effects::Effects;
+use sheet::effects::{EffectPlaces, Effects};
 use sheet::group::{Group, facts_of, goal};
 use sheet::layout::{actions, effect_fact, number, variables};
 use sheet::limits::Sheet;
@@ -36,16 +36,7 @@ fn bad_fact(w: &[u32], from: usize, i: usize) -> bool
 fn bad_in_group(w: &[u32], group: Group) -> Option<usize>
     ensures { result ≡ group_place w.now group.at group.end }
 {
-    let from = group.at;
-    let end = group.end;
-    let mut i = from;
-    while i < end {
-        if bad_fact(w, from, i) {
-            return Some(i);
-        }
-        i += 1;
-    }
-    None
+    (group.at..group.end).find(|i| bad_fact(w, group.at, *i))
 }
 
 // Whether the fact of the effect with a condition at word i is bad: the first effect stands at word `from`.
@@ -74,16 +65,9 @@ fn bad_in_effect(w: &[u32], from: usize, end: usize, i: usize) -> Option<usize>
     ensures { result ≡ effect_place w.now from end i }
 {
     let at = effect_fact(w, end, i);
-    let found = bad_in_group(w, Group { at: i + 1, end: at });
-    match found {
-        Some(k) => Some(k),
-        None => {
-            if bad_effect(w, from, end, i) {
-                return Some(at);
-            }
-            None
-        }
-    }
+    bad_in_group(w, Group { at: i + 1, end: at }).or_else(|| bad_effect(w, from, end, i).then_some(
+        at,
+    ))
 }
 
 // The first bad fact of all effects with conditions that stand from word `from` up to word `end`.
@@ -91,17 +75,10 @@ fn bad_in_conditional(w: &[u32], from: usize, end: usize) -> Option<usize>
     ensures { result ≡ first_in (effect_place w.now from end)
         (effect_words w.now end from (end - from)) }
 {
-    let mut i = from;
-    while i < end {
-        let found = bad_in_effect(w, from, end, i);
-        if let Some(k) = found {
+    for i in EffectPlaces::new(w, from, end) {
+        if let Some(k) = bad_in_effect(w, from, end, i) {
             return Some(k);
         }
-        let at = effect_fact(w, end, i);
-        if end <= at {
-            return None;
-        }
-        i = at + 1;
     }
     None
 }
@@ -127,25 +104,17 @@ fn bad_in_action(w: &[u32], a: u32) -> Option<usize>
     ensures { result ≡ action_place w.now a }
 {
     let facts = facts_of(w, a);
-    let found = bad_in_group(w, facts.precondition);
-    match found {
-        Some(i) => Some(i),
-        None => bad_in_effects(w, facts.effects),
-    }
+    bad_in_group(w, facts.precondition).or_else(|| bad_in_effects(w, facts.effects))
 }
 
 // The first bad fact of all actions.
 fn bad_in_actions(w: &[u32]) -> Option<usize>
     ensures { result ≡ first_of (action_place w.now) 0 (actions_of w.now) }
 {
-    let n = actions(w);
-    let mut a = 0;
-    while a < n {
-        let found = bad_in_action(w, a as u32);
-        if let Some(i) = found {
+    for a in 0..actions(w) {
+        if let Some(i) = bad_in_action(w, a as u32) {
             return Some(i);
         }
-        a += 1;
     }
     None
 }
@@ -154,9 +123,5 @@ fn bad_in_actions(w: &[u32]) -> Option<usize>
 pub(crate) fn bad_fact_place(w: &[u32]) -> Option<usize>
     ensures { result ≡ fact_place w.now }
 {
-    let found = bad_in_group(w, goal(w));
-    match found {
-        Some(i) => Some(i),
-        None => bad_in_actions(w),
-    }
+    bad_in_group(w, goal(w)).or_else(|| bad_in_actions(w))
 }

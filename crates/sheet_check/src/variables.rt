@@ -35,13 +35,10 @@ fn bad_variable(w: &[u32], v: usize) -> bool
 pub(crate) fn bad_variable_place(w: &[u32]) -> Option<usize>
     ensures { result ≡ variable_place w.now }
 {
-    let n = variables(w);
-    let mut v = 0;
-    while v < n {
+    for v in 0..variables(w) {
         if bad_variable(w, v) {
             return Some(v);
         }
-        v += 1;
     }
     None
 }

@@ -9,25 +9,25 @@ use Rattle.mask.specs.Mask.{word_bits, binary}
 use Rattle.sheet.specs.Decode.{goal, action}
 use Rattle.sheet.specs.Between.Encode.{fact_word}
 use Rattle.plan.specs.Limits.{most_steps}
-use Rattle.fact_table.specs.Between.Tables.{most_facts, is_in, is_out, stamped, has_fact, wanted_before, goal_table}
+use Rattle.fact_table.specs.Between.Tables.{most_facts, stamped, has_fact, wanted_before, goal_table}
 
 -- which facts of an assignment the table t has
-abbrev pub flagged : List ℕ → Assignment → List Bool
+abbrev pub flagged : List Bool → Assignment → List Bool
 flagged t q = map (λ f. has_fact t (fact_word f)) q
 
 -- the bits of an assignment's facts, the first the lowest, as far as a word has bits
-unfoldable pub packed : List ℕ → Assignment → ℕ
+unfoldable pub packed : List Bool → Assignment → ℕ
 packed t q = binary (take word_bits (flagged t q))
 
 -- the table of what is wanted before the steps l, of which `flags` has those that are kept in any case
-unfoldable pub table_before : List ℕ → List ℕ → Reduction → List ℕ
+unfoldable pub table_before : List ℕ → List ℕ → Reduction → List Bool
 table_before w [] flags = goal_table w
 table_before w (a ∷ l) flags = wanted_before (table_before w l (drop 1 flags)) (action w a) (get_or flags 0 false)
 
 -- the table of what no step of l and not the goal needs
-unfoldable pub unneeded_behind : List ℕ → List ℕ → List ℕ
-unneeded_behind w [] = stamped (replicate most_facts is_in) (goal w) is_out
-unneeded_behind w (a ∷ l) = stamped (unneeded_behind w l) (needed (action w a)) is_out
+unfoldable pub unneeded_behind : List ℕ → List ℕ → List Bool
+unneeded_behind w [] = stamped (replicate most_facts true) (goal w) false
+unneeded_behind w (a ∷ l) = stamped (unneeded_behind w l) (needed (action w a)) false
 
 -- the bits of what the step at index i may write, by either table behind it
 unfoldable pub step_bits : List ℕ → List ℕ → Reduction → ℕ → ℕ

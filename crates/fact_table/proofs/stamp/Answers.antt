@@ -1,18 +1,14 @@
--- `stamp` meets its contract. The loop's invariant: stamping what is left makes of the table what stamping all makes, and no length changes. The measure is the number of words left. Assumes nothing.
-use Rattle.fact_table.proofs.StampLaws.{stamped_over, stamped_next}
-use Rattle.sheet.proofs.GroupLaws.{rest_shorter}
-use mathlib.Core.Path.{refl, sym, ◌∙◌}
-use Rattle.std.proofs.Common.{rules}
+-- `stamp` meets its contract: a fact that is taken is stamped, and none is left where none comes. Assumes nothing.
+use mathlib.Core.Path.{sym, ◌∙◌}
+use Rattle.fact_table.proofs.StampLaws.{stamped_none, stamped_first}
 use Rattle.fact_table.proofs.stamp.Goals as goal
 
-pub loop-rest-init : goal.loop-rest-init
-loop-rest-init c = (refl, refl)
-
-pub loop-rest-smaller : goal.loop-rest-smaller
-loop-rest-smaller c = rest_shorter _ _ c.rest-rest.ensures c.loop-rest-test.true
-
-pub loop-rest-preserved : goal.loop-rest-preserved
-loop-rest-preserved c = (rw (c.rest-rest.ensures, c.put8.ensures) (sym (stamped_next _ _ _ _ _ c.loop-rest-test.true c.first.ensures.0) ∙ c.loop-rest.invariant.0), search rules)
+pub loop-fact-preserved : goal.loop-fact-preserved
+loop-fact-preserved g c =
+    let laws : _ = g.met.F.Facts in
+    ((laws.goes_on _, laws.ends _), rw c.put.ensures (sym (stamped_first _ _ _ _ _ (laws.gives _ _ _ c.in-Some.ensures.steps)) ∙ c.loop-fact.invariant.1))
 
 pub returns : goal.returns
-returns c = sym (stamped_over _ _ _ _ c.loop-rest-test.false) ∙ c.loop-rest.invariant.0
+returns g c =
+    let whole : _ = sym (stamped_none _ _ _ (g.met.F.Facts.gives _ _ _ c.in-None.ensures.steps).0) ∙ c.loop-fact.invariant.1 in
+    rw (← c.into_iter-fact-iterator.ensures.into_iter_gives) whole

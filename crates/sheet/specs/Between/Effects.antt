@@ -1,11 +1,16 @@
 -- The effects of an action as the code goes through them, one by one. Assumes nothing.
-use Rattle.std.specs.Prelude.{ℕ, ◌+◌, min, cond, List, [], ◌∷◌, map, ltb}
+use Rattle.std.specs.Prelude.{ℕ, ◌+◌, ◌-◌, min, cond, List, [], ◌∷◌, map, ltb}
 use Rattle.sas.specs.Task.{Assignment, Effect}
 use Rattle.sas.specs.Plan.{unconditional}
 use Rattle.sheet.specs.declared.group.Group.{Group}
 use Rattle.sheet.specs.declared.effects.Effects.{Effects}
+use Rattle.sheet.specs.declared.effects.ReadEffect.{ReadEffect}
+use Rattle.sheet.specs.declared.effects.EachEffect.{EachEffect}
+use Rattle.sheet.specs.declared.effects.WrittenFacts.{WrittenFacts}
+use Rattle.sheet.specs.declared.effects.EffectPlaces.{EffectPlaces}
 use Rattle.sheet.specs.Layout.{word, effect_start, effect_end, has_conditions, effect_fact}
-use Rattle.sheet.specs.Decode.{fact_of, effects}
+use Rattle.sheet.specs.Decode.{fact_of, effect_words, effects}
+use Rattle.sheet.specs.Between.Group.{group_left}
 
 -- the effects of action a
 abbrev pub effects_of : List ℕ → ℕ → Effects
@@ -22,6 +27,21 @@ written_in w e = map (λ d. d.fact) (effects_in w e)
 -- those that they write always
 unfoldable pub always_in : List ℕ → Effects → Assignment
 always_in w e = unconditional (effects_in w e)
+
+-- the effects that are left of a walk along an action's, the facts that those of a walk along their facts may write, and
+-- what an effect that is read means
+abbrev pub effects_left : EachEffect → List Effect
+effects_left e = effects_in e.words.now e.rest
+
+abbrev pub written_left : WrittenFacts → Assignment
+written_left e = written_in e.words.now e.rest
+
+abbrev pub effect_read : ReadEffect → Effect
+effect_read e = record { condition = group_left e.condition; fact = fact_of e.fact }
+
+-- the words at which the effects that are left stand, where they have conditions
+abbrev pub places_left : EffectPlaces → List ℕ
+places_left e = effect_words e.words.now e.end e.at (e.end - e.at)
 
 -- where the fact of the first stands
 unfoldable pub fact_place : List ℕ → Effects → ℕ

@@ -2,6 +2,7 @@
 use Rattle.std.specs.Prelude.{ℕ, ◌+◌, ◌-◌, cond, List, ltb}
 use Rattle.sas.specs.Task.{Assignment}
 use Rattle.sheet.specs.declared.group.Group.{Group}
+use Rattle.sheet.specs.declared.group.GroupFacts.{GroupFacts}
 use Rattle.sheet.specs.Layout.{word, goal_start, goal_end, precondition_start, effect_start}
 use Rattle.sheet.specs.Decode.{facts}
 
@@ -16,6 +17,10 @@ needed_group w a = record { at = precondition_start w a; end = effect_start w a 
 -- the facts of a group
 unfoldable pub facts_in : List ℕ → Group → Assignment
 facts_in w g = facts w g.at g.end
+
+-- the facts that are left of a walk along a group
+abbrev pub group_left : GroupFacts → Assignment
+group_left f = facts_in f.words.now f.rest
 
 -- the word of a group's first fact
 abbrev pub first_fact : List ℕ → Group → ℕ

@@ -1,6 +1,5 @@
 -- `step::one::step` meets its contract: a sheet that is refused answers for the step, and for one that is accepted the step's own checks are left. Assumes nothing.
 use Rattle.step.proofs.StepLaws.{steps_refused, steps_tried}
-use Rattle.std.proofs.Common.{rules}
 use Rattle.step.proofs.one.step.Goals as goal
 
 pub returns-in-Ok : goal.returns-in-Ok
