@@ -1,11 +1,10 @@
 // A reduction on its way, told by its tally and its word of choices.
-ghost use Rattle.std.specs.Prelude.{◌≡◌, get_or};
+ghost use Rattle.std.specs.Prelude.{◌≡◌};
 ghost use Rattle.std.specs.Int.Bits.{bit_or};
 ghost use Rattle.tally.specs.Tally.{one_more, comparison};
 ghost use Rattle.reduced.specs.Between.Tallied.{is_less};
 ghost use Rattle.turns.specs.Between.Unpacked.{bit_of};
 
-use access::word;
 use mask::Mask;
 use tally::{Order, Tally};
 
@@ -39,13 +38,12 @@ fn bit(d: usize) -> u64
 }
 
 // Keeps unflagged step d too, at its cost.
-pub fn keep_step(costs: &[u32], d: usize, held: Chosen) -> Chosen
-    ensures { (result.tally ≡ one_more held.tally (get_or costs.now d 0))
+pub fn keep_step(cost: u32, d: usize, held: Chosen) -> Chosen
+    ensures { (result.tally ≡ one_more held.tally cost)
         × (result.bits ≡ bit_or held.bits (bit_of d)) }
 {
-    let tally = held.tally;
     Chosen {
-        tally: tally.add(word(costs, d)),
+        tally: held.tally.add(cost),
         bits: held.bits | bit(d),
     }
 }
