@@ -107,21 +107,23 @@ pub fn choices_of(words: &[u32], plan: &[u32], flags: &[bool], behind: &[Behind]
     ensures told { IfSome result
         (λ c. ChoicesTold words.now plan.now flags.now behind.now c) }
 {
-    let mut start = Row::new();
-    let mut steps = ArrayVec::<Choice, MOST>::new();
+    let mut choices = Choices {
+        start: Row::new(),
+        steps: ArrayVec::new(),
+    };
     for (i, &a) in plan.iter().enumerate() {
         if flag(flags, i) {
             let effects = facts_of(words, a).effects;
-            match steps.last_mut() {
+            match choices.steps.last_mut() {
                 Some(choice) => choice.pass(words, effects),
-                None => stamp(&mut start, ALL, effects.facts(words)),
+                None => stamp(&mut choices.start, ALL, effects.facts(words)),
             }
         } else {
             let bits = behind.get(i).copied().unwrap_or(Behind::NONE);
-            if steps.try_push(Choice::new(words, a, bits)).is_err() {
+            if choices.steps.try_push(Choice::new(words, a, bits)).is_err() {
                 return None;
             }
         }
     }
-    Some(Choices { start, steps })
+    Some(choices)
 }

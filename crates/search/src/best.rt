@@ -27,7 +27,8 @@ fn choose(words: &[u32], plan: &[u32], flags: &[bool], lodged: Tally) -> u64
     ensures { Begins words.now plan.now flags.now lodged result }
 {
     let behind = bits_behind(words, plan, flags);
-    let Some(choices) = choices_of(words, plan, flags, &behind) else {
+    let found = choices_of(words, plan, flags, &behind);
+    let Some(choices) = &found else {
         return 0;
     };
     let kept = Chosen {

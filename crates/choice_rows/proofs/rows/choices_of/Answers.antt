@@ -12,29 +12,26 @@ use Rattle.choice_rows.proofs.rows.choices_of.Goals.{then-flag+in-Some, then-fla
 use Rattle.choice_rows.proofs.rows.choices_of.Goals as goal
 
 pub loop-i-init : goal.loop-i-init
-loop-i-init c = rw c.new-steps.ensures (choosing_start _ _ _ _ _ c.new-start.ensures)
+loop-i-init c = rw c.new-2.ensures (choosing_start _ _ _ _ _ c.new.ensures)
 
 pub returns-then-is_err-clause-many : goal.returns-then-is_err-clause-many
 returns-then-is_err-clause-many c =
-    let full : length c.loop-i.steps.items ≡ 31 = search rules in
+    let full : length c.loop-i.choices.steps.items ≡ 31 = search rules in
     too_many _ _ _ _ _ _ _ c.loop-i.invariant full c.loop-i-test.true (sym c.flag.ensures ∙ c.if-flag.false)
 
 pub loop-i-preserved : goal.loop-i-preserved
 loop-i-preserved c =
     elim c.if-flag.branch [
-      | then-flag+in-Some w ↦ let some : 0 < length c.loop-i.steps.items = omega (arith, w.in-Some.ensures.item.3.0, ap length w.deref_mut.ensures.value) in
-          rw w.start-is
+      then-flag+in-Some w ↦ let some : 0 < length c.loop-i.choices.steps.items = omega (arith, w.in-Some.ensures.item.3.0, ap length w.deref_mut.ensures.value) in
+          rw w.choices-is
           (passed_more _ _ _ _ _ _ _ c.loop-i.invariant (sym c.flag.ensures ∙ w.if-flag.true) _ w.facts_of.ensures.1 some _
-          (ap (λ s. s.items) w.steps-is
-          ∙ last_passed _ _ _ _ _ w.deref_mut.ensures.value (w.in-Some.ensures.item.4 (omega arith) no_choice) w.pass.ensures))
-      | then-flag+in-None w ↦ let none : length c.loop-i.steps.items ≡ 0 = omega (arith, w.in-None.ensures.item.3, ap length w.deref_mut.ensures.value) in
-          let same : c.if-flag.steps.items ≡ c.loop-i.steps.items =
-          ap (λ s. s.items) w.steps-is ∙ rw w.deref_mut.ensures.value (refilled c.loop-i.steps.items c.loop-i.steps.items refl) in
-          rw (w.start-is, same)
+          (last_passed _ _ _ _ _ w.deref_mut.ensures.value (w.in-Some.ensures.item.4 (omega arith) no_choice) w.pass.ensures))
+      | then-flag+in-None w ↦ let none : length c.loop-i.choices.steps.items ≡ 0 = omega (arith, w.in-None.ensures.item.3, ap length w.deref_mut.ensures.value) in
+          rw (w.choices-is, w.deref_mut.ensures.value, refilled c.loop-i.choices.steps.items c.loop-i.choices.steps.items refl)
           (start_more _ _ _ _ _ _ _ c.loop-i.invariant (sym c.flag.ensures ∙ w.if-flag.true) _ w.facts_of.ensures.1 none _ (rw w.facts.ensures at w.stamp.ensures))
-      | else-flag+else-is_err w ↦ let adds : w.try_push.new.self.items ≡ c.loop-i.steps.items ++ w.new.result ∷ [] = search rules in
+      | else-flag+else-is_err w ↦ let adds : w.try_push.new.self.items ≡ c.loop-i.choices.steps.items ++ w.new-else-flag.result ∷ [] = search rules in
           let bits : w.unwrap_or-bits.result ≡ get_or c.args.behind.now c.loop-i.i no_bits =
           w.unwrap_or-bits.ensures ∙ rw w.copied.ensures (w.get.ensures.lookup.4 (omega arith) no_bits) in
-          rw w.start-is
-          (choice_more _ _ _ _ _ _ _ c.loop-i.invariant (sym c.flag.ensures ∙ w.if-flag.false) _ (ap (λ s. s.items) w.steps-is ∙ adds ∙ rw (w.new.ensures, bits)))
+          rw w.choices-is
+          (choice_more _ _ _ _ _ _ _ c.loop-i.invariant (sym c.flag.ensures ∙ w.if-flag.false) _ (adds ∙ rw (w.new-else-flag.ensures, bits)))
     ]

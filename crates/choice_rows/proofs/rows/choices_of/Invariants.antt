@@ -3,4 +3,4 @@ use Rattle.choice_rows.proofs.ChoosingLaws.{Choosing}
 use Rattle.choice_rows.proofs.rows.choices_of.Given as goal
 
 abbrev pub invariant-loop-i : goal.invariant-loop-i
-invariant-loop-i l = Choosing l.words l.plan l.flags l.behind l.start l.steps.items l.i
+invariant-loop-i l = Choosing l.words l.plan l.flags l.behind l.choices.start l.choices.steps.items l.i

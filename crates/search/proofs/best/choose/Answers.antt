@@ -6,6 +6,6 @@ use Rattle.search.proofs.best.choose.Goals as goal
 
 pub returns : goal.returns
 returns c =
-    let told = c.in-Some.ensures.told in
+    let told = rw c.in-Some.is at c.choices_of-found.ensures.told in
     begins _ _ _ _ _ c.bits_behind-behind.ensures _ told _ _ c.start.ensures c.write_over-state.ensures _ _ _ c.tally_of.ensures refl refl
     (rw c.len.ensures.value at c.all_chosen.ensures) (rw c.as_slice-steps.ensures.value at (both_told _ _ _ _ _ _ c.keep.result c.strike-struck.ensures c.keep.ensures))
