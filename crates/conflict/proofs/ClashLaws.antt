@@ -1,11 +1,11 @@
 -- An action's effects, each against those behind it, by the cases of a loop along them: none is left, or one more is. A place behind the effects of the first
 -- one's fact serves the next effect too: it is passed on, or skipped to anew. Assumes nothing.
-use Prim.Native.Nat.{ℕ, ◌/◌, ◌≤◌, ◌<◌}
+use Prim.Native.Nat.{ℕ, ◌/◌}
 use mathlib.Core.Path.{◌≡◌, refl, sym, ◌∙◌, ap}
-use mathlib.Core.Bool.{Bool, true, false, false≢true, not, and-false}
+use mathlib.Core.Bool.{Bool, true, false, not, and-false}
 use mathlib.Core.List.{List, [], ◌∷◌}
-use lib.Dec.{ltb, eqb}
-use borrow.Author.Tests.{eq-eqb, ne_eqb, eqb-true, eqb-false, ltb-true, ltb-false}
+use lib.Dec.{eqb}
+use borrow.Author.Tests.{eq-eqb, ne_eqb, eqb-true, eqb-false}
 use Rattle.sas.specs.Task.{Assignment, State, Effect}
 use Rattle.sas.specs.Plan.{assign}
 use Rattle.sas.specs.Conflict.{some_of}
@@ -16,11 +16,10 @@ use Rattle.sheet.specs.Limits.{limits}
 use Rattle.sheet.specs.Decode.{fact_of, action}
 use Rattle.sheet.specs.Between.Encode.{fact_word}
 use Rattle.sheet.specs.Between.Group.{needed_group, facts_in}
-use Rattle.sheet.specs.Between.Effects.{effects_of, effects_in, first_written, first_condition, rest_effects}
-use Rattle.sheet.proofs.EffectLaws.{effects_over, effects_next}
+use Rattle.sheet.specs.Between.Effects.{effects_of, effects_in}
 use Rattle.sheet.proofs.FactWords.{word_of_fact}
 use Rattle.conflict.specs.Between.Table.{blank, denies}
-use Rattle.conflict.specs.Between.Clash.{first_effect, beyond, first_writes, some_fits, clashes, some_clash, beside, neighbours}
+use Rattle.conflict.specs.Between.Clash.{beyond, first_writes, some_fits, clashes, some_clash, beside, neighbours, some_beside}
 
 pub beyond_nothing : (x : ℕ) → beyond x [] ≡ []
 unfolding beyond
@@ -69,131 +68,126 @@ ahead_next d es e later same = by_case (eqb (fact_word e.fact) (fact_word d.fact
         rw (same, beyond_more x e later alike, alike) (sym (beyond_again x later))
     by_case false h = rw (same, beyond_here x e later (eqb-false _ _ h)) (sym (beyond_more y e later refl))
 
-module _ (w : List ℕ) (e : Effects) where
-  -- past the end nothing is left to pass
-  pub skipped_over : (x : ℕ) → e.end ≤ e.at → effects_in w e ≡ beyond x (effects_in w e)
-  skipped_over x over = rw (effects_over w e over) (sym (beyond_nothing x))
+-- an effect that is read: its condition, and the word of its fact
+abbrev pub read : Assignment → ℕ → Effect
+read q x = record { condition = q; fact = fact_of x }
 
-  pub first_writes_none : (v : ℕ) → e.end ≤ e.at → false ≡ first_writes v (effects_in w e)
+module _ (es : List Effect) where
+  -- where no effect is left, none is passed, and none fits, clashes or has a neighbour
+  pub past_over : (x : ℕ) → es ≡ [] → es ≡ beyond x es
+  past_over x over = rw over (sym (beyond_nothing x))
+
+  pub first_writes_none : (v : ℕ) → es ≡ [] → false ≡ first_writes v es
   unfolding first_writes
-  first_writes_none v over = rw (effects_over w e over)
+  first_writes_none v over = rw over
 
-  pub clash_over : (q : Assignment) → e.end ≤ e.at → some_clash q (effects_in w e) ≡ false
+  pub fits_over : (t : State) (v : ℕ) → es ≡ [] → some_fits t v es ≡ false
+  unfolding some_fits
+  fits_over t v over = rw over
+
+  pub clash_over : (q : Assignment) → es ≡ [] → some_clash q es ≡ false
   unfolding some_clash
-  clash_over q over = rw (effects_over w e over)
+  clash_over q over = rw over
 
-  module _ (h : e.at < e.end) where
-    module _ (x y : ℕ) (read : x ≡ first_written w e) where
-      its_word : fact_word (first_effect w e).fact ≡ x
-      its_word = word_of_fact (first_written w e) ∙ sym read
+  pub neighbours_over : (x : ℕ) → es ≡ [] → neighbours x es ≡ false
+  unfolding neighbours
+  neighbours_over x over = rw over
 
-      pub skipped_here : (x ≡ y → ⊥) → effects_in w e ≡ beyond y (effects_in w e)
-      skipped_here other = rw (effects_next w e h) (sym (beyond_here y (first_effect w e) _ (λ same. other (sym its_word ∙ same))))
+  pub beside_over : es ≡ [] → false ≡ some_beside es
+  unfolding some_beside
+  beside_over over = rw over
 
-      pub skipped_next : x ≡ y → beyond y (effects_in w e) ≡ beyond y (effects_in w (rest_effects w e))
-      skipped_next same = rw (effects_next w e h) (beyond_more y (first_effect w e) _ (its_word ∙ same))
+  -- where one is left, its fact's word is x
+  module _ (q : Assignment) (x : ℕ) (later : List Effect) (first : es ≡ read q x ∷ later) where
+    pub past_here : (y : ℕ) → (x ≡ y → ⊥) → es ≡ beyond y es
+    past_here y other = rw first (sym (beyond_here y (read q x) later (λ same. other (sym (word_of_fact x) ∙ same))))
 
-    pub first_writes_tested : (v x : ℕ) → x ≡ first_written w e → eqb (fact_of x).variable v ≡ first_writes v (effects_in w e)
+    pub past_next : (y : ℕ) → x ≡ y → beyond y es ≡ beyond y later
+    past_next y same = rw first (beyond_more y (read q x) later (word_of_fact x ∙ same))
+
+    pub first_writes_told : (v : ℕ) → eqb (fact_of x).variable v ≡ first_writes v es
     unfolding first_writes
-    first_writes_tested v x read = rw (effects_next w e h, ← read)
+    first_writes_told v = rw first
+
+    pub fits_apart : (t : State) (v : ℕ) → ((fact_of x).variable ≡ v → ⊥) → some_fits t v es ≡ false
+    unfolding some_fits
+    fits_apart t v other = rw (first, ne_eqb (fact_of x).variable v other)
+
+    pub fits_here : (t : State) (v : ℕ) (b : Bool) → (fact_of x).variable ≡ v → b ≡ some_of (denies t) q → b ≡ false → some_fits t v es ≡ true
+    unfolding some_fits
+    fits_here t v b same denied fits = rw (first, eq-eqb (fact_of x).variable v same, ← denied, fits)
+
+    pub fits_later : (t : State) (v : ℕ) (b : Bool) → (fact_of x).variable ≡ v → b ≡ some_of (denies t) q → b ≡ true → some_fits t v es ≡ some_fits t v later
+    unfolding some_fits
+    fits_later t v b same denied fails = rw (first, eq-eqb (fact_of x).variable v same, ← denied, fails)
+
+    pub neighbours_here : (y : ℕ) (b : Bool) → b ≡ beside y (fact_of x) → b ≡ true → neighbours y es ≡ true
+    unfolding neighbours
+    neighbours_here y b tested close = rw (first, ← tested, close)
+
+    pub neighbours_later : (y : ℕ) (b : Bool) → b ≡ beside y (fact_of x) → b ≡ false → neighbours y es ≡ neighbours x later
+    unfolding neighbours
+    neighbours_later y b tested apart = rw (first, ← tested, apart, word_of_fact x)
+
+    pub beside_first : neighbours x later ≡ some_beside es
+    unfolding some_beside
+    beside_first = rw (first, word_of_fact x)
+
+    -- and what stands behind the effects of its fact is found from a place ahead of it
+    module _ (behind further : List Effect) (ahead : Ahead es behind) (passed : further ≡ beyond x behind) where
+      stands_behind : further ≡ beyond (fact_word (fact_of x)) later
+      stands_behind = passed ∙ ap (λ y. beyond y behind) (sym (word_of_fact x)) ∙ sym (ahead (read q x) later first)
+
+      pub still_ahead : Ahead later further
+      still_ahead = rw stands_behind (ahead_next (read q x) later)
+
+      module _ (p : Assignment) (r : Bool) (found : r ≡ clashes p (read q x) further) where
+        pub clash_here : r ≡ true → some_clash p es ≡ true
+        unfolding some_clash
+        clash_here clash = rw (first, ← stands_behind, ← found, clash)
+
+        pub clash_later : r ≡ false → some_clash p es ≡ some_clash p later
+        unfolding some_clash
+        clash_later none = rw (first, ← stands_behind, ← found, none)
 
 -- where no effect that writes the variable comes first, none fits
-pub fits_none : (t : State) (v : ℕ) (es : List Effect) → first_writes v es ≡ false → some_fits t v es ≡ false
+fits_none : (t : State) (v : ℕ) (es : List Effect) → first_writes v es ≡ false → some_fits t v es ≡ false
 unfolding first_writes some_fits
 fits_none t v [] h = refl
 fits_none t v (e ∷ es) h = rw h
 
-module _ (w : List ℕ) (e : Effects) (v : ℕ) (h : first_writes v (effects_in w e) ≡ true) where
-  -- where one does, some are left
-  pub first_writes_some : e.at < e.end
-  first_writes_some = by_case (ltb e.at e.end) refl
-    where
-      by_case : (b : Bool) → ltb e.at e.end ≡ b → e.at < e.end
-      by_case true k = ltb-true _ _ k
-      by_case false k = absurd (false≢true (first_writes_none w e v (ltb-false _ _ k) ∙ h))
-
-  its_variable : eqb (first_effect w e).fact.variable v ≡ true
-  its_variable = first_writes_tested w e first_writes_some v (first_written w e) refl ∙ h
-
-  module _ (t : State) (g : Group) (b : Bool) (condition : g ≡ first_condition w e) (tested : b ≡ some_of (denies t) (facts_in w g)) where
-    denied : b ≡ some_of (denies t) (facts_in w (first_condition w e))
-    denied = rw condition at tested
-
-    pub fits_here : b ≡ false → some_fits t v (effects_in w e) ≡ true
-    unfolding some_fits
-    fits_here fits = rw (effects_next w e first_writes_some, its_variable, ← denied, fits)
-
-    pub fits_later : b ≡ true → some_fits t v (effects_in w e) ≡ some_fits t v (effects_in w (rest_effects w e))
-    unfolding some_fits
-    fits_later fails = rw (effects_next w e first_writes_some, its_variable, ← denied, fails)
-
 -- an effect against those behind it, by the tests in turn
-module _ (w : List ℕ) (p : Group) (e : Effects) (es : List Effect) (x : ℕ) (read : x ≡ first_written w e) where
+module _ (p q : Assignment) (x : ℕ) (es : List Effect) where
   -- none behind it writes its variable
-  pub clash_apart : first_writes (fact_of x).variable es ≡ false → false ≡ clashes (facts_in w p) (first_effect w e) es
+  pub clash_apart : first_writes (fact_of x).variable es ≡ false → false ≡ clashes p (read q x) es
   unfolding clashes
   clash_apart apart =
-      rw (word_of_fact (first_written w e), ← read, fits_none (assign (assign blank (facts_in w p)) (facts_in w (first_condition w e))) (fact_of x).variable es apart) (sym (and-false (not (some_of (denies (assign blank (facts_in w p))) (facts_in w (first_condition w e))))))
+      rw (word_of_fact x, fits_none (assign (assign blank p) q) (fact_of x).variable es apart) (sym (and-false (not (some_of (denies (assign blank p)) q))))
 
-  module _ (t : State) (g : Group) (b : Bool) (noted : t ≡ assign blank (facts_in w p)) (condition : g ≡ first_condition w e) (tested : b ≡ some_of (denies t) (facts_in w g)) where
-    told : b ≡ some_of (denies (assign blank (facts_in w p))) (facts_in w (first_condition w e))
-    told = rw (noted, condition) at tested
+  module _ (t : State) (b : Bool) (noted : t ≡ assign blank p) (tested : b ≡ some_of (denies t) q) where
+    told : b ≡ some_of (denies (assign blank p)) q
+    told = rw noted at tested
 
     -- the precondition denies its condition
-    pub clash_denied : b ≡ true → false ≡ clashes (facts_in w p) (first_effect w e) es
+    pub clash_denied : b ≡ true → false ≡ clashes p (read q x) es
     unfolding clashes
     clash_denied denied = rw (← told, denied)
 
     -- or does not
-    pub clash_fits : (u : State) (r : Bool) → b ≡ false → u ≡ assign t (facts_in w g) → r ≡ some_fits u (fact_of x).variable es → r ≡ clashes (facts_in w p) (first_effect w e) es
+    pub clash_fits : (u : State) (r : Bool) → b ≡ false → u ≡ assign t q → r ≡ some_fits u (fact_of x).variable es → r ≡ clashes p (read q x) es
     unfolding clashes
     clash_fits u r passed both found =
-        let noted_both : u ≡ assign (assign blank (facts_in w p)) (facts_in w (first_condition w e)) = rw (noted, condition) at both in
-        found ∙ rw (word_of_fact (first_written w e), ← told, passed, ← noted_both, ← read)
-
--- all effects, each in turn: the first of those left, and what stands behind the effects of its fact
-module _ (w : List ℕ) (e behind further : Effects) (h : e.at < e.end) (x : ℕ) (read : x ≡ first_written w e) (ahead : Ahead (effects_in w e) (effects_in w behind))
-    (skipped : effects_in w further ≡ beyond x (effects_in w behind)) where
-  stands_behind : effects_in w further ≡ beyond (fact_word (first_effect w e).fact) (effects_in w (rest_effects w e))
-  stands_behind =
-      let its_word : x ≡ fact_word (first_effect w e).fact = read ∙ sym (word_of_fact (first_written w e)) in
-      skipped ∙ ap (λ y. beyond y (effects_in w behind)) its_word ∙ sym (ahead (first_effect w e) (effects_in w (rest_effects w e)) (effects_next w e h))
-
-  pub still_ahead : Ahead (effects_in w (rest_effects w e)) (effects_in w further)
-  still_ahead = rw stands_behind (ahead_next (first_effect w e) (effects_in w (rest_effects w e)))
-
-  module _ (q : Assignment) (r : Bool) (found : r ≡ clashes q (first_effect w e) (effects_in w further)) where
-    pub clash_here : r ≡ true → some_clash q (effects_in w e) ≡ true
-    unfolding some_clash
-    clash_here clash = rw (effects_next w e h, ← stands_behind, ← found, clash)
-
-    pub clash_later : r ≡ false → some_clash q (effects_in w e) ≡ some_clash q (effects_in w (rest_effects w e))
-    unfolding some_clash
-    clash_later none = rw (effects_next w e h, ← stands_behind, ← found, none)
+        let noted_both : u ≡ assign (assign blank p) q = rw noted at both in
+        found ∙ rw (word_of_fact x, ← told, passed, ← noted_both)
 
 -- two facts by their words: one is beside the other, or not
-pub beside_same : (x y : ℕ) → y ≡ x → false ≡ beside x (fact_of y)
+pub beside_same : (x y : ℕ) → y ≡ x → not (eqb y x) ≡ beside x (fact_of y)
 unfolding beside
 beside_same x y same = rw (word_of_fact y, eq-eqb y x same)
 
 pub beside_other : (x y : ℕ) → (y ≡ x → ⊥) → eqb (y / limits.values) (x / limits.values) ≡ beside x (fact_of y)
 unfolding beside
 beside_other x y other = rw (word_of_fact y, ne_eqb y x other)
-
--- neighbours, by the cases of a loop along the effects
-module _ (w : List ℕ) (e : Effects) (x : ℕ) where
-  pub neighbours_over : e.end ≤ e.at → neighbours x (effects_in w e) ≡ false
-  unfolding neighbours
-  neighbours_over over = rw (effects_over w e over)
-
-  module _ (h : e.at < e.end) (y : ℕ) (read : y ≡ first_written w e) (b : Bool) (tested : b ≡ beside x (fact_of y)) where
-    pub neighbours_here : b ≡ true → neighbours x (effects_in w e) ≡ true
-    unfolding neighbours
-    neighbours_here close = rw (effects_next w e h, ← read, ← tested, close)
-
-    pub neighbours_later : b ≡ false → neighbours x (effects_in w e) ≡ neighbours y (effects_in w (rest_effects w e))
-    unfolding neighbours
-    neighbours_later apart = rw (effects_next w e h, ← read, ← tested, apart, word_of_fact y)
 
 -- where there are none, what stands behind an effect and those of its fact does not begin with its variable
 first_apart : (x : ℕ) (es : List Effect) → neighbours x es ≡ false → first_writes (x / limits.values) (beyond x es) ≡ false
@@ -221,6 +215,11 @@ none_beside q x (d ∷ es) none =
       and-false (not (some_of (denies (assign blank q)) d.condition)),
       none_beside q (fact_word d.fact) es later,
     )
+
+pub none_neighbours : (q : Assignment) (es : List Effect) → some_beside es ≡ false → some_clash q es ≡ false
+unfolding some_beside neighbours beside
+none_neighbours q [] none = none_beside q 0 [] none
+none_neighbours q (e ∷ es) none = none_beside q (fact_word e.fact) (e ∷ es) (rw (eq-eqb (fact_word e.fact) (fact_word e.fact) refl) none)
 
 -- and they are those of the action
 pub clash_of : (w : List ℕ) (a : ℕ) (p : Group) (e : Effects) → p ≡ needed_group w a → e ≡ effects_of w a

@@ -1,12 +1,12 @@
 -- A table stamped with facts: by the cases of a loop along them, and what stands at a fact afterwards, by list induction, since two facts with values below
 -- the limit have one word only where they are the same. Assumes nothing.
-use Prim.Native.Nat.{ℕ, ◌≤◌, ◌<◌}
+use Prim.Native.Nat.{ℕ, ◌<◌}
 use native.Mathlib.Omega.{arith}
 use mathlib.Core.Path.{◌≡◌, refl, sym, ◌∙◌, ap}
 use mathlib.Core.Bool.{Bool, true, false, cond, true≢false}
 use mathlib.Core.List.{List, [], ◌∷◌, Memᴰ}
 use lib.ListN.{length, get_or, set, length-set}
-use lib.Seq.{set_out, get_or-set_same, get_or-set_other}
+use lib.Seq.{get_or-set_same, get_or-set_other}
 use Rattle.sas.specs.Task.{Fact, Assignment}
 use Rattle.reduction.specs.Between.Wanted.{same_fact, has}
 use Rattle.sas.specs.Conflict.{some_of}
@@ -26,10 +26,6 @@ stamped_none t q x none = rw none
 pub stamped_first : (t : List Bool) (q later : Assignment) (x : Bool) (y : ℕ) → q ≡ fact_of y ∷ later → stamped t q x ≡ stamped (set t y x) later x
 unfolding stamped
 stamped_first t q later x y first = rw first (ap (λ j. stamped (set t j x) later x) (word_of_fact y))
-
--- which writes nothing past the end of the table
-pub stamped_past : (t : List Bool) (q later : Assignment) (x : Bool) (y : ℕ) → q ≡ fact_of y ∷ later → length t ≤ y → stamped t q x ≡ stamped t later x
-stamped_past t q later x y first past = stamped_first t q later x y first ∙ ap (λ u. stamped u later x) (set_out t y x past)
 
 pub stamped_length : (t : List Bool) (q : Assignment) (x : Bool) → length (stamped t q x) ≡ length t
 unfolding stamped

@@ -7,7 +7,7 @@ ghost use Rattle.sheet.specs.Between.Effects.{written_in};
 ghost use Rattle.sheet.specs.Between.Group.{facts_in};
 ghost use Rattle.fact_table.specs.Between.Tables.{stamped, has_fact, passed_back};
 
-use access::flag;
+use access::{get_or, put};
 use sheet::group::{ActionFacts, Facts};
 use sheet::limits::Sheet;
 
@@ -19,10 +19,7 @@ pub fn stamp<F: Facts>(table: &mut [bool], facts: F, x: bool)
     ensures { table.new ≡ stamped table.old (F.facts_left facts) x }
 {
     for fact in facts {
-        let at = fact as usize;
-        if at < table.len() {
-            table[at] = x;
-        }
+        put(table, fact as usize, x);
     }
 }
 
@@ -30,7 +27,7 @@ pub fn stamp<F: Facts>(table: &mut [bool], facts: F, x: bool)
 pub fn has(table: &[bool], fact: u32) -> bool
     ensures { result ≡ has_fact table.now fact }
 {
-    flag(table, fact as usize)
+    get_or(table, fact as usize, false)
 }
 
 // Makes a table of the facts that are wanted behind a step one of those that are wanted before it: what the step may

@@ -28,26 +28,10 @@ fn pass_along(
     let mut traces = [0u8; TRACES];
     let mut latest = start(words);
     walk(words, plan, flags, &mut traces, &mut latest, rows);
-    note(words, &traces, rows, plan.len() + 1, goal(words));
+    note(&traces, rows, plan.len() + 1, goal(words).facts(words));
     let mut next = *flags;
     close(words, plan, rows, &mut next);
     next
-}
-
-// Whether the flags are the same. They are read as slices, since a proof is told how long those are.
-fn same(a: &[bool; POSITIONS], b: &[bool; POSITIONS]) -> bool
-    ensures { result ≡ true → a.now ≡ b.now }
-{
-    let ones: &[bool] = a;
-    let others: &[bool] = b;
-    let mut i = 0;
-    while i < POSITIONS {
-        if ones[i] != others[i] {
-            return false;
-        }
-        i += 1;
-    }
-    true
 }
 
 // The flags of the positions of a plan of n steps with start and end alone marked.
@@ -61,18 +45,13 @@ fn ends(n: usize) -> [bool; POSITIONS]
     flags
 }
 
-// The flags of the n steps of a plan among those of its positions, which are read as a slice likewise.
+// The flags of the n steps of a plan among those of its positions.
 fn of_steps(flags: &[bool; POSITIONS], n: usize) -> [bool; Plan::STEPS]
     requires { n ≤ most_steps }
     ensures { result ≡ steps_held n flags.now }
 {
-    let positions: &[bool] = flags;
     let mut steps = [false; Plan::STEPS];
-    let mut i = 0;
-    while i < n {
-        steps[i] = positions[i + 1];
-        i += 1;
-    }
+    steps[..n].copy_from_slice(&flags[1..n + 1]);
     steps
 }
 
@@ -88,14 +67,12 @@ pub(crate) fn landmarks(words: &[u32], plan: &[u32]) -> [bool; Plan::STEPS]
     }
     let mut rows = [0u8; ROWS];
     let mut flags = ends(n);
-    let mut r = 0;
-    while r < n {
+    for _ in 0..n {
         let next = pass_along(words, plan, &flags, &mut rows);
-        if same(&next, &flags) {
+        if next == flags {
             return of_steps(&flags, n);
         }
         flags = next;
-        r += 1;
     }
     of_steps(&flags, n)
 }

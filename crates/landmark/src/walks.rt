@@ -9,7 +9,7 @@ ghost use Rattle.plan.specs.Valid.{steps};
 ghost use Rattle.landmark.specs.Between.Passes.{framed_list, walk_tables, walked, closed};
 
 use crate::rows::{note, raise_marked};
-use access::flag;
+use access::get_or;
 use sheet::group::{Group, facts_of, goal};
 use trace::traces::write_effects;
 
@@ -39,13 +39,11 @@ pub(crate) fn walk(
         ≡ walked flags.now 1 (steps words.now plan.now)
         (walk_tables traces.old latest.old rows.old) }
 {
-    let mut i = 0;
-    while i < plan.len() {
-        let facts = facts_of(words, plan[i]);
-        note(words, traces, rows, i + 1, facts.precondition);
-        let marked = flag(flags, i + 1);
+    for (i, a) in plan.iter().enumerate() {
+        let facts = facts_of(words, *a);
+        note(traces, rows, i + 1, facts.precondition.facts(words));
+        let marked = get_or(flags, i + 1, false);
         write_effects(words, traces, latest, (i + 1) as u8, marked, facts.effects);
-        i += 1;
     }
 }
 
@@ -56,9 +54,7 @@ pub(crate) fn close(words: &[u32], plan: &[u32], rows: &[u8], flags: &mut [bool]
         ≡ closed rows.now (framed_list words.now plan.now)
         (suc (suc (length plan.now))) flags.old }
 {
-    let mut i = plan.len() + 1;
-    while 0 < i {
-        raise_marked(words, rows, flags, i, needs_at(words, plan, i - 1));
-        i -= 1;
+    for i in (0..plan.len() + 1).rev() {
+        raise_marked(rows, flags, i + 1, needs_at(words, plan, i).facts(words));
     }
 }

@@ -58,6 +58,21 @@ module _ (w : List ℕ) (end : ℕ) where
       ap (effect_words w end i) more ∙ effect_words_next i (end - i - 1) h
       ∙ ap (λ l. i ∷ l) (effect_words_enough (effect_fact w end i + 1) (end - i - 1) (omega arith))
 
+  -- the first of them, and those behind it, which are fewer
+  module _ (i next : ℕ) (h : i < end) (behind : next ≡ min (effect_fact w end i + 1) end) where
+    pub effect_words_first : effect_words w end i (end - i) ≡ i ∷ effect_words w end next (end - next)
+    effect_words_first = effect_words_all i h ∙ ap (λ l. i ∷ l) (by_case (ltb (effect_fact w end i + 1) end) refl)
+      where
+        by_case : (b : Bool) → ltb (effect_fact w end i + 1) end ≡ b
+            → effect_words w end (effect_fact w end i + 1) (end - (effect_fact w end i + 1)) ≡ effect_words w end next (end - next)
+        by_case true e = let same : next ≡ effect_fact w end i + 1 = omega (arith, behind, ltb-true _ _ e) in rw same
+        by_case false e =
+            let past : end ≤ effect_fact w end i + 1 = ltb-false _ _ e in
+            effect_words_over (effect_fact w end i + 1) _ past ∙ sym (effect_words_over next _ (omega (arith, behind)))
+
+    pub fewer_words : length (effect_words w end next (end - next)) < length (effect_words w end i (end - i))
+    fewer_words = rw effect_words_first (omega arith)
+
 module _ (w : List ℕ) where
   pub effects_none : (conditional : Bool) (i end : ℕ) → end ≤ i → effects conditional w i end ≡ []
   unfolding effects

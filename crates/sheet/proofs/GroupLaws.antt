@@ -2,10 +2,12 @@
 -- of an action's precondition are. By the laws of the facts among words. Assumes nothing.
 use Prim.Native.Nat.{ℕ, ◌+◌, ◌-◌, ◌≤◌, ◌<◌}
 use native.Mathlib.Omega.{arith}
-use mathlib.Core.Path.{◌≡◌, refl}
+use mathlib.Core.Path.{◌≡◌, refl, sym, ◌∙◌, ap}
+use mathlib.Core.Bool.{true}
 use mathlib.Core.List.{List, [], ◌∷◌, ◌++◌}
 use lib.ListN.{length}
-use borrow.Author.Tests.{lt-ltb, le-ltb}
+use lib.Dec.{leb}
+use borrow.Author.Tests.{lt-ltb, le-ltb, leb-true, le-leb}
 use Rattle.sas.specs.Plan.{needed}
 use Rattle.sheet.specs.declared.group.Group.{Group}
 use Rattle.sheet.specs.Layout.{word}
@@ -65,6 +67,10 @@ module _ (w : List ℕ) (g : Group) where
   pub fewer_final : g.at < g.end → length (facts_in w (record { at = g.at; end = g.end - 1 })) < length (facts_in w g)
   unfolding facts_in
   fewer_final h = rw (facts_length w g.at g.end, facts_length w g.at (g.end - 1)) (omega arith)
+
+  pub group_empty : (leb g.end g.at ≡ true → facts_in w g ≡ []) × (facts_in w g ≡ [] → leb g.end g.at ≡ true)
+  unfolding facts_in
+  group_empty = (λ past. group_over (leb-true _ _ past), λ none. le-leb g.end g.at (omega (arith, sym (facts_length w g.at g.end) ∙ ap length none)))
 
   -- the word of the last fact of a group that has one, and of one that has none
   pub last_fact_some : g.at < g.end → last_fact w g ≡ word w (g.end - 1)

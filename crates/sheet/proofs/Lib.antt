@@ -26,3 +26,5 @@ pub mod PassLaws
 pub mod AcceptedLaid
 -- EncodeTheorem: a task is written as an accepted sheet that means it, and an accepted sheet is how the task that it means is written.
 pub mod EncodeTheorem
+-- AssignLaws: what facts write among values.
+pub mod AssignLaws

@@ -1,14 +1,14 @@
 // The effects of an action. How they lie among the words is known here and to the sheet's own checks alone: every other
 // function goes through them one by one, from the first.
-ghost use Rattle.std.specs.Prelude.{◌≡◌, ◌<◌, ◌^◌};
-ghost use Rattle.std.specs.Iterator.{YieldsFirstBy, item_count};
-ghost use Rattle.sheet.specs.Decode.{fact_of};
+ghost use Rattle.std.specs.Prelude.{◌≡◌, ◌<◌, ◌-◌, ◌^◌};
+ghost use Rattle.std.specs.Iterator.{YieldsFirst, YieldsFirstBy, item_count};
+ghost use Rattle.sheet.specs.Decode.{fact_of, effect_words};
 ghost use Rattle.sheet.specs.Between.Effects.{fact_place, first_written, first_condition, rest_effects};
-ghost use Rattle.sheet.specs.Between.Effects.{effects_in, written_in, effects_left, written_left, effect_read};
+ghost use Rattle.sheet.specs.Between.Effects.{effects_in, written_in, effects_left, written_left, effect_read, places_left};
 
 use crate::group::{Facts, Group, GroupFacts};
 use crate::layout::effect_fact;
-use access::word;
+use access::get_or;
 
 // The effects of an action, or what is left of them: from word `at` up to, not including, word `end`. In edition 1 each
 // is a fact; in edition 2 each has a condition.
@@ -54,7 +54,7 @@ impl Effects {
     pub fn first(self, w: &[u32]) -> u32
         ensures { (result ≡ first_written w.now self) × (result < 2 ^ 32) }
     {
-        word(w, self.fact_place(w))
+        get_or(w, self.fact_place(w), 0)
     }
 
     // The condition of the first of them, which is empty in edition 1.
@@ -167,4 +167,39 @@ impl<'a> Facts for WrittenFacts<'a> {
     ghost ends = { λ s. tt };
 
     ghost gives = { λ s r t h. h };
+}
+
+// The words at which the effects with conditions that are left of an action's stand.
+#[derive(Clone, Copy, Drop)]
+pub struct EffectPlaces<'a> {
+    words: &'a [u32],
+    at: usize,
+    end: usize,
+}
+
+impl<'a> EffectPlaces<'a> {
+    // Those of the effects that stand from word `at` up to, not including, word `end`.
+    pub fn new(words: &'a [u32], at: usize, end: usize) -> EffectPlaces<'a>
+        ensures { places_left result ≡ effect_words words.now end at (end - at) }
+    {
+        EffectPlaces { words, at, end }
+    }
+}
+
+impl<'a> Iterator for EffectPlaces<'a> {
+    type Item = usize;
+
+    ghost next_gives = { YieldsFirst places_left };
+
+    ghost remaining = { item_count places_left };
+
+    fn next(&mut self) -> Option<usize> {
+        if self.at < self.end {
+            let place = self.at;
+            let fact = effect_fact(self.words, self.end, place);
+            self.at = fact.saturating_add(1).min(self.end);
+            return Some(place);
+        }
+        None
+    }
 }

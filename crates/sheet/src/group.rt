@@ -1,7 +1,8 @@
 // The groups of facts of a sheet, the goal and each action's precondition, and where an action's effects stand. How a
 // group's facts lie among the words is known here and to the sheet's own checks alone: every other function goes
 // through a group fact by fact, from the first or from the last.
-ghost use Rattle.std.specs.Prelude.{◌≡◌, ◌<◌, ◌^◌, ℕ, Option};
+ghost use Rattle.std.specs.Prelude.{◌≡◌, ◌<◌, ◌^◌, ℕ, Option, []};
+ghost use Rattle.std.specs.Bool.{Decides};
 ghost use Rattle.std.specs.Iterator.{YieldsFirstBy, YieldsLastBy, IsFinite, item_count};
 ghost use Rattle.sas.specs.Task.{Assignment};
 ghost use Rattle.sheet.specs.Decode.{fact_of};
@@ -11,7 +12,7 @@ ghost use Rattle.sheet.specs.Between.Effects.{effects_of};
 
 use crate::effects::Effects;
 use crate::layout::{ACTION_HEADER, FIRST_ACTION, GOAL, has_conditions, number, offset, size};
-use access::word;
+use access::get_or;
 
 // A group of facts, or what is left of one: from word `at` up to, not including, word `end`.
 #[derive(Clone, Copy)]
@@ -25,7 +26,7 @@ impl Group {
     pub fn first(self, w: &[u32]) -> u32
         ensures { (result ≡ first_fact w.now self) × (result < 2 ^ 32) }
     {
-        word(w, self.at)
+        get_or(w, self.at, 0)
     }
 
     // Its facts from the first on.
@@ -56,7 +57,7 @@ impl Group {
         ensures { (result ≡ last_fact w.now self) × (result < 2 ^ 32) }
     {
         if self.at < self.end {
-            return word(w, self.end - 1);
+            return get_or(w, self.end - 1, 0);
         }
         0
     }
@@ -94,6 +95,15 @@ pub struct GroupFacts<'a> {
     rest: Group,
 }
 
+impl<'a> GroupFacts<'a> {
+    // Whether none is left.
+    pub fn is_empty(&self) -> bool
+        ensures { Decides result (group_left self.now ≡ []) }
+    {
+        self.rest.end <= self.rest.at
+    }
+}
+
 impl<'a> Iterator for GroupFacts<'a> {
     type Item = u32;
 
@@ -103,7 +113,7 @@ impl<'a> Iterator for GroupFacts<'a> {
 
     fn next(&mut self) -> Option<u32> {
         if self.rest.at < self.rest.end {
-            let fact = word(self.words, self.rest.at);
+            let fact = get_or(self.words, self.rest.at, 0);
             self.rest.at += 1;
             return Some(fact);
         }
@@ -117,7 +127,7 @@ impl<'a> DoubleEndedIterator for GroupFacts<'a> {
     fn next_back(&mut self) -> Option<u32> {
         if self.rest.at < self.rest.end {
             self.rest.end -= 1;
-            return Some(word(self.words, self.rest.end));
+            return Some(get_or(self.words, self.rest.end, 0));
         }
         None
     }

@@ -4,7 +4,7 @@ ghost use Rattle.sheet.specs.Layout.{word as word_at, variables as variables_of,
 ghost use Rattle.sheet.specs.Layout.{offset as offset_of, size as type_size, cost_word};
 ghost use Rattle.sheet.specs.Layout.{has_conditions, effect_fact};
 
-use access::word;
+use access::get_or;
 
 // The words of the header, and the pair where the actions begin.
 pub const EDITION_AT: usize = 0;
@@ -39,7 +39,7 @@ pub const SECOND_EDITION: usize = 2;
 pub fn number(w: &[u32], i: usize) -> usize
     ensures { (result ≡ word_at w.now i) × (result < 2 ^ 32) }
 {
-    word(w, i) as usize
+    get_or(w, i, 0) as usize
 }
 
 // Whether the edition is one whose effects have conditions.
@@ -104,5 +104,5 @@ pub fn start_at(w: &[u32]) -> usize
 pub fn cost(w: &[u32], a: u32) -> u32
     ensures { (result ≡ cost_word w.now a) × (result < 2 ^ 32) }
 {
-    word(w, offset(w, FIRST_ACTION + a as usize))
+    get_or(w, offset(w, FIRST_ACTION + a as usize), 0)
 }

@@ -4,3 +4,5 @@ pub mod CountLaws
 pub mod PastLaws
 -- BadFactLaws: the place of cause 6, by where the first bad fact stands.
 pub mod BadFactLaws
+-- FoundLaws: what `find` gives over a range of numbers.
+pub mod FoundLaws

@@ -1,33 +1,29 @@
--- Whether an effect of edition 2 runs past the end of its part, by the cases of a loop along the effects: none is left, the one here does, or it does not and a later
--- one may; and so the length of an action's part is wrong, by the tests in turn. Assumes nothing.
+-- Whether an effect of edition 2 runs past the end of its part, by the words that are left; and so the length of an action's part is wrong, by the tests in turn. Assumes nothing.
 use Prim.Native.Nat.{ℕ, ◌+◌, ◌-◌, ◌≤◌, ◌<◌}
 use native.Mathlib.Omega.{arith}
-use mathlib.Core.Path.{◌≡◌, ◌∙◌}
+use mathlib.Core.Path.{◌≡◌, refl, sym, ◌∙◌}
 use mathlib.Core.Bool.{Bool, true, false}
 use mathlib.Core.List.{List}
-use borrow.Author.Tests.{lt-ltb, le-ltb, le-leb}
+use lib.Dec.{ltb, leb}
+use borrow.Author.Tests.{lt-ltb, le-ltb, le-leb, leb-true, leb-false}
 use Rattle.sas.specs.Conflict.{some_of}
-use Rattle.sheet.specs.Layout.{word, offset, size, effect_fact, has_conditions}
+use Rattle.sheet.specs.Layout.{word, offset, size, has_conditions}
 use Rattle.sheet.specs.Decode.{effect_words}
 use Rattle.sheet.specs.Causes.{runs_past, past_part, wrong_size}
-use Rattle.sheet.proofs.EffectLaws.{effect_words_over, effect_words_all}
 
 -- some effect that stands from word i on runs past the end
 abbrev pub some_past : List ℕ → ℕ → ℕ → Bool
 some_past w end i = some_of (runs_past w end) (effect_words w end i (end - i))
 
 module _ (w : List ℕ) (end i : ℕ) where
-  pub past_over : end ≤ i → some_past w end i ≡ false
-  unfolding some_of
-  past_over h = rw (effect_words_over w end i (end - i) h)
-
-  pub past_here : (n : ℕ) → i < end → n ≡ word w i → end - (i + 1) < n + 1 → some_past w end i ≡ true
-  unfolding some_of runs_past
-  past_here n below read past = rw (effect_words_all w end i below, ← read, lt-ltb (end - (i + 1)) (n + 1) past)
-
-  pub past_more : (n k : ℕ) → i < end → n ≡ word w i → n + 1 ≤ end - (i + 1) → k ≡ effect_fact w end i → some_past w end i ≡ some_past w end (k + 1)
-  unfolding some_of runs_past
-  past_more n k below read room there = rw (effect_words_all w end i below, ← there, ← read, le-ltb (end - (i + 1)) (n + 1) room)
+  -- the one at word i does where as many words are left as its condition has facts and one, or fewer
+  pub past_told : (left n : ℕ) → left ≡ end - i → n ≡ word w i → leb left (n + 1) ≡ runs_past w end i
+  unfolding runs_past
+  past_told left n behind read = rw (behind, ← read) (by_case (leb (end - i) (n + 1)) refl)
+    where
+      by_case : (b : Bool) → leb (end - i) (n + 1) ≡ b → leb (end - i) (n + 1) ≡ ltb (end - (i + 1)) (n + 1)
+      by_case true e = e ∙ sym (lt-ltb (end - (i + 1)) (n + 1) (omega (arith, leb-true _ _ e)))
+      by_case false e = e ∙ sym (le-ltb (end - (i + 1)) (n + 1) (omega (arith, leb-false _ _ e)))
 
   -- in edition 2 that is what is asked of a part, and in edition 1 nothing is
   pub past_second : has_conditions w ≡ true → some_past w end i ≡ past_part w end i

@@ -5,10 +5,10 @@ ghost use Rattle.sheet.specs.Layout.{pairs_end as pairs_end_of};
 ghost use Rattle.sheet.specs.Decode.{effect_words};
 ghost use Rattle.sheet.specs.Causes.{due as due_of, runs_past, past_part, wrong_size, bad_pair, pair_place};
 
-use refusal::place::Place;
+use sheet::effects::EffectPlaces;
 use sheet::layout::{
-    ACTION_HEADER, FIRST_ACTION, GOAL, LENGTH_AT, PAIR, PAIRS_AT, actions, effect_fact,
-    has_conditions, number, offset, size, variables,
+    ACTION_HEADER, FIRST_ACTION, GOAL, LENGTH_AT, PAIR, PAIRS_AT, actions, has_conditions, number,
+    offset, size, variables,
 };
 
 // Where the pairs end.
@@ -29,18 +29,18 @@ fn due(w: &[u32], k: usize) -> usize
     offset(w, k - 1) + size(w, k - 1)
 }
 
-// Whether an effect with a condition runs past the end of its part: the effects stand from word `from` on.
+// Whether the effect with a condition at word i runs past the end of its part.
+fn runs_past(w: &[u32], end: usize, i: usize) -> bool
+    ensures { result ≡ runs_past w.now end i }
+{
+    end.saturating_sub(i) <= number(w, i) + 1
+}
+
+// Whether one does: the effects stand from word `from` on.
 fn some_past(w: &[u32], end: usize, from: usize) -> bool
     ensures { result ≡ some_of (runs_past w.now end) (effect_words w.now end from (end - from)) }
 {
-    let mut i = from;
-    while i < end {
-        if end - (i + 1) < number(w, i) + 1 {
-            return true;
-        }
-        i = effect_fact(w, end, i) + 1;
-    }
-    false
+    EffectPlaces::new(w, from, end).any(|i| runs_past(w, end, i))
 }
 
 fn past_part(w: &[u32], end: usize, from: usize) -> bool
@@ -99,19 +99,16 @@ fn bad_pair(w: &[u32], k: usize) -> bool
 }
 
 // The place of cause 4.
-pub(crate) fn bad_pair_place(w: &[u32]) -> Place
+pub(crate) fn bad_pair_place(w: &[u32]) -> Option<usize>
     ensures { result ≡ pair_place w.now }
 {
     if number(w, LENGTH_AT) < pairs_end(w) {
-        return Place::At(0);
+        return Some(0);
     }
-    let pairs = FIRST_ACTION + actions(w);
-    let mut k = 0;
-    while k < pairs {
+    for k in 0..FIRST_ACTION + actions(w) {
         if bad_pair(w, k) {
-            return Place::At(k);
+            return Some(k);
         }
-        k += 1;
     }
-    Place::Nowhere
+    None
 }

@@ -3,10 +3,11 @@
 use Prim.Native.Nat.{ℕ, ◌≤◌, ◌<◌}
 use native.Mathlib.Omega.{arith}
 use mathlib.Core.Path.{◌≡◌, refl, sym, ◌∙◌, ap}
-use mathlib.Core.Bool.{Bool, true, false}
+use mathlib.Core.Bool.{Bool, true, false, not}
 use mathlib.Core.List.{List, ◌++◌}
 use lib.ListN.{length, take, drop}
 use lib.Seq.{length-take-le, take_all}
+use Rattle.std.specs.Prelude.{Option, is_some, is_none}
 use Rattle.sas.specs.Plan.{satisfies, applicable, assign, acting}
 use Rattle.sas.proofs.ActionLaws.{apply_length, applicable_needed}
 use Rattle.sheet.specs.declared.group.Group.{Group}
@@ -16,33 +17,26 @@ use Rattle.sheet.specs.Between.Group.{goal_group, needed_group, facts_in}
 use Rattle.sheet.specs.Between.Effects.{effects_of, effects_in}
 use Rattle.sheet.proofs.GroupLaws.{goal_facts, needed_facts}
 use Rattle.sheet.proofs.EffectLaws.{effects_applied}
-use Rattle.step.specs.declared.facts.Failing.{Failing}
-use Rattle.step.specs.declared.facts.Failing.TheVariants.{Nothing, Fact}
 use Rattle.step.specs.State.{state_size, front}
-use Rattle.step.specs.Between.Failing.{passes, Tests}
+use Rattle.step.specs.Between.Failing.{Tests}
 use Rattle.step.specs.Between.Advance.{Advances}
+use Rattle.step.proofs.FailingLaws.{is_none_told}
 use Rattle.step.proofs.StateLaws.{front_laid}
 
-module _ (w s : List ℕ) (a : ℕ) (g : Group) (f : Failing) (group : g ≡ needed_group w a) (tested : Tests s (facts_in w g) f) where
-  held : passes f ≡ applicable s (action w a)
+module _ (w s : List ℕ) (a : ℕ) (g : Group) (f : Option ℕ) (group : g ≡ needed_group w a) (tested : Tests s (facts_in w g) f) where
+  held : is_none f ≡ applicable s (action w a)
   held = tested.held ∙ ap (satisfies s) (ap (facts_in w) group ∙ needed_facts w a) ∙ sym (applicable_needed s (action w a))
 
-  pub advances_not : (x : ℕ) → f ≡ Fact x → Advances w s a false s
-  advances_not x e = record { applied = ap passes (sym e) ∙ held; state = refl }
+  pub advances_not : is_some f ≡ true → Advances w s a false s
+  advances_not e = record { applied = ap not (sym e) ∙ held; state = refl }
 
-  pub advances_done : (h : Effects) (after : List ℕ) → f ≡ Nothing → h ≡ effects_of w a → after ≡ assign s (acting s (effects_in w h)) → Advances w s a true after
+  pub advances_done : (h : Effects) (after : List ℕ) → is_some f ≡ false → h ≡ effects_of w a → after ≡ assign s (acting s (effects_in w h)) → Advances w s a true after
   advances_done h after e effects writes =
-      record { applied = ap passes (sym e) ∙ held; state = writes ∙ rw effects (sym (effects_applied w a s)) }
+      record { applied = ap not (sym e) ∙ held; state = writes ∙ rw effects (sym (effects_applied w a s)) }
 
-module _ (w s : List ℕ) (g : Group) (f : Failing) (group : g ≡ goal_group w) (tested : Tests s (facts_in w g) f) where
-  goal_held : passes f ≡ satisfies s (goal w)
-  goal_held = tested.held ∙ ap (satisfies s) (ap (facts_in w) group ∙ goal_facts w)
-
-  pub goal_unmet : (x : ℕ) → f ≡ Fact x → false ≡ satisfies s (goal w)
-  goal_unmet x e = ap passes (sym e) ∙ goal_held
-
-  pub goal_met : f ≡ Nothing → true ≡ satisfies s (goal w)
-  goal_met e = ap passes (sym e) ∙ goal_held
+module _ (w s : List ℕ) (g : Group) (f : Option ℕ) (group : g ≡ goal_group w) (tested : Tests s (facts_in w g) f) where
+  pub goal_told : (b : Bool) → is_some f ≡ not b → b ≡ satisfies s (goal w)
+  goal_told b e = sym (is_none_told f b e) ∙ tested.held ∙ ap (satisfies s) (ap (facts_in w) group ∙ goal_facts w)
 
 -- an action keeps the number of values, done or not
 advances_length : (w s after : List ℕ) (a : ℕ) (done : Bool) → Advances w s a done after → length after ≡ length s

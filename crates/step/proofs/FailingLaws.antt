@@ -1,82 +1,51 @@
 -- The facts of a group in a state, from the last, and what an action's effects write there, by the cases of a loop along them: none is left, or one more is.
 -- Assumes nothing.
-use Prim.Native.Nat.{ℕ, ◌+◌, ◌≤◌, ◌<◌}
+use Prim.Native.Nat.{ℕ, ◌+◌, ◌≤◌}
 use native.Mathlib.Omega.{arith}
 use mathlib.Core.Path.{◌≡◌, refl, sym, ◌∙◌, ap}
-use mathlib.Core.Bool.{Bool, true, false, cond}
+use mathlib.Core.Bool.{Bool, true, false, not}
 use mathlib.Core.Option.{none, some}
-use mathlib.Core.List.{List, [], ◌∷◌, reverse, reverse-append}
+use Rattle.std.specs.Prelude.{Option, None, Some, is_some, is_none}
+use mathlib.Core.List.{List, [], ◌∷◌, ◌++◌, reverse, reverse-append}
 use lib.ListN.{length, set, take, drop, replicate, length-replicate}
 use lib.Seq.{sets, sets-eq, take_at}
 use Rattle.sas.specs.Task.{Assignment, State, Effect}
-use Rattle.sas.specs.Plan.{holds, satisfies, assign, acting}
+use Rattle.sas.specs.Plan.{holds, assign, acting}
 use Rattle.sas.proofs.FactLaws.{first_failing_nothing, first_failing_more, first_failing_here, none_fails, satisfies_reversed}
-use Rattle.sas.proofs.EffectLaws.{acting_nothing, acting_more, acting_less, each_acts}
+use Rattle.sas.proofs.EffectLaws.{acting_nothing, acting_more, acting_less, each_acts, each_written}
 use Rattle.sheet.specs.Limits.{limits}
-use Rattle.sheet.specs.declared.group.Group.{Group}
 use Rattle.sheet.specs.declared.effects.Effects.{Effects}
 use Rattle.sheet.specs.Decode.{fact_of, facts, effects}
-use Rattle.sheet.specs.Between.Group.{facts_in, first_fact, rest_of, last_fact, front_of}
-use Rattle.sheet.specs.Between.Effects.{effects_in, first_written, first_condition, rest_effects}
-use Rattle.sheet.proofs.GroupLaws.{group_over, group_next, group_last}
-use Rattle.sheet.proofs.EffectLaws.{effects_over, effects_next}
-use Rattle.step.specs.declared.facts.Failing.{Failing}
-use Rattle.step.specs.declared.facts.Failing.TheVariants.{Nothing, Fact}
-use Rattle.step.specs.Between.Failing.{failing, passes, last_failing, Tests}
+use Rattle.sheet.specs.Between.Effects.{effects_in, written_in}
+use Rattle.step.specs.Between.Failing.{failing, last_failing, Tests}
 
-module _ (w : List ℕ) (s : State) (g : Group) where
-  -- no fact is left to write
-  pub assign_over : g.end ≤ g.at → assign s (facts_in w g) ≡ s
-  unfolding assign
-  assign_over over = rw (group_over w g over)
+-- whether there is none, as the library tells it
+pub is_none_told : (r : Option ℕ) (b : Bool) → is_some r ≡ not b → is_none r ≡ b
+is_none_told r true told = ap not told
+is_none_told r false told = ap not told
 
-  -- one comes next
-  pub assign_next : g.at < g.end → (x : ℕ) → x ≡ first_fact w g → (t : State) → t ≡ set s (fact_of x).variable (fact_of x).value
-      → assign s (facts_in w g) ≡ assign t (facts_in w (rest_of g))
-  unfolding assign
-  assign_next h x read t writes = rw (group_next w g h, writes, read)
-
-module _ (w : List ℕ) (before s : State) (e : Effects) where
+module _ (before s : State) (es : List Effect) where
   -- no effect is left
-  pub acting_over : e.end ≤ e.at → assign s (acting before (effects_in w e)) ≡ s
+  pub acting_over : es ≡ [] → assign s (acting before es) ≡ s
   unfolding assign
-  acting_over over = rw (effects_over w e over, acting_nothing before)
+  acting_over over = rw (over, acting_nothing before)
 
-  -- one comes next, which acts or does not
-  abbrev pub first_acting : Assignment
-  first_acting = cond (satisfies before (facts_in w (first_condition w e))) (fact_of (first_written w e) ∷ []) []
+  -- one comes next, whose condition q holds there or fails
+  module _ (q : Assignment) (x : ℕ) (later : List Effect) (first : es ≡ record { condition = q; fact = fact_of x } ∷ later) (r : Option ℕ) (tested : Tests before q r) where
+    abbrev here : Effect
+    here = record { condition = q; fact = fact_of x }
 
-  pub acting_next : e.at < e.end → (t : State) → t ≡ assign s first_acting → assign s (acting before (effects_in w e)) ≡ assign t (acting before (effects_in w (rest_effects w e)))
-  unfolding assign
-  acting_next h t writes = by_case (satisfies before (facts_in w (first_condition w e))) refl
-    where
-      here : Effect
-      here = record { condition = facts_in w (first_condition w e); fact = fact_of (first_written w e) }
-
-      later : List Effect
-      later = effects_in w (rest_effects w e)
-
-      by_case : (b : Bool) → satisfies before (facts_in w (first_condition w e)) ≡ b → assign s (acting before (effects_in w e)) ≡ assign t (acting before later)
-      by_case true holds_there = rw (effects_next w e h, acting_more before here later holds_there, writes, holds_there)
-      by_case false fails = rw (effects_next w e h, acting_less before here later fails, writes, fails)
-
-  -- the first is written, or is not
-  module _ (g : Group) (f : Failing) (group : g ≡ first_condition w e) (tested : Tests before (facts_in w g) f) where
-    held : passes f ≡ satisfies before (facts_in w (first_condition w e))
-    held = tested.held ∙ ap (λ h. satisfies before (facts_in w h)) group
-
-    pub first_not : (x : ℕ) → f ≡ Fact x → s ≡ assign s first_acting
+    pub acting_next : is_none r ≡ true → assign s (acting before es) ≡ assign (set s (fact_of x).variable (fact_of x).value) (acting before later)
     unfolding assign
-    first_not x is = rw (← held, is)
+    acting_next passed = rw (first, acting_more before here later (sym tested.held ∙ passed))
 
-    pub first_written_there : (x : ℕ) (t : State) → f ≡ Nothing → x ≡ first_written w e → t ≡ set s (fact_of x).variable (fact_of x).value → t ≡ assign s first_acting
-    unfolding assign
-    first_written_there x t is read writes = rw (← held, is, writes, read)
+    pub acting_not : is_none r ≡ false → assign s (acting before es) ≡ assign s (acting before later)
+    acting_not failed = rw (first, acting_less before here later (sym tested.held ∙ failed))
 
--- effects without conditions are a group of facts, which all act
-pub group_acting : (w : List ℕ) (s : State) (e : Effects) → e.conditional ≡ false → acting s (effects_in w e) ≡ facts_in w (record { at = e.at; end = e.end })
-unfolding effects_in effects facts_in
-group_acting w s e plain = rw plain (each_acts s (facts w e.at e.end))
+-- effects without conditions all act
+pub all_acting : (w : List ℕ) (s : State) (e : Effects) → e.conditional ≡ false → acting s (effects_in w e) ≡ written_in w e
+unfolding written_in effects_in effects
+all_acting w s e plain = rw plain (each_acts s (facts w e.at e.end) ∙ sym (each_written (facts w e.at e.end)))
 
 -- a state that was copied to the front of an array is read there as it was
 pub acted_beside : (w s kept beside after : List ℕ) (e : Effects) (n : ℕ) → n ≡ length s → length s ≤ limits.variables
@@ -89,36 +58,33 @@ acted_beside w s kept beside after e n same few copied lent acted =
     let is : beside ≡ s = lent ∙ rw (copied, sets-eq s blank 0 room, past) (take_at s (drop (length s) blank) n (sym same)) in
     rw is at acted
 
-module _ (w : List ℕ) (g : Group) where
-  -- a group from the back: its last fact, then those in front of it
-  from_back : g.at < g.end → (x : ℕ) → x ≡ last_fact w g → reverse (facts_in w g) ≡ fact_of x ∷ reverse (facts_in w (front_of g))
-  from_back h x read = rw (group_last w g h, ← read) (reverse-append (facts_in w (front_of g)) (fact_of x ∷ []))
-
-module _ (w : List ℕ) (s : State) (g : Group) where
-  -- no fact is left
-  pub failing_over : g.end ≤ g.at → last_failing s (facts_in w g) ≡ none
+-- facts from the last: it comes, and then those in front of it
+module _ (s : State) (q : Assignment) where
+  pub failing_over : q ≡ [] → last_failing s q ≡ none
   unfolding last_failing
-  failing_over over = rw (group_over w g over) (first_failing_nothing s)
+  failing_over over = rw over (first_failing_nothing s)
 
-  -- one is left
-  module _ (h : g.at < g.end) (x : ℕ) (read : x ≡ last_fact w g) where
-    pub failing_here : holds s (fact_of x) ≡ false → last_failing s (facts_in w g) ≡ some (fact_of x)
+  module _ (others : Assignment) (x : ℕ) (last : q ≡ others ++ (fact_of x ∷ [])) where
+    from_back : reverse q ≡ fact_of x ∷ reverse others
+    from_back = rw last (reverse-append others (fact_of x ∷ []))
+
+    pub failing_here : holds s (fact_of x) ≡ false → last_failing s q ≡ some (fact_of x)
     unfolding last_failing
-    failing_here fails = rw (from_back w g h x read) (first_failing_here s _ _ fails)
+    failing_here fails = rw from_back (first_failing_here s _ _ fails)
 
-    pub failing_more : holds s (fact_of x) ≡ true → last_failing s (facts_in w g) ≡ last_failing s (facts_in w (front_of g))
+    pub failing_more : holds s (fact_of x) ≡ true → last_failing s q ≡ last_failing s others
     unfolding last_failing
-    failing_more held = rw (from_back w g h x read) (first_failing_more s _ _ held)
+    failing_more held = rw from_back (first_failing_more s _ _ held)
 
-passes_told : (r : Failing) → passes r ≡ elim (failing r) [ none ↦ true | some f ↦ false ]
-passes_told Nothing = refl
-passes_told (Fact x) = refl
+none_told : (r : Option ℕ) → is_none r ≡ elim (failing r) [ none ↦ true | some f ↦ false ]
+none_told None = refl
+none_told (Some x) = refl
 
 -- what tells the last failing fact tells whether the assignment holds
-pub tests : (s : State) (q : Assignment) (r : Failing) → failing r ≡ last_failing s q → Tests s q r
+pub tests : (s : State) (q : Assignment) (r : Option ℕ) → failing r ≡ last_failing s q → Tests s q r
 unfolding last_failing
 tests s q r found =
     record {
-      held = passes_told r ∙ rw found (sym (none_fails s (reverse q))) ∙ satisfies_reversed s q;
+      held = none_told r ∙ rw found (sym (none_fails s (reverse q))) ∙ satisfies_reversed s q;
       stopped = found;
     }

@@ -6,7 +6,7 @@ ghost use Rattle.sheet.specs.Decode.{goal as goal_of};
 ghost use Rattle.step.specs.State.{front};
 ghost use Rattle.step.specs.Between.Advance.{Advances};
 
-use crate::facts::{Failing, find_failing, write_effects};
+use crate::facts::{find_failing, write_effects};
 use crate::state::size;
 use sheet::group::{facts_of, goal};
 
@@ -16,25 +16,18 @@ pub fn advance(words: &[u32], state: &mut [u32], action: u32) -> bool
     ensures { Advances words.now state.old action result state.new }
 {
     let facts = facts_of(words, action);
-    let failing = find_failing(words, state, facts.precondition);
-    match failing {
-        Failing::Fact(_) => false,
-        Failing::Nothing => {
-            write_effects(words, state, facts.effects);
-            true
-        }
+    if find_failing(state, facts.precondition.facts(words)).is_some() {
+        return false;
     }
+    write_effects(words, state, facts.effects);
+    true
 }
 
 // Whether the goal holds in a state.
 pub fn goal_holds(words: &[u32], state: &[u32]) -> bool
     ensures { result ≡ satisfies state.now (goal_of words.now) }
 {
-    let failing = find_failing(words, state, goal(words));
-    match failing {
-        Failing::Fact(_) => false,
-        Failing::Nothing => true,
-    }
+    find_failing(state, goal(words).facts(words)).is_none()
 }
 
 // The same in the state that is the front of an array.

@@ -1,115 +1,50 @@
 // The test whether a group of facts holds, and the writes of an action's effects. Every service that does a step goes
 // through these two.
-ghost use Rattle.std.specs.Prelude.{◌≡◌, cond, [], ◌∷◌, ◌≤◌, length, set};
-ghost use Rattle.sas.specs.Plan.{holds as holds_in, satisfies, assign, acting};
+ghost use Rattle.std.specs.Prelude.{◌≡◌, ◌≤◌, length};
+ghost use Rattle.sas.specs.Plan.{holds as holds_in, assign as assigned, acting};
 ghost use Rattle.sheet.specs.Limits.{limits};
 ghost use Rattle.sheet.specs.Decode.{fact_of};
-ghost use Rattle.sheet.specs.Between.Group.{facts_in, last_fact, front_of};
-ghost use Rattle.sheet.specs.Between.Effects.{effects_in, first_written, first_condition};
+ghost use Rattle.sheet.specs.Between.Group.{group_left};
+ghost use Rattle.sheet.specs.Between.Effects.{effects_in, effects_left};
 ghost use Rattle.step.specs.Between.Failing.{Tests};
 
-use access::{front, put, put_all};
-use sheet::effects::Effects;
-use sheet::group::Group;
+use access::{front, put_all};
+use sheet::effects::{EachEffect, Effects};
+use sheet::group::GroupFacts;
 use sheet::limits::Sheet;
+use sheet::values::{assign, put_fact, value, variable};
 
 // Whether the fact that a word is holds in the state.
 pub fn holds(state: &[u32], fact: u32) -> bool
     ensures { result ≡ holds_in state.now (fact_of fact) }
 {
-    let variable = fact as usize / Sheet::VALUES;
-    let value = fact as usize % Sheet::VALUES;
-    if variable < state.len() {
-        state[variable] as usize == value
-    } else {
-        false
-    }
+    let v = variable(fact);
+    v < state.len() && state[v] == value(fact)
 }
 
-// A fact that fails, by its word, or none.
-#[derive(Clone, Copy)]
-pub enum Failing {
-    Nothing,
-    Fact(u32),
-}
-
-// The fact of a group that is looked at next, by its word: the last, since planners write those last that fail most
-// (document 02, C-13). This and `after_next` are all that says in which order facts are looked at; the exact search
-// tests the facts of a row at once, in no order (`packed_state`).
-fn next(words: &[u32], group: Group) -> u32
-    ensures { result ≡ last_fact words.now group }
+// The fact at which facts are seen to fail in the state, by its word, or none where they hold. They are looked at from
+// the last, since planners write those last that fail most (document 02, C-13): `rev` is all that says so. The exact
+// search tests the facts of a row at once, in no order (`packed_state`).
+pub fn find_failing(state: &[u32], facts: GroupFacts) -> Option<u32>
+    ensures { Tests state.now (group_left facts.entry) result }
 {
-    group.last(words)
-}
-
-// The facts that are left after it.
-fn after_next(group: Group) -> Group
-    ensures { result ≡ front_of group }
-{
-    group.front()
-}
-
-// Whether a group of facts holds in the state, or the fact at which that was seen to fail.
-pub fn find_failing(words: &[u32], state: &[u32], group: Group) -> Failing
-    ensures { Tests state.now (facts_in words.now group) result }
-{
-    let mut rest = group;
-    while rest.at < rest.end {
-        let fact = next(words, rest);
-        if holds(state, fact) {
-            rest = after_next(rest);
-        } else {
-            return Failing::Fact(fact);
+    for fact in facts.rev() {
+        if !holds(state, fact) {
+            return Some(fact);
         }
     }
-    Failing::Nothing
-}
-
-// Writes a fact into the state.
-fn put_fact(state: &mut [u32], fact: u32)
-    ensures { state.new
-        ≡ set state.old (fact_of fact).variable (fact_of fact).value }
-{
-    put(
-        state,
-        fact as usize / Sheet::VALUES,
-        fact % Sheet::VALUES as u32,
-    );
-}
-
-// Writes the facts of a group into the state.
-fn write_group(words: &[u32], state: &mut [u32], group: Group)
-    ensures { state.new ≡ assign state.old (facts_in words.now group) }
-{
-    let mut rest = group;
-    while rest.at < rest.end {
-        put_fact(state, rest.first(words));
-        rest = rest.rest();
-    }
-}
-
-// Writes the fact of the first of an action's effects, where its condition holds in the state `before`.
-fn write_first(words: &[u32], before: &[u32], state: &mut [u32], effects: Effects)
-    ensures { state.new ≡ assign state.old
-        (cond (satisfies before.now (facts_in words.now (first_condition words.now effects)))
-        (fact_of (first_written words.now effects) ∷ []) []) }
-{
-    let failing = find_failing(words, before, effects.condition(words));
-    match failing {
-        Failing::Fact(_) => {}
-        Failing::Nothing => put_fact(state, effects.first(words)),
-    }
+    None
 }
 
 // Writes the facts of those effects whose conditions hold in the state `before`.
-fn write_acting(words: &[u32], before: &[u32], state: &mut [u32], effects: Effects)
-    ensures { state.new ≡ assign state.old
-        (acting before.now (effects_in words.now effects)) }
+fn write_acting(before: &[u32], state: &mut [u32], effects: EachEffect)
+    ensures { state.new ≡ assigned state.old
+        (acting before.now (effects_left effects.entry)) }
 {
-    let mut rest = effects;
-    while rest.at < rest.end {
-        write_first(words, before, state, rest);
-        rest = rest.rest(words);
+    for effect in effects {
+        if find_failing(before, effect.condition).is_none() {
+            put_fact(state, effect.fact);
+        }
     }
 }
 
@@ -117,22 +52,15 @@ fn write_acting(words: &[u32], before: &[u32], state: &mut [u32], effects: Effec
 // written, so that one with conditions is kept beside.
 pub fn write_effects(words: &[u32], state: &mut [u32], effects: Effects)
     requires { length state.old ≤ limits.variables }
-    ensures { state.new ≡ assign state.old
+    ensures { state.new ≡ assigned state.old
         (acting state.old (effects_in words.now effects)) }
 {
     if effects.conditional {
         let n = state.len();
         let mut kept = [0u32; Sheet::VARIABLES];
         put_all(&mut kept, state);
-        write_acting(words, front(&kept, n), state, effects);
+        write_acting(front(&kept, n), state, effects.each(words));
         return;
     }
-    write_group(
-        words,
-        state,
-        Group {
-            at: effects.at,
-            end: effects.end,
-        },
-    );
+    assign(state, effects.facts(words));
 }

@@ -1,4 +1,4 @@
--- The tables of a walk by the cases of the code: what a fact's variable was written with, the support of a fact, a fact and the facts of effects written, and
+-- The tables of a walk by the cases of the code: what a fact's variable was written with, the support of a fact, a fact and some facts written, and
 -- the words of the variables behind the start step. What the code calls is a variable here, with what is known of it as a premise. Each is by the definitions'
 -- own cases, with no induction. Assumes nothing.
 use Prim.Native.Nat.{ℕ, ◌+◌, ◌*◌, ◌/◌, ◌%◌, ◌≤◌, ◌<◌}
@@ -6,18 +6,14 @@ use native.Mathlib.Numerals.{add-one}
 use native.Mathlib.Omega.{arith}
 use mathlib.Core.Path.{◌≡◌, refl, sym, ◌∙◌, ap}
 use mathlib.Core.Bool.{Bool, true, false}
-use mathlib.Core.List.{List, [], ◌∷◌, ◌++◌}
+use mathlib.Core.List.{List, [], ◌∷◌}
 use lib.ListN.{length, get_or, set, length-set, replicate, length-replicate}
 use borrow.Author.Tests.{eq-eqb, ne_eqb, lt-ltb, le-ltb}
-use Rattle.sheet.specs.declared.group.Group.{Group}
-use Rattle.sheet.specs.declared.effects.Effects.{Effects}
-use Rattle.sas.specs.Task.{Fact, Assignment}
+use Rattle.sas.specs.Task.{Assignment, Effect}
+use Rattle.sas.specs.Plan.{unconditional}
 use Rattle.sheet.specs.Limits.{limits}
 use Rattle.sheet.specs.Decode.{fact_of}
-use Rattle.sheet.specs.Between.Encode.{fact_word}
-use Rattle.sheet.specs.Between.Effects.{written_in, always_in, first_written, first_condition, first_always, rest_effects}
 use Rattle.sheet.proofs.FactWords.{word_of_fact}
-use Rattle.sheet.proofs.EffectLaws.{written_over, written_next, always_over, always_next}
 use Rattle.trace.specs.Between.Traces.{trace_start, latest_start, until_at, supporting, trace_wrote, traces_wrote, latest_wrote, latest_each, tables, wrote_each, started}
 
 -- the words of the variable of a fact
@@ -65,91 +61,36 @@ pub latest_put : (latest : List ℕ) (j x seen : ℕ) (one two three : List ℕ)
 unfolding latest_wrote
 latest_put latest j x seen one two three sees first second third = rw (third, second, first, sees)
 
--- what is written along the effects e, where to write what is left of them is the rest of writing all
-module _ (w : List ℕ) (put : ℕ → List ℕ → List ℕ) (each : Assignment → List ℕ → List ℕ) (none : (l : List ℕ) → each [] l ≡ l)
-    (more : (f : Fact) (q : Assignment) (l : List ℕ) → each (f ∷ q) l ≡ each q (put (fact_word f) l)) where
-  pub record Writing (e : Effects) (l₀ : List ℕ) (rest : Effects) (l : List ℕ) : Type 0 where
-    pub sized : length l ≡ length l₀
-    pub whole : each (written_in w rest) l ≡ each (written_in w e) l₀
-
-  module _ (e : Effects) (l₀ : List ℕ) where
-    -- all are left
-    pub writing_start : Writing e l₀ e l₀
-    writing_start = record { sized = refl; whole = refl }
-
-    module _ (rest : Effects) (l : List ℕ) (so_far : Writing e l₀ rest l) where
-      -- one more is written
-      pub writing_more : rest.at < rest.end → (x : ℕ) (l' : List ℕ) → x ≡ first_written w rest → l' ≡ put x l → length l' ≡ length l
-          → (rest' : Effects) → rest' ≡ rest_effects w rest → Writing e l₀ rest' l'
-      writing_more some x l' read writes same rest' is =
-          let first : put (fact_word (fact_of (first_written w rest))) l ≡ l' = rw (writes, read) (ap (λ y. put y l) (word_of_fact (first_written w rest))) in
-          record {
-            sized = same ∙ so_far.sized;
-            whole = rw (is, ← first) (sym (more _ _ l) ∙ rw (written_next w rest some) at so_far.whole);
-          }
-
-      -- none is left
-      pub writing_end : rest.end ≤ rest.at → l ≡ each (written_in w e) l₀
-      writing_end over = sym (none l) ∙ rw (written_over w rest over) at so_far.whole
-
 module _ (j : ℕ) where
-  -- the supports and writers of the facts that the step at position j writes
-  module _ (latest : List ℕ) where
-    pub traces_none : (l : List ℕ) → traces_wrote j latest [] l ≡ l
+  -- the supports and writers of the facts that the step at position j writes: of none, and of the first and the others
+  module _ (latest l : List ℕ) (q : Assignment) where
+    pub traces_none : q ≡ [] → traces_wrote j latest q l ≡ l
     unfolding traces_wrote
-    traces_none l = refl
+    traces_none none = rw none
 
-    pub traces_more : (f : Fact) (q : Assignment) (l : List ℕ) → traces_wrote j latest (f ∷ q) l ≡ traces_wrote j latest q (trace_wrote j latest (fact_word f) l)
+    pub traces_first : (later : Assignment) (x : ℕ) → q ≡ fact_of x ∷ later → traces_wrote j latest q l ≡ traces_wrote j latest later (trace_wrote j latest x l)
     unfolding traces_wrote
-    traces_more f q l = refl
+    traces_first later x first = rw first (ap (λ y. traces_wrote j latest later (trace_wrote j latest y l)) (word_of_fact x))
 
-  -- and the words of its variables
-  pub latest_none : (l : List ℕ) → latest_each j [] l ≡ l
-  unfolding latest_each
-  latest_none l = refl
+  -- and the words of its variables: where no effect is left, and by whether the first has a condition q
+  module _ (l : List ℕ) (es : List Effect) where
+    pub latest_none : es ≡ [] → latest_each j (unconditional es) l ≡ l
+    unfolding unconditional latest_each
+    latest_none none = rw none
 
-  pub latest_more : (f : Fact) (q : Assignment) (l : List ℕ) → latest_each j (f ∷ q) l ≡ latest_each j q (latest_wrote j (fact_word f) l)
-  unfolding latest_each
-  latest_more f q l = refl
+    module _ (q : Assignment) (x : ℕ) (later : List Effect) (first : es ≡ record { condition = q; fact = fact_of x } ∷ later) where
+      pub latest_always : q ≡ [] → latest_each j (unconditional es) l ≡ latest_each j (unconditional later) (latest_wrote j x l)
+      unfolding unconditional latest_each
+      latest_always none = rw (first, none) (ap (λ y. latest_each j (unconditional later) (latest_wrote j y l)) (word_of_fact x))
 
-  -- of the first effect that is left, where it has a condition, and where it has none
-  module _ (w : List ℕ) (e : Effects) (g : Group) (latest : List ℕ) (condition : g ≡ first_condition w e) where
-    pub marked_not : g.at < g.end → latest ≡ latest_each j (first_always w e) latest
-    unfolding first_always latest_each
-    marked_not some =
-        let has : (first_condition w e).at < (first_condition w e).end = rw condition at some in
-        rw (lt-ltb (first_condition w e).at (first_condition w e).end has)
-
-    pub marked_first : g.end ≤ g.at → (x : ℕ) (after : List ℕ) → x ≡ first_written w e → after ≡ latest_wrote j x latest → after ≡ latest_each j (first_always w e) latest
-    unfolding first_always latest_each
-    marked_first none x after read writes =
-        let has : (first_condition w e).end ≤ (first_condition w e).at = rw condition at none in
-        writes ∙ rw (le-ltb (first_condition w e).at (first_condition w e).end has, word_of_fact (first_written w e), read)
-
-  -- along the effects e, where to mark what is left of them is the rest of marking all
-  pub record Marking (w : List ℕ) (e : Effects) (l₀ : List ℕ) (rest : Effects) (l : List ℕ) : Type 0 where
-    pub sized : length l ≡ length l₀
-    pub whole : latest_each j (always_in w rest) l ≡ latest_each j (always_in w e) l₀
-
-  latest_both : (q r : Assignment) (l : List ℕ) → latest_each j (q ++ r) l ≡ latest_each j r (latest_each j q l)
-  latest_both [] r l = ap (latest_each j r) (sym (latest_none l))
-  latest_both (f ∷ q) r l = latest_more f (q ++ r) l ∙ latest_both q r (latest_wrote j (fact_word f) l) ∙ ap (latest_each j r) (sym (latest_more f q l))
-
-  module _ (w : List ℕ) (e : Effects) (l₀ : List ℕ) where
-    pub marking_start : Marking w e l₀ e l₀
-    marking_start = record { sized = refl; whole = refl }
-
-    module _ (rest : Effects) (l : List ℕ) (so_far : Marking w e l₀ rest l) where
-      pub marking_more : rest.at < rest.end → (l' : List ℕ) → l' ≡ latest_each j (first_always w rest) l → length l' ≡ length l
-          → (rest' : Effects) → rest' ≡ rest_effects w rest → Marking w e l₀ rest' l'
-      marking_more some l' marks same rest' is =
-          record {
-            sized = same ∙ so_far.sized;
-            whole = rw (is, marks) (sym (latest_both (first_always w rest) (always_in w (rest_effects w rest)) l) ∙ rw (always_next w rest some) at so_far.whole);
-          }
-
-      pub marking_end : rest.end ≤ rest.at → l ≡ latest_each j (always_in w e) l₀
-      marking_end over = sym (latest_none l) ∙ rw (always_over w rest over) at so_far.whole
+      pub latest_not : (q ≡ [] → ⊥) → latest_each j (unconditional es) l ≡ latest_each j (unconditional later) l
+      unfolding unconditional
+      latest_not some = rw first (by_case q some)
+        where
+          by_case : (r : Assignment) → (r ≡ [] → ⊥)
+              → latest_each j (unconditional (record { condition = r; fact = fact_of x } ∷ later)) l ≡ latest_each j (unconditional later) l
+          by_case [] not_none = absurd (not_none refl)
+          by_case (f ∷ r) not_none = refl
 
 -- both, by whether the step is marked
 module _ (j : ℕ) (marked : Bool) (q r : Assignment) (traces latest traces' : List ℕ) (notes : traces' ≡ traces_wrote j latest q traces) where

@@ -2,15 +2,16 @@
 ghost use Rattle.std.specs.Prelude.{◌≡◌};
 ghost use Rattle.sheet.specs.Limits.{limits};
 ghost use Rattle.sheet.specs.Decode.{initial as initial_of};
-ghost use Rattle.sheet.specs.Between.Effects.{written_in, always_in, first_always};
+ghost use Rattle.sheet.specs.Between.Effects.{written_in, always_in};
 ghost use Rattle.step.specs.State.{in_array};
 ghost use Rattle.trace.specs.Between.Traces.{until_at, supporting, trace_wrote, traces_wrote};
 ghost use Rattle.trace.specs.Between.Traces.{latest_wrote, latest_each, tables, wrote_each, started};
 
-use access::{byte, put, put8, word};
+use access::{get_or, put};
 use fact_table::FACTS;
 use sheet::effects::Effects;
 use sheet::limits::Sheet;
+use sheet::values::variable;
 use step::state::initial;
 
 // The bytes of a fact: the position of its last writer, and its support, which is that writer where a marked step wrote
@@ -34,11 +35,11 @@ pub const LATEST: usize = VARIABLE * Sheet::VARIABLES;
 fn until(latest: &[u32], fact: u32) -> u32
     ensures { result ≡ until_at latest.now fact }
 {
-    let v = VARIABLE * (fact as usize / Sheet::VALUES);
-    if word(latest, v) == fact {
-        word(latest, v + OTHER)
+    let v = VARIABLE * variable(fact);
+    if get_or(latest, v, 0) == fact {
+        get_or(latest, v + OTHER, 0)
     } else {
-        word(latest, v + AT)
+        get_or(latest, v + AT, 0)
     }
 }
 
@@ -55,13 +56,13 @@ fn note_fact(traces: &mut [u8], latest: &[u32], at: u8, fact: u32)
     ensures { traces.new ≡ trace_wrote at latest.now fact traces.old }
 {
     let here = TRACE * fact as usize;
-    let last = byte(traces, here);
+    let last = get_or(traces, here, 0);
     if last == at {
         return;
     }
     let seen = until(latest, fact);
-    put8(traces, here + SUPPORT, support(last, seen, at));
-    put8(traces, here, at);
+    put(traces, here + SUPPORT, support(last, seen, at));
+    put(traces, here, at);
 }
 
 // The same of all facts that its effects may write.
@@ -69,10 +70,8 @@ fn note_effects(words: &[u32], traces: &mut [u8], latest: &[u32], at: u8, effect
     ensures { traces.new ≡ traces_wrote at latest.now
         (written_in words.now effects) traces.old }
 {
-    let mut rest = effects;
-    while rest.at < rest.end {
-        note_fact(traces, latest, at, rest.first(words));
-        rest = rest.rest(words);
+    for fact in effects.facts(words) {
+        note_fact(traces, latest, at, fact);
     }
 }
 
@@ -81,34 +80,21 @@ fn mark_fact(latest: &mut [u32], at: u8, fact: u32)
     ensures { latest.new ≡ latest_wrote at fact latest.old }
 {
     let seen = until(latest, fact);
-    let v = VARIABLE * (fact as usize / Sheet::VALUES);
+    let v = VARIABLE * variable(fact);
     put(latest, v, fact);
     put(latest, v + AT, at as u32 + 1);
     put(latest, v + OTHER, seen);
 }
 
-// The same of the fact of its first effect, where that has no condition: another value counts only where it is always
-// written.
-fn mark_first(words: &[u32], latest: &mut [u32], at: u8, effects: Effects)
-    ensures { latest.new ≡ latest_each at
-        (first_always words.now effects) latest.old }
-{
-    let condition = effects.condition(words);
-    if condition.at < condition.end {
-        return;
-    }
-    mark_fact(latest, at, effects.first(words));
-}
-
-// The same of all its effects.
+// The same of the facts of those effects that have no condition: another value counts only where it is always written.
 fn mark_effects(words: &[u32], latest: &mut [u32], at: u8, effects: Effects)
     ensures { latest.new ≡ latest_each at
         (always_in words.now effects) latest.old }
 {
-    let mut rest = effects;
-    while rest.at < rest.end {
-        mark_first(words, latest, at, rest);
-        rest = rest.rest(words);
+    for effect in effects.each(words) {
+        if effect.condition.is_empty() {
+            mark_fact(latest, at, effect.fact);
+        }
     }
 }
 
@@ -138,11 +124,9 @@ pub fn start(words: &[u32]) -> [u32; LATEST]
 {
     let values = initial(words);
     let mut latest = [0u32; LATEST];
-    let mut v = 0;
-    while v < Sheet::VARIABLES {
-        latest[VARIABLE * v] = (v * Sheet::VALUES) as u32 + values[v] % Sheet::VALUES as u32;
+    for (v, value) in values.iter().enumerate() {
+        latest[VARIABLE * v] = (v * Sheet::VALUES) as u32 + *value % Sheet::VALUES as u32;
         latest[VARIABLE * v + AT] = 1;
-        v += 1;
     }
     latest
 }

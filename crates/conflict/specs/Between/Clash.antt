@@ -4,21 +4,13 @@ use Rattle.std.specs.Prelude.{ℕ, ◌/◌, Bool, true, false, not, ◌&&◌, �
 use Rattle.sas.specs.Task.{Fact, Assignment, State, Effect}
 use Rattle.sas.specs.Plan.{assign}
 use Rattle.sas.specs.Conflict.{some_of}
-use Rattle.refusal.specs.declared.place.Place.{Place}
+use Rattle.refusal.specs.Place.{Place}
 use Rattle.refusal.specs.Place.{first}
-use Rattle.sheet.specs.declared.effects.Effects.{Effects}
 use Rattle.sheet.specs.Limits.{limits}
 use Rattle.sheet.specs.Layout.{actions}
-use Rattle.sheet.specs.Decode.{fact_of, action}
+use Rattle.sheet.specs.Decode.{action}
 use Rattle.sheet.specs.Between.Encode.{fact_word}
-use Rattle.sheet.specs.Between.Group.{facts_in}
-use Rattle.sheet.specs.Between.Effects.{first_written, first_condition}
 use Rattle.conflict.specs.Between.Table.{blank, denies}
-
--- the first of the effects that are left
-abbrev pub first_effect : List ℕ → Effects → Effect
-first_effect w e =
-    record { condition = facts_in w (first_condition w e); fact = fact_of (first_written w e) }
 
 -- effects without the first ones of the fact whose word is x
 unfoldable pub beyond : ℕ → List Effect → List Effect
@@ -56,6 +48,11 @@ beside x f = not (eqb (fact_word f) x) && eqb f.variable (x / limits.values)
 unfoldable pub neighbours : ℕ → List Effect → Bool
 neighbours x [] = false
 neighbours x (e ∷ es) = beside x e.fact || neighbours (fact_word e.fact) es
+
+-- of the facts of effects, one is so beside the one before it
+unfoldable pub some_beside : List Effect → Bool
+some_beside [] = false
+some_beside (e ∷ es) = neighbours (fact_word e.fact) es
 
 -- in action a some effect clashes with one behind it
 abbrev pub clash_in : List ℕ → ℕ → Bool

@@ -4,4 +4,4 @@ use Rattle.fact_table.proofs.has.Goals as goal
 
 pub returns : goal.returns
 unfolding has_fact
-returns c = rw (← c.flag.ensures)
+returns c = rw (← c.get_or.ensures)

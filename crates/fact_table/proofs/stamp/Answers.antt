@@ -1,23 +1,12 @@
 -- `stamp` meets its contract: a fact that is taken is stamped, and none is left where none comes. Assumes nothing.
 use mathlib.Core.Path.{sym, ◌∙◌}
-use Rattle.fact_table.proofs.StampLaws.{stamped_none, stamped_first, stamped_past}
+use Rattle.fact_table.proofs.StampLaws.{stamped_none, stamped_first}
 use Rattle.fact_table.proofs.stamp.Goals as goal
-
-pub loop-fact-preserved-then-at-table : goal.loop-fact-preserved-then-at-table
-loop-fact-preserved-then-at-table g c =
-    let laws : _ = g.met.F.Facts in
-    (
-      (laws.goes_on _, laws.ends _),
-      sym (stamped_first _ _ _ _ _ (laws.gives _ _ _ c.in-Some.ensures.steps)) ∙ c.loop-fact.invariant.1,
-    )
 
 pub loop-fact-preserved : goal.loop-fact-preserved
 loop-fact-preserved g c =
     let laws : _ = g.met.F.Facts in
-    (
-      (laws.goes_on _, laws.ends _),
-      sym (stamped_past _ _ _ _ _ (laws.gives _ _ _ c.in-Some.ensures.steps) c.if-at-table.false) ∙ c.loop-fact.invariant.1,
-    )
+    ((laws.goes_on _, laws.ends _), rw c.put.ensures (sym (stamped_first _ _ _ _ _ (laws.gives _ _ _ c.in-Some.ensures.steps)) ∙ c.loop-fact.invariant.1))
 
 pub returns : goal.returns
 returns g c =

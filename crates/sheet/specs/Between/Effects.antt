@@ -1,5 +1,5 @@
 -- The effects of an action as the code goes through them, one by one. Assumes nothing.
-use Rattle.std.specs.Prelude.{ℕ, ◌+◌, min, cond, List, [], ◌∷◌, map, ltb}
+use Rattle.std.specs.Prelude.{ℕ, ◌+◌, ◌-◌, min, cond, List, [], ◌∷◌, map, ltb}
 use Rattle.sas.specs.Task.{Assignment, Effect}
 use Rattle.sas.specs.Plan.{unconditional}
 use Rattle.sheet.specs.declared.group.Group.{Group}
@@ -7,8 +7,9 @@ use Rattle.sheet.specs.declared.effects.Effects.{Effects}
 use Rattle.sheet.specs.declared.effects.ReadEffect.{ReadEffect}
 use Rattle.sheet.specs.declared.effects.EachEffect.{EachEffect}
 use Rattle.sheet.specs.declared.effects.WrittenFacts.{WrittenFacts}
+use Rattle.sheet.specs.declared.effects.EffectPlaces.{EffectPlaces}
 use Rattle.sheet.specs.Layout.{word, effect_start, effect_end, has_conditions, effect_fact}
-use Rattle.sheet.specs.Decode.{fact_of, effects}
+use Rattle.sheet.specs.Decode.{fact_of, effect_words, effects}
 use Rattle.sheet.specs.Between.Group.{group_left}
 
 -- the effects of action a
@@ -37,6 +38,10 @@ written_left e = written_in e.words.now e.rest
 
 abbrev pub effect_read : ReadEffect → Effect
 effect_read e = record { condition = group_left e.condition; fact = fact_of e.fact }
+
+-- the words at which the effects that are left stand, where they have conditions
+abbrev pub places_left : EffectPlaces → List ℕ
+places_left e = effect_words e.words.now e.end e.at (e.end - e.at)
 
 -- where the fact of the first stands
 unfoldable pub fact_place : List ℕ → Effects → ℕ

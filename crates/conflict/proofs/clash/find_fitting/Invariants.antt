@@ -1,12 +1,9 @@
--- `find_fitting` meets its contract. The loop's invariant: some effect left fits just where one of all does. The measure is the number of words left. Assumes nothing.
-use Prim.Native.Nat.{◌-◌}
+-- `find_fitting` meets its contract. The loop's invariant: one of those that are left fits just where one of all does. Assumes nothing.
 use mathlib.Core.Path.{◌≡◌}
-use Rattle.sheet.specs.Between.Effects.{effects_in}
+use Rattle.sheet.specs.Between.Effects.{effects_left}
 use Rattle.conflict.specs.Between.Clash.{some_fits}
 use Rattle.conflict.proofs.clash.find_fitting.Given as goal
 
-abbrev pub invariant-loop-rest : goal.invariant-loop-rest
-invariant-loop-rest l = some_fits l.table l.variable (effects_in l.w l.rest) ≡ some_fits l.table l.variable (effects_in l.w l.initial.rest)
-
-abbrev pub decreases-loop-rest : goal.decreases-loop-rest
-decreases-loop-rest l = l.rest.end - l.rest.at
+abbrev pub invariant-loop-effect : goal.invariant-loop-effect
+invariant-loop-effect l = (goal.iterator-loop-effect.can_next l.effect-iterator × goal.iterator-loop-effect.is_finite l.effect-iterator)
+    × (some_fits l.table l.wanted (effects_left l.effect-iterator) ≡ some_fits l.table l.wanted (effects_left l.initial.effect-iterator))

@@ -1,9 +1,9 @@
--- `first_writes` meets its contract: the first effect is asked for its variable, and where there is none nothing is written. Assumes nothing.
-use Rattle.conflict.proofs.ClashLaws.{first_writes_none, first_writes_tested}
+-- `first_writes` meets its contract, by whether there is a first. Assumes nothing.
+use Rattle.conflict.proofs.ClashLaws.{first_writes_none, first_writes_told}
 use Rattle.conflict.proofs.clash.first_writes.Goals as goal
 
-pub returns-then-effects : goal.returns-then-effects
-returns-then-effects c = first_writes_tested _ _ c.if-effects.true _ _ c.first.ensures.0
+pub returns-in-Some : goal.returns-in-Some
+returns-in-Some c = rw c.variable.ensures.0 (first_writes_told _ _ _ _ c.in-Some.ensures.steps _)
 
-pub returns : goal.returns
-returns c = first_writes_none _ _ _ c.if-effects.false
+pub returns-in-None : goal.returns-in-None
+returns-in-None c = first_writes_none _ _ c.in-None.ensures.steps.0

@@ -1,27 +1,23 @@
--- `have_neighbours` meets its contract. The loop's invariant: of the effects left, the first behind the word at hand, one is beside the one before it just where one of all is. The measure is the number of words left. Assumes nothing.
+-- `have_neighbours` meets its contract: an effect that is taken is beside the one before it or not, and none is left where none comes. Assumes nothing.
 use mathlib.Core.Path.{sym, ◌∙◌}
-use Rattle.sheet.proofs.EffectLaws.{effects_shorter}
-use Rattle.conflict.proofs.ClashLaws.{neighbours_over, neighbours_here, neighbours_later}
+use Rattle.conflict.proofs.ClashLaws.{neighbours_over, neighbours_here, neighbours_later, beside_over, beside_first}
 use Rattle.conflict.proofs.clash.have_neighbours.Goals as goal
 
-pub loop-rest-init : goal.loop-rest-init
-loop-rest-init c = rw c.first-fact.ensures.0
+pub returns-in_default : goal.returns-in_default
+returns-in_default c = beside_over _ c.in_default.ensures.steps.0
 
 pub returns-then-beside : goal.returns-then-beside
 returns-then-beside c =
-    let turn = c in
-    sym (neighbours_here _ _ _ turn.loop-rest-test.true _ turn.first-next.ensures.0 _ c.beside.ensures c.if-beside.true) ∙ turn.loop-rest.invariant
+    rw (← c.into_iter-effect-iterator.ensures.into_iter_gives)
+    (sym (neighbours_here _ _ _ _ c.in-Some-effect.ensures.steps _ _ c.beside.ensures c.if-beside.true) ∙ c.loop-effect.invariant.1)
+    ∙ beside_first _ _ _ _ c.in-Some.ensures.steps
 
-pub loop-rest-smaller : goal.loop-rest-smaller
-loop-rest-smaller c =
-    let turn = c in
-    effects_shorter turn.args.w.now _ _ c.rest-rest.ensures turn.loop-rest-test.true
-
-pub loop-rest-preserved : goal.loop-rest-preserved
-loop-rest-preserved c =
-    let turn = c in
-    rw c.rest-rest.ensures
-    (sym (neighbours_later _ _ _ turn.loop-rest-test.true _ turn.first-next.ensures.0 _ c.beside.ensures c.if-beside.false) ∙ turn.loop-rest.invariant)
+pub loop-effect-preserved : goal.loop-effect-preserved
+loop-effect-preserved c =
+    ((tt, tt), sym (neighbours_later _ _ _ _ c.in-Some-effect.ensures.steps _ _ c.beside.ensures c.if-beside.false) ∙ c.loop-effect.invariant.1)
 
 pub returns : goal.returns
-returns c = sym (neighbours_over _ _ _ c.loop-rest-test.false) ∙ c.loop-rest.invariant
+returns c =
+    rw (← c.into_iter-effect-iterator.ensures.into_iter_gives)
+    (sym (neighbours_over _ _ c.in-None.ensures.steps.0) ∙ c.loop-effect.invariant.1)
+    ∙ beside_first _ _ _ _ c.in-Some.ensures.steps

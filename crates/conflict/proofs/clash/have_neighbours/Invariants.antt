@@ -1,12 +1,9 @@
--- `have_neighbours` meets its contract. The loop's invariant: of the effects left, the first behind the word at hand, one is beside the one before it just where one of all is. The measure is the number of words left. Assumes nothing.
-use Prim.Native.Nat.{◌-◌}
+-- `have_neighbours` meets its contract. The loop's invariant: one of those that are left has a neighbour just where one of all has. Assumes nothing.
 use mathlib.Core.Path.{◌≡◌}
-use Rattle.sheet.specs.Between.Effects.{effects_in, first_written}
+use Rattle.sheet.specs.Between.Effects.{effects_left}
 use Rattle.conflict.specs.Between.Clash.{neighbours}
 use Rattle.conflict.proofs.clash.have_neighbours.Given as goal
 
-abbrev pub invariant-loop-rest : goal.invariant-loop-rest
-invariant-loop-rest l = neighbours l.fact (effects_in l.w l.rest) ≡ neighbours (first_written l.w l.initial.rest) (effects_in l.w l.initial.rest)
-
-abbrev pub decreases-loop-rest : goal.decreases-loop-rest
-decreases-loop-rest l = l.rest.end - l.rest.at
+abbrev pub invariant-loop-effect : goal.invariant-loop-effect
+invariant-loop-effect l = (goal.iterator-loop-effect.can_next l.effect-iterator × goal.iterator-loop-effect.is_finite l.effect-iterator)
+    × (neighbours l.before (effects_left l.effect-iterator) ≡ neighbours l.initial.before (effects_left l.initial.effect-iterator))

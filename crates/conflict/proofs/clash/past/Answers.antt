@@ -1,26 +1,14 @@
--- `past` meets its contract. The loop's invariant: what is beyond the fact among the effects left is what is beyond it among all. The measure is the number of words left. Assumes nothing.
+-- `past` meets its contract: an effect that is taken is passed or not, and none is left where none comes. Assumes nothing.
 use mathlib.Core.Path.{refl, sym, ◌∙◌}
-use Rattle.sheet.proofs.EffectLaws.{effects_shorter}
-use Rattle.conflict.proofs.ClashLaws.{skipped_over, skipped_here, skipped_next}
+use Rattle.conflict.proofs.ClashLaws.{past_over, past_here, past_next}
 use Rattle.conflict.proofs.clash.past.Goals as goal
 
-pub loop-rest-init : goal.loop-rest-init
-loop-rest-init c = refl
+pub returns-then-effect-fact : goal.returns-then-effect-fact
+returns-then-effect-fact c =
+    c.loop-effect.invariant.0 ∙ past_here _ _ _ _ c.in-Some.ensures.steps _ c.if-effect-fact.true ∙ c.loop-effect.invariant.1
 
-pub returns-then-first-fact : goal.returns-then-first-fact
-returns-then-first-fact c =
-    let read = c in
-    skipped_here _ _ read.loop-rest-test.true _ _ read.first.ensures.0 c.if-first-fact.true ∙ read.loop-rest.invariant
-
-pub loop-rest-smaller : goal.loop-rest-smaller
-loop-rest-smaller c =
-    let turn = c in
-    effects_shorter turn.args.w.now _ _ c.rest-rest.ensures turn.loop-rest-test.true
-
-pub loop-rest-preserved : goal.loop-rest-preserved
-loop-rest-preserved c =
-    let read = c in
-    rw c.rest-rest.ensures (sym (skipped_next _ _ read.loop-rest-test.true _ _ read.first.ensures.0 c.if-first-fact.false) ∙ read.loop-rest.invariant)
+pub loop-effect-preserved : goal.loop-effect-preserved
+loop-effect-preserved c = (refl, sym (past_next _ _ _ _ c.in-Some.ensures.steps _ c.if-effect-fact.false) ∙ c.loop-effect.invariant.1)
 
 pub returns : goal.returns
-returns c = skipped_over _ _ _ c.loop-rest-test.false ∙ c.loop-rest.invariant
+returns c = c.loop-effect.invariant.0 ∙ past_over _ _ c.in_default.ensures.steps.0 ∙ c.loop-effect.invariant.1

@@ -1,12 +1,12 @@
--- `past` meets its contract. The loop's invariant: what is beyond the fact among the effects left is what is beyond it among all. The measure is the number of words left. Assumes nothing.
-use Prim.Native.Nat.{◌-◌}
+-- `past` meets its contract. The loop's invariant: behind what is left stands what stands behind all, and `ahead` has as many left. Assumes nothing.
 use mathlib.Core.Path.{◌≡◌}
-use Rattle.sheet.specs.Between.Effects.{effects_in}
+use lib.ListN.{length}
+use Rattle.sheet.specs.Between.Effects.{effects_left}
 use Rattle.conflict.specs.Between.Clash.{beyond}
 use Rattle.conflict.proofs.clash.past.Given as goal
 
-abbrev pub invariant-loop-rest : goal.invariant-loop-rest
-invariant-loop-rest l = beyond l.fact (effects_in l.w l.rest) ≡ beyond l.fact (effects_in l.w l.initial.rest)
+abbrev pub invariant-loop-effect : goal.invariant-loop-effect
+invariant-loop-effect l = (effects_left l.rest ≡ effects_left l.ahead) × (beyond l.fact (effects_left l.ahead) ≡ beyond l.fact (effects_left l.initial.ahead))
 
-abbrev pub decreases-loop-rest : goal.decreases-loop-rest
-decreases-loop-rest l = l.rest.end - l.rest.at
+abbrev pub decreases-loop-effect : goal.decreases-loop-effect
+decreases-loop-effect l = length (effects_left l.ahead)

@@ -6,7 +6,7 @@ use Rattle.conflict.proofs.find.first_clash.Goals as goal
 
 pub loop-a-init : goal.loop-a-init
 unfolding clash_place
-loop-a-init c = rw c.actions-n.ensures.0
+loop-a-init c = rw c.actions-a-end.ensures.0
 
 pub returns-then-some_clash : goal.returns-then-some_clash
 returns-then-some_clash c = sym (first_here _ _ _ c.loop-a-test.true (sym c.some_clash.ensures ∙ c.if-some_clash.true)) ∙ c.loop-a.invariant

@@ -1,12 +1,9 @@
--- `denies` meets its contract: each return is decided by what the table says. Assumes nothing.
-use Rattle.conflict.proofs.DenyLaws.{nothing_said, same_said, other_said}
+-- `denies` meets its contract, by whether the table says something of the variable. Assumes nothing.
+use Rattle.conflict.proofs.DenyLaws.{nothing_said, something_said}
 use Rattle.conflict.proofs.table.denies.Goals as goal
 
-pub returns-then-said-eq-UNSAID : goal.returns-then-said-eq-UNSAID
-returns-then-said-eq-UNSAID c = nothing_said _ _ _ c.word-said.ensures.0 c.if-said-eq-UNSAID.true
+pub returns-then-said-ne-UNSAID : goal.returns-then-said-ne-UNSAID
+returns-then-said-ne-UNSAID c = rw c.value.ensures.0 (something_said _ _ _ (rw (← c.variable.ensures.0) c.get_or-said.ensures) c.if-said-ne-UNSAID.true)
 
-pub returns-then-said-fact : goal.returns-then-said-fact
-returns-then-said-fact c = same_said _ _ _ c.word-said.ensures.0 c.if-said-eq-UNSAID.false c.if-said-fact.true
-
-pub returns : goal.returns
-returns c = other_said _ _ _ c.word-said.ensures.0 c.if-said-eq-UNSAID.false c.if-said-fact.false
+pub returns-else-said-ne-UNSAID : goal.returns-else-said-ne-UNSAID
+returns-else-said-ne-UNSAID c = nothing_said _ _ _ (rw (← c.variable.ensures.0) c.get_or-said.ensures) c.if-said-ne-UNSAID.false

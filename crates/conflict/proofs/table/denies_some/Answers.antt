@@ -1,25 +1,16 @@
--- `denies_some` meets its contract. The loop's invariant: the table denies one of the facts left just where it denies one of all. The measure is the number of words left. Assumes nothing.
+-- `denies_some` meets its contract: `any` tells whether one of the facts is denied. Assumes nothing.
 use mathlib.Core.Path.{refl, sym, ◌∙◌}
-use Rattle.sheet.proofs.GroupLaws.{rest_shorter}
-use Rattle.conflict.proofs.DenyLaws.{denied_over, denied_here, denied_later}
+use Rattle.std.proofs.Common.{rules}
+use borrow.Author.Tests.{tests}
+use Rattle.std.proofs.lemmas.Iterator.Search.{any_from_yields_List}
+use Rattle.std.proofs.lemmas.Iterator.Consumers.{YieldsList-from_first}
+use Rattle.sheet.specs.Decode.{fact_of}
+use Rattle.sheet.specs.Between.Group.{group_left}
+use Rattle.conflict.specs.Between.Table.{denies}
+use Rattle.conflict.proofs.DenyLaws.{some_of_any}
 use Rattle.conflict.proofs.table.denies_some.Goals as goal
 
-pub loop-rest-init : goal.loop-rest-init
-loop-rest-init c = refl
-
-pub returns-then-denies : goal.returns-then-denies
-returns-then-denies c =
-    let read = c in
-    sym (denied_here _ _ _ read.loop-rest-test.true _ read.first.ensures.0 _ c.denies.ensures c.if-denies.true) ∙ read.loop-rest.invariant
-
-pub loop-rest-smaller : goal.loop-rest-smaller
-loop-rest-smaller c = rest_shorter _ _ c.rest-rest.ensures c.loop-rest-test.true
-
-pub loop-rest-preserved : goal.loop-rest-preserved
-loop-rest-preserved c =
-    let read = c in
-    rw c.rest-rest.ensures
-    (sym (denied_later _ _ _ read.loop-rest-test.true _ read.first.ensures.0 _ c.denies.ensures c.if-denies.false) ∙ read.loop-rest.invariant)
-
 pub returns : goal.returns
-returns c = sym (denied_over _ _ _ c.loop-rest-test.false) ∙ c.loop-rest.invariant
+returns c =
+    any_from_yields_List (denies c.args.table.now) c.any.new.self _ _ c.any.ensures.ran (YieldsList-from_first fact_of group_left {s = c.args.facts} _ refl) (λ x b q k. search (rules, tests))
+    ∙ sym (some_of_any _ _)

@@ -6,4 +6,4 @@ pub returns : goal.returns
 returns c =
     λ readable up.
     pass_made _ _ readable _ up _ _ _ _ _ _ _ _ c.walk-arg-2-1.given.0.1 c.start-latest.ensures c.walk.ensures c.goal.ensures
-    c.note.ensures c.close.ensures
+    (rw (← c.facts.ensures) c.note.ensures) c.close.ensures

@@ -1,15 +1,9 @@
--- `note` meets its contract. The loop's invariant: noting what is left makes of the rows what noting all makes, and no length changes. The measure is the
--- number of words left. Assumes nothing.
-use Prim.Native.Nat.{◌-◌}
+-- `note` meets its contract. The loop's invariant: noting the facts that are left makes of the rows what noting all makes. Assumes nothing.
 use mathlib.Core.Path.{◌≡◌}
-use lib.ListN.{length}
-use Rattle.sheet.specs.Between.Group.{facts_in}
+use Rattle.sheet.specs.Between.Group.{group_left}
 use Rattle.landmark.specs.Between.Rows.{supports_noted}
 use Rattle.landmark.proofs.rows.note.Given as goal
 
-abbrev pub invariant-loop-rest : goal.invariant-loop-rest
-invariant-loop-rest l =
-    (supports_noted l.traces l.to (facts_in l.words l.rest) l.rows ≡ supports_noted l.traces l.initial.to (facts_in l.words l.initial.rest) l.initial.rows) × (length l.rows ≡ length l.initial.rows)
-
-abbrev pub decreases-loop-rest : goal.decreases-loop-rest
-decreases-loop-rest l = l.rest.end - l.rest.at
+abbrev pub invariant-loop-fact : goal.invariant-loop-fact
+invariant-loop-fact l = (goal.iterator-loop-fact.can_next l.fact-iterator × goal.iterator-loop-fact.is_finite l.fact-iterator)
+    × (supports_noted l.traces l.to (group_left l.fact-iterator) l.rows ≡ supports_noted l.traces l.initial.to (group_left l.initial.fact-iterator) l.initial.rows)

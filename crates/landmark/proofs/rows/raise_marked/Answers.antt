@@ -2,8 +2,8 @@
 
 use Rattle.landmark.proofs.rows.raise_marked.Goals as goal
 
-pub returns-then-flag : goal.returns-then-flag
-returns-then-flag c = rw (← c.flag.ensures, c.if-flag.true) c.raise_row.ensures
+pub returns-then-get_or : goal.returns-then-get_or
+returns-then-get_or c = rw (← c.get_or.ensures, c.if-get_or.true) c.raise_row.ensures
 
-pub returns-else-flag : goal.returns-else-flag
-returns-else-flag c = rw (← c.flag.ensures, c.if-flag.false)
+pub returns-else-get_or : goal.returns-else-get_or
+returns-else-get_or c = rw (← c.get_or.ensures, c.if-get_or.false)

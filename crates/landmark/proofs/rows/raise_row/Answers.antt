@@ -1,33 +1,17 @@
--- `raise_row` meets its contract. The loop's invariant: raising what is left makes of the flags what raising all makes, and no length changes. The measure is
--- the number of words left. Assumes nothing.
-use mathlib.Core.Path.{refl, sym, ◌∙◌}
-use Rattle.sheet.proofs.GroupLaws.{rest_shorter}
+-- `raise_row` meets its contract: the flag of a fact that is taken is raised, and none is left where none comes. Assumes nothing.
+use mathlib.Core.Path.{sym, ◌∙◌}
 use Rattle.landmark.proofs.RowLaws.{raised_over, raised_next, raised_past}
-use Rattle.std.proofs.Common.{rules}
 use Rattle.landmark.proofs.rows.raise_row.Goals as goal
 
-pub loop-rest-init : goal.loop-rest-init
-loop-rest-init c = (refl, refl)
+pub loop-fact-preserved-then-from-rows : goal.loop-fact-preserved-then-from-rows
+loop-fact-preserved-then-from-rows c =
+    ((tt, tt), rw c.put.ensures (sym (raised_next _ _ _ _ _ _ _ c.in-Some.ensures.steps c.get_or.ensures) ∙ c.loop-fact.invariant.1))
 
-pub loop-rest-smaller-then-from-rows : goal.loop-rest-smaller-then-from-rows
-loop-rest-smaller-then-from-rows c = rest_shorter _ _ c.rest-rest.ensures c.loop-rest-test.true
-
-pub loop-rest-preserved-then-from-rows : goal.loop-rest-preserved-then-from-rows
-loop-rest-preserved-then-from-rows c = (
-  rw (c.rest-rest.ensures, c.raise.ensures)
-      (sym (raised_next _ _ _ _ _ c.loop-rest-test.true _ c.byte.ensures) ∙ c.loop-rest.invariant.0),
-  search rules,
-)
-
-pub loop-rest-smaller : goal.loop-rest-smaller
-loop-rest-smaller c = rest_shorter _ _ c.rest-rest.ensures c.loop-rest-test.true
-
-pub loop-rest-preserved : goal.loop-rest-preserved
-loop-rest-preserved c = (
-  rw (c.rest-rest.ensures, c.raise.ensures)
-      (sym (raised_past _ _ _ _ _ c.loop-rest-test.true _ c.byte.ensures c.if-from-rows.false) ∙ c.loop-rest.invariant.0),
-  search rules,
-)
+pub loop-fact-preserved : goal.loop-fact-preserved
+loop-fact-preserved c =
+    ((tt, tt), rw c.put.ensures (sym (raised_past _ _ _ _ _ _ _ c.in-Some.ensures.steps c.get_or.ensures c.if-from-rows.false) ∙ c.loop-fact.invariant.1))
 
 pub returns : goal.returns
-returns c = sym (raised_over _ _ _ _ _ c.loop-rest-test.false) ∙ c.loop-rest.invariant.0
+returns c =
+    rw (← c.into_iter-fact-iterator.ensures.into_iter_gives)
+    (sym (raised_over _ _ _ _ c.in-None.ensures.steps.0) ∙ c.loop-fact.invariant.1)

@@ -1,6 +1,5 @@
 -- `facts_of` meets its contract: offset, header, number of precondition facts and length, each as read. Assumes nothing.
 
-use Rattle.std.proofs.Common.{rules}
 use Rattle.sheet.proofs.group.facts_of.Goals as goal
 
 pub returns : goal.returns

@@ -1,6 +1,5 @@
 -- `goal` meets its contract: offset and length, each as read. Assumes nothing.
 
-use Rattle.std.proofs.Common.{rules}
 use Rattle.sheet.proofs.group.goal.Goals as goal
 
 pub returns : goal.returns

@@ -1,7 +1,6 @@
 -- `cost` meets its contract: the word at the offset that the action's pair has. Assumes nothing.
 use mathlib.Core.Path.{◌∙◌}
-use Rattle.std.proofs.Common.{rules}
 use Rattle.sheet.proofs.layout.cost.Goals as goal
 
 pub returns : goal.returns
-returns c = (c.word.ensures.0 ∙ rw (← c.offset.ensures.0), c.word.ensures.1)
+returns c = (c.get_or.ensures ∙ rw (← c.offset.ensures.0), c.get_or.type_inv)

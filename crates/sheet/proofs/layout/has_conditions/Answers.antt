@@ -1,6 +1,5 @@
 -- `has_conditions` meets its contract: the edition, as read. Assumes nothing.
 
-use Rattle.std.proofs.Common.{rules}
 use Rattle.sheet.proofs.layout.has_conditions.Goals as goal
 
 -- src/layout.rt:46:1

@@ -7,7 +7,7 @@ use Rattle.sheet_check.proofs.costs.bad_cost_place.Goals as goal
 
 pub loop-a-init : goal.loop-a-init
 unfolding cost_place
-loop-a-init c = rw c.actions-n.ensures.0
+loop-a-init c = rw c.actions-a-end.ensures.0
 
 pub returns-then-cost-gt-COST : goal.returns-then-cost-gt-COST
 returns-then-cost-gt-COST c = sym (first_here _ _ _ c.loop-a-test.true (rw (← c.cost.ensures.0) (lt-ltb _ _ c.if-cost-gt-COST.true))) ∙ c.loop-a.invariant

@@ -1,6 +1,5 @@
 -- `bad_cost_place` meets its contract. The loop's invariant: the search from a on finds what the whole search finds. Assumes nothing.
 use mathlib.Core.Path.{◌≡◌}
-use Prim.Native.Nat.{◌-◌}
 use Rattle.refusal.specs.Place.{first}
 use lib.Dec.{ltb}
 use Rattle.sheet.specs.Limits.{limits}
@@ -9,7 +8,4 @@ use Rattle.sheet.specs.Causes.{cost_place}
 use Rattle.sheet_check.proofs.costs.bad_cost_place.Given as goal
 
 abbrev pub invariant-loop-a : goal.invariant-loop-a
-invariant-loop-a l = first (λ k. ltb limits.cost (cost_word l.w k)) l.a l.n ≡ cost_place l.w
-
-abbrev pub decreases-loop-a : goal.decreases-loop-a
-decreases-loop-a l = l.n - l.a
+invariant-loop-a l = first (λ k. ltb limits.cost (cost_word l.w k)) l.a l.a-end ≡ cost_place l.w

@@ -1,18 +1,18 @@
--- `bad_in_group` meets its contract. The loop's invariant: the search from i on finds what the whole search finds. Assumes nothing.
-use mathlib.Core.Path.{refl, sym, ◌∙◌}
-use Rattle.refusal.proofs.PlaceLaws.{first_over, first_here, first_more}
-use Rattle.sheet.specs.Causes.{group_place}
+-- `bad_in_group` meets its contract: `find` gives the first bad fact. Assumes nothing.
+use Prim.Native.Nat.{◌-◌}
+use mathlib.Core.Path.{refl}
+use Rattle.std.proofs.Common.{rules}
+use borrow.Author.Tests.{tests}
+use Rattle.std.proofs.lemmas.Iterator.{YieldsList-from_range}
+use Rattle.std.proofs.lemmas.Iterator.Search.{find_from_yields_List}
+use Rattle.sheet_check.proofs.FoundLaws.{first_found}
+use Rattle.sheet.specs.Causes.{bad_fact, group_place}
 use Rattle.sheet_check.proofs.facts.bad_in_group.Goals as goal
 
-pub loop-i-init : goal.loop-i-init
-unfolding group_place
-loop-i-init c = refl
-
-pub returns-then-bad_fact : goal.returns-then-bad_fact
-returns-then-bad_fact c = sym (first_here _ _ _ c.loop-i-test.true (sym c.bad_fact.ensures ∙ c.if-bad_fact.true)) ∙ c.loop-i.invariant
-
-pub loop-i-preserved : goal.loop-i-preserved
-loop-i-preserved c = sym (first_more _ _ _ c.loop-i-test.true (sym c.bad_fact.ensures ∙ c.if-bad_fact.false)) ∙ c.loop-i.invariant
-
 pub returns : goal.returns
-returns c = sym (first_over _ _ _ c.loop-i-test.false) ∙ c.loop-i.invariant
+unfolding group_place
+returns c =
+    let from : _ = c.args.group.at in
+    let end : _ = c.args.group.end in
+    first_found (bad_fact c.args.w.now from) from end _
+    (find_from_yields_List (bad_fact c.args.w.now from) c.find.new.self _ c.find.result c.find.ensures.ran (YieldsList-from_range from end (end - from) refl refl) (λ x b q k. search (rules, tests)))

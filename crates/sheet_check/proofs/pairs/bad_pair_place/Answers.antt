@@ -8,7 +8,7 @@ pub returns-then-number-pairs_end : goal.returns-then-number-pairs_end
 returns-then-number-pairs_end c = sym (pairs_unfit _ (rw (← c.number.ensures.0, ← c.pairs_end.ensures.0) c.if-number-pairs_end.true))
 
 pub loop-k-init : goal.loop-k-init
-loop-k-init c = rw c.actions-pairs.ensures.0 (sym (pairs_fit _ (rw (← c.number.ensures.0, ← c.pairs_end.ensures.0) c.if-number-pairs_end.false)))
+loop-k-init c = rw c.actions-k-end.ensures.0 (sym (pairs_fit _ (rw (← c.number.ensures.0, ← c.pairs_end.ensures.0) c.if-number-pairs_end.false)))
 
 pub returns-then-bad_pair : goal.returns-then-bad_pair
 returns-then-bad_pair c = sym (first_here _ _ _ c.loop-k-test.true (sym c.bad_pair.ensures ∙ c.if-bad_pair.true)) ∙ c.loop-k.invariant

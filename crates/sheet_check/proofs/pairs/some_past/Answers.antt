@@ -1,21 +1,15 @@
--- `some_past` meets its contract. The loop's invariant: some effect from word i on runs past the end just where some effect does. The measure is the number of words left. Assumes nothing.
-use mathlib.Core.Path.{refl, sym, ◌∙◌}
-use Rattle.sheet_check.proofs.PastLaws.{past_over, past_here, past_more}
+-- `some_past` meets its contract: `any` tells whether one of the effects runs past the end. Assumes nothing.
+use mathlib.Core.Path.{sym, ◌∙◌}
+use Rattle.std.proofs.Common.{rules}
+use borrow.Author.Tests.{tests}
+use Rattle.std.proofs.lemmas.Iterator.Search.{any_from_yields_List}
+use Rattle.std.proofs.lemmas.Iterator.Consumers.{YieldsList-from_first}
+use Rattle.sheet.specs.Causes.{runs_past}
+use Rattle.sheet.specs.Between.Effects.{places_left}
+use Rattle.conflict.proofs.DenyLaws.{some_of_any}
 use Rattle.sheet_check.proofs.pairs.some_past.Goals as goal
 
-pub loop-i-init : goal.loop-i-init
-loop-i-init c = refl
-
-pub returns-then-end-i : goal.returns-then-end-i
-returns-then-end-i c =
-    sym (past_here _ _ _ _ c.loop-i-test.true c.number.ensures.0 c.if-end-i.true)
-    ∙ c.loop-i.invariant
-
-pub loop-i-preserved : goal.loop-i-preserved
-loop-i-preserved c =
-    let turn = c in
-    sym (past_more _ _ _ _ _ turn.loop-i-test.true turn.number.ensures.0 c.if-end-i.false c.effect_fact-i.ensures)
-    ∙ turn.loop-i.invariant
-
 pub returns : goal.returns
-returns c = sym (past_over _ _ _ c.loop-i-test.false) ∙ c.loop-i.invariant
+returns c =
+    any_from_yields_List (runs_past c.args.w.now c.args.end) c.any.new.self _ _ c.any.ensures.ran (YieldsList-from_first (λ i. i) places_left _ c.new.ensures) (λ x b q k. search (rules, tests))
+    ∙ sym (some_of_any _ _)

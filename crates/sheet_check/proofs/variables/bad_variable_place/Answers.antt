@@ -6,7 +6,7 @@ use Rattle.sheet_check.proofs.variables.bad_variable_place.Goals as goal
 
 pub loop-v-init : goal.loop-v-init
 unfolding variable_place
-loop-v-init c = rw c.variables-n.ensures.0
+loop-v-init c = rw c.variables-v-end.ensures.0
 
 pub returns-then-bad_variable : goal.returns-then-bad_variable
 returns-then-bad_variable c = sym (first_here _ _ _ c.loop-v-test.true (sym c.bad_variable.ensures ∙ c.if-bad_variable.true)) ∙ c.loop-v.invariant

@@ -1,6 +1,5 @@
 -- `advance_in` meets its contract: the front is lent, or all where there is no more. Assumes nothing.
 use Rattle.step.proofs.AdvanceLaws.{part_length, advances_part, advances_whole}
-use Rattle.std.proofs.Common.{rules}
 use Rattle.step.proofs.advance.advance_in.Goals as goal
 
 pub slice_bounds-advance-end-then-n-values : goal.slice_bounds-advance-end-then-n-values

@@ -1,16 +1,11 @@
--- `step::facts::holds` meets its contract: the test of the code is that of the definition, by whether the state has the variable. Assumes nothing.
-use native.Mathlib.Omega.{arith}
-use mathlib.Core.Path.{sym}
-use Prim.Native.Nat.{◌/◌}
+-- `holds` meets its contract: the test of the code is that of the definition, by whether the state has the variable. Assumes nothing.
+use mathlib.Core.Path.{sym, ◌∙◌}
+use borrow.Author.Tests.{le-ltb}
 use Rattle.sas.proofs.FactLaws.{holds_known, holds_unknown}
-use Rattle.std.proofs.Common.{rules}
 use Rattle.step.proofs.facts.holds.Goals as goal
 
-pub overflow_cast-result : goal.overflow_cast-result
-overflow_cast-result c = omega (arith, c.shared_slice_known-1.given (c.args.fact / 256))
+pub returns-then-v-state : goal.returns-then-v-state
+returns-then-v-state c = rw (c.value.ensures.0, c.variable-v.ensures.0) (sym (holds_known _ _ (rw c.variable-v.ensures.0 at c.if-v-state.true)))
 
-pub returns-then-variable-state : goal.returns-then-variable-state
-returns-then-variable-state c = sym (holds_known _ _ c.if-variable-state.true)
-
-pub returns-else-variable-state : goal.returns-else-variable-state
-returns-else-variable-state c = sym (holds_unknown _ _ c.if-variable-state.false)
+pub returns-else-v-state : goal.returns-else-v-state
+returns-else-v-state c = le-ltb _ _ c.if-v-state.false ∙ sym (holds_unknown _ _ (rw c.variable-v.ensures.0 at c.if-v-state.false))

@@ -1,24 +1,19 @@
--- `write_acting` meets its contract. The loop's invariant: writing what is left makes of the state what writing all makes, and no length changes. The measure is the number of words left. Assumes nothing.
-use Prim.Native.Nat.{◌-◌}
-use mathlib.Core.Path.{◌≡◌, refl, sym, ◌∙◌}
-use lib.ListN.{length}
-use Rattle.sas.specs.Plan.{assign, acting}
-use Rattle.sheet.specs.Between.Effects.{effects_in}
-use Rattle.sheet.proofs.EffectLaws.{effects_shorter}
-use Rattle.step.proofs.FailingLaws.{acting_over, acting_next}
-use Rattle.std.proofs.Common.{rules}
+-- `write_acting` meets its contract: the fact of an effect that is taken is written where its condition holds, and none is left where none comes. Assumes nothing.
+use mathlib.Core.Path.{sym, ◌∙◌}
+use Rattle.step.proofs.FailingLaws.{is_none_told, acting_over, acting_next, acting_not}
 use Rattle.step.proofs.facts.write_acting.Goals as goal
 
-pub loop-rest-init : goal.loop-rest-init
-loop-rest-init c = (refl, refl)
+pub loop-effect-preserved-then-is_none : goal.loop-effect-preserved-then-is_none
+loop-effect-preserved-then-is_none c =
+    let passed : _ = is_none_told _ _ c.is_none.ensures ∙ c.if-is_none.true in
+    ((tt, tt), rw c.put_fact.ensures (sym (acting_next _ _ _ _ _ _ c.in-Some.ensures.steps _ c.find_failing.ensures passed) ∙ c.loop-effect.invariant.1))
 
-pub loop-rest-smaller : goal.loop-rest-smaller
-loop-rest-smaller c = effects_shorter c.args.words.now _ _ c.rest-rest.ensures c.loop-rest-test.true
-
-pub loop-rest-preserved : goal.loop-rest-preserved
-loop-rest-preserved c =
-    let turn = c in
-    (rw c.rest-rest.ensures (sym (acting_next _ _ _ _ turn.loop-rest-test.true _ turn.write_first.ensures) ∙ turn.loop-rest.invariant.0), search rules)
+pub loop-effect-preserved : goal.loop-effect-preserved
+loop-effect-preserved c =
+    let failed : _ = is_none_told _ _ c.is_none.ensures ∙ c.if-is_none.false in
+    ((tt, tt), sym (acting_not _ _ _ _ _ _ c.in-Some.ensures.steps _ c.find_failing.ensures failed) ∙ c.loop-effect.invariant.1)
 
 pub returns : goal.returns
-returns c = sym (acting_over _ _ _ _ c.loop-rest-test.false) ∙ c.loop-rest.invariant.0
+returns c =
+    let whole : _ = sym (acting_over _ _ _ c.in-None.ensures.steps.0) ∙ c.loop-effect.invariant.1 in
+    rw (← c.into_iter-effect-iterator.ensures.into_iter_gives) whole

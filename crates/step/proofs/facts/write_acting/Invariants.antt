@@ -1,15 +1,9 @@
--- `write_acting` meets its contract. The loop's invariant: writing what is left makes of the state what writing all makes, and no length changes. The measure is the number of words left. Assumes nothing.
-use Prim.Native.Nat.{◌-◌}
-use mathlib.Core.Path.{◌≡◌, refl, sym, ◌∙◌}
-use lib.ListN.{length}
+-- `write_acting` meets its contract. The loop's invariant: writing what is left makes of the state what writing all makes. Assumes nothing.
+use mathlib.Core.Path.{◌≡◌}
 use Rattle.sas.specs.Plan.{assign, acting}
-use Rattle.sheet.specs.Between.Effects.{effects_in}
-use Rattle.sheet.proofs.EffectLaws.{effects_shorter}
-use Rattle.step.proofs.FailingLaws.{acting_over, acting_next}
+use Rattle.sheet.specs.Between.Effects.{effects_left}
 use Rattle.step.proofs.facts.write_acting.Given as goal
 
-abbrev pub invariant-loop-rest : goal.invariant-loop-rest
-invariant-loop-rest l = (assign l.state (acting l.before (effects_in l.words l.rest)) ≡ assign l.initial.state (acting l.before (effects_in l.words l.initial.rest))) × (length l.state ≡ length l.initial.state)
-
-abbrev pub decreases-loop-rest : goal.decreases-loop-rest
-decreases-loop-rest l = l.rest.end - l.rest.at
+abbrev pub invariant-loop-effect : goal.invariant-loop-effect
+invariant-loop-effect l = (goal.iterator-loop-effect.can_next l.effect-iterator × goal.iterator-loop-effect.is_finite l.effect-iterator)
+    × (assign l.state (acting l.before (effects_left l.effect-iterator)) ≡ assign l.initial.state (acting l.before (effects_left l.initial.effect-iterator)))

@@ -1,7 +1,5 @@
 -- `try_step` meets its contract: an unknown action, a step that is done, or one that can't be. Assumes nothing.
 use Rattle.step.proofs.StepLaws.{tries_unknown, tries_fails, tries_done}
-use native.Mathlib.Omega.{arith}
-use Rattle.std.proofs.Common.{rules}
 use Rattle.step.proofs.one.try_step.Goals as goal
 
 pub returns-then-actions-action : goal.returns-then-actions-action

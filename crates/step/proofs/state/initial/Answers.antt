@@ -1,10 +1,8 @@
 -- `initial` meets its contract. The loop's invariant: storing the values from v on makes what storing all makes. Assumes nothing.
-use lib.ListN.{length-set, length, replicate}
-use Rattle.step.proofs.StateLaws.{started_whole, started, started_over, started_more}
+use lib.ListN.{length-set}
+use Rattle.step.proofs.StateLaws.{started_whole, started_over, started_more}
 use Rattle.step.specs.State.{in_array}
-use mathlib.Core.Path.{◌≡◌, refl, sym, ◌∙◌}
-use Prim.Native.Nat.{◌-◌}
-use Rattle.std.proofs.Common.{rules}
+use mathlib.Core.Path.{refl, sym, ◌∙◌}
 use Rattle.step.proofs.state.initial.Goals as goal
 
 pub loop-v-init : goal.loop-v-init

@@ -1,8 +1,7 @@
 -- `initial` meets its contract. The loop's invariant: storing the values from v on makes what storing all makes. Assumes nothing.
-use lib.ListN.{length-set, length, replicate}
-use Rattle.step.proofs.StateLaws.{started_whole, started, started_over, started_more}
-use Rattle.step.specs.State.{in_array}
-use mathlib.Core.Path.{◌≡◌, refl, sym, ◌∙◌}
+use lib.ListN.{length, replicate}
+use Rattle.step.proofs.StateLaws.{started}
+use mathlib.Core.Path.{◌≡◌}
 use Prim.Native.Nat.{◌-◌}
 use Rattle.step.proofs.state.initial.Given as goal
 

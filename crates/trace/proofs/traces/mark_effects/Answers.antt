@@ -1,23 +1,19 @@
--- `mark_effects` meets its contract. The loop's invariant: marking what is left makes of the words what marking all makes, and no length changes.
--- The measure is the number of words left. Assumes nothing.
-use Rattle.sheet.proofs.EffectLaws.{effects_shorter}
-use Rattle.trace.proofs.TraceLaws.{marking_start, marking_more, marking_end}
-use Rattle.std.proofs.Common.{rules}
+-- `mark_effects` meets its contract: an effect that is taken is marked where it has no condition, and none is left where none comes. Assumes nothing.
+use mathlib.Core.Bool.{true≢false}
+use mathlib.Core.Path.{sym, ◌∙◌}
+use Rattle.sheet.specs.Between.Effects.{always_in}
+use Rattle.trace.proofs.TraceLaws.{latest_none, latest_always, latest_not}
 use Rattle.trace.proofs.traces.mark_effects.Goals as goal
 
-pub loop-rest-init : goal.loop-rest-init
-loop-rest-init c = marking_start _ _ _ _
+pub loop-effect-preserved-then-is_empty : goal.loop-effect-preserved-then-is_empty
+loop-effect-preserved-then-is_empty c =
+    ((tt, tt), rw c.mark_fact.ensures (sym (latest_always _ _ _ _ _ _ c.in-Some.ensures.steps (c.is_empty.ensures.0 c.if-is_empty.true)) ∙ c.loop-effect.invariant.1))
 
-pub loop-rest-smaller : goal.loop-rest-smaller
-loop-rest-smaller c = effects_shorter c.args.words.now _ _ c.rest-rest.ensures c.loop-rest-test.true
-
-pub loop-rest-preserved : goal.loop-rest-preserved
-loop-rest-preserved c =
-    let turn = c in
-    marking_more _ _ _ _ _ _ turn.loop-rest.invariant turn.loop-rest-test.true _ turn.mark_first.ensures (search rules) _ c.rest-rest.ensures
-
-pub shape_of-latest : goal.shape_of-latest
-shape_of-latest c = c.loop-rest.invariant.sized
+pub loop-effect-preserved : goal.loop-effect-preserved
+loop-effect-preserved c = ((tt, tt), sym (latest_not _ _ _ _ _ _ c.in-Some.ensures.steps (λ none. true≢false (sym (c.is_empty.ensures.1 none) ∙ c.if-is_empty.false))) ∙ c.loop-effect.invariant.1)
 
 pub returns : goal.returns
-returns c = marking_end _ _ _ _ _ _ c.loop-rest.invariant c.loop-rest-test.false
+unfolding always_in
+returns c =
+    let whole : _ = sym (latest_none _ _ _ c.in-None.ensures.steps.0) ∙ c.loop-effect.invariant.1 in
+    rw (← c.each-effect-items.ensures, ← c.into_iter-effect-iterator.ensures.into_iter_gives) whole

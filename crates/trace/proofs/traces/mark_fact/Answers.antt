@@ -3,4 +3,6 @@ use Rattle.trace.proofs.TraceLaws.{latest_put}
 use Rattle.trace.proofs.traces.mark_fact.Goals as goal
 
 pub returns : goal.returns
-returns c = latest_put _ _ _ _ _ _ _ c.until-seen.ensures c.put.ensures c.put-2.ensures c.put-3.ensures
+returns c =
+    let row : _ = c.variable-v.ensures.0 in
+    latest_put _ _ _ _ _ _ _ c.until-seen.ensures (rw row at c.put.ensures) (rw row at c.put-2.ensures) (rw row at c.put-3.ensures)

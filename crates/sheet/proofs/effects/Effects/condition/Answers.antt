@@ -1,7 +1,6 @@
 -- `condition` meets its contract: up to where the fact stands, or none. Assumes nothing.
 use mathlib.Core.Path.{sym}
 use Rattle.sheet.proofs.EffectLaws.{plain_group, group_before, group_past}
-use Rattle.std.proofs.Common.{rules}
 use Rattle.sheet.proofs.effects.Effects.condition.Goals as goal
 
 -- src/effects.rt:43:17

@@ -1,7 +1,6 @@
 -- `fact_place` meets its contract: with a condition, or without. Assumes nothing.
 use mathlib.Core.Path.{sym, ◌∙◌}
 use Rattle.sheet.proofs.EffectLaws.{conditional_fact, plain_fact}
-use Rattle.std.proofs.Common.{rules}
 use Rattle.sheet.proofs.effects.Effects.fact_place.Goals as goal
 
 -- src/effects.rt:24:13

@@ -1,9 +1,8 @@
 -- `first` of effects meets its contract: the word where its fact stands. Assumes nothing.
 use Rattle.sheet.specs.Between.Effects.{first_written}
-use Rattle.std.proofs.Common.{rules}
 use Rattle.sheet.proofs.effects.Effects.first.Goals as goal
 
 -- src/effects.rt:30:5
 pub returns : goal.returns
 unfolding first_written
-returns c = (rw (← c.fact_place.ensures) c.word.ensures.0, c.word.ensures.1)
+returns c = (rw (← c.fact_place.ensures) c.get_or.ensures, c.get_or.type_inv)

@@ -1,7 +1,6 @@
 -- `rest` of effects meets its contract: behind the fact of the first, at most at the end; or there is none. Assumes nothing.
 use mathlib.Core.Path.{sym}
 use Rattle.sheet.proofs.EffectLaws.{rest_before, rest_past, rest_effects_none}
-use Rattle.std.proofs.Common.{rules}
 use Rattle.sheet.proofs.effects.Effects.rest.Goals as goal
 
 -- src/effects.rt:66:17

@@ -1,7 +1,6 @@
 -- `front` meets its contract: the group has a fact, or it is empty. Assumes nothing.
 use mathlib.Core.Path.{sym}
 use Rattle.sheet.proofs.GroupLaws.{front_of_some, front_of_none}
-use Rattle.std.proofs.Common.{rules}
 use Rattle.sheet.proofs.group.Group.front.Goals as goal
 
 pub returns-then-self : goal.returns-then-self

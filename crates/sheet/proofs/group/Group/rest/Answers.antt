@@ -1,7 +1,6 @@
 -- `rest` meets its contract: the group has a fact, or it is empty. Assumes nothing.
 use mathlib.Core.Path.{sym}
 use Rattle.sheet.proofs.GroupLaws.{rest_of_some, rest_of_none}
-use Rattle.std.proofs.Common.{rules}
 use Rattle.sheet.proofs.group.Group.rest.Goals as goal
 
 pub returns-then-self : goal.returns-then-self
