@@ -1,10 +1,10 @@
--- StampRowLaws: a row that is filled along facts, and the rows of a step.
+-- StampRowLaws: a row that is filled along facts.
 pub mod StampRowLaws
--- RowingLaws: the walk along a plan that fills the rows of its unflagged steps.
-pub mod RowingLaws
 -- RowWriteLaws: what a row asks for and writes.
 pub mod RowWriteLaws
--- BlockLaws: which rows a step changes.
-pub mod BlockLaws
+-- ChoiceLaws: which choices a step changes.
+pub mod ChoiceLaws
+-- ChoosingLaws: the walk along a plan that notes its choices.
+pub mod ChoosingLaws
 -- RowTheorem: what the rows of an unflagged step tell and write.
 pub mod RowTheorem

@@ -1,167 +1,129 @@
-// The rows of each unflagged step of a plan, in blocks: the facts that must hold where it is struck, what it needs
-// where it is kept, what of use it may write, and what is written behind it, where it is struck and where it is kept,
-// by the step and the flagged steps up to the next unflagged one. Unflagged step d has block d + 1; block 0 has what
-// the flagged steps in front of the first write.
-ghost use Rattle.std.specs.Prelude.{◌≡◌, ◌≤◌, ◌<◌, not};
-ghost use Rattle.mask.specs.Mask.{digit};
+// The choices at the unflagged steps of a plan: of each its cost, what must hold of a state where it is struck, what it
+// needs where it is kept, what of use it may write, and what is written behind it, where it is struck and where it is
+// kept, by the step and the flagged steps up to the next unflagged one.
+ghost use Rattle.std.specs.Prelude.{◌≡◌, ◌<◌, IfNone, IfSome, length};
 ghost use Rattle.sheet.specs.Decode.{fact_of};
 ghost use Rattle.sheet.specs.Between.Effects.{written_in};
-ghost use Rattle.sheet.specs.Between.Group.{facts_in};
-ghost use Rattle.packed_state.specs.Between.Packed.{most_rows};
-ghost use Rattle.choice_rows.specs.Between.Rows.{laid, stamped_row, noted, noted_cost, Rowed};
+ghost use Rattle.packed_state.specs.Between.Chosen.{most_choices, open_before};
+ghost use Rattle.choice_rows.specs.Between.Rows.{laid, stamped_row, choice_of, passed, ChoicesTold};
 
-use access::{flag, put, put8, word64};
-use packed_state::packed::{KINDS, MOST, ROW, STATE};
+use access::flag;
+use arrayvec::ArrayVec;
+use fact_bits::bits::Behind;
+use packed_state::packed::{MOST, Row, STATE};
 use sheet::effects::Effects;
-use sheet::group::{Group, facts_of};
+use sheet::group::{Facts, facts_of};
 use sheet::layout::cost;
 use sheet::limits::Sheet;
 
-// The row of a block that is asked for a strike.
-pub const STRIKE: usize = 0;
-// That which is asked for a keep.
-pub const KEEP: usize = 1;
-// That of what is of use.
-pub const USE: usize = 2;
-// That which is written where the step is struck.
-pub const STRUCK: usize = 3;
-// That which is written where it is kept.
-pub const KEPT: usize = 4;
 // Bits that ask for every fact.
-const ALL: u64 = 18446744073709551615;
+const ALL: u64 = u64::MAX;
 
-// Puts a fact into row r, where its bit, the lowest, is one.
-fn lay(rows: &mut [u8], r: usize, bits: u64, fact: u32)
-    requires { r < most_rows }
-    ensures { rows.new ≡ laid rows.old r bits (fact_of fact) }
+// Puts a fact into a row, where its bit, the lowest, is one.
+fn lay(row: &mut Row, bits: u64, fact: u32)
+    ensures { row.new ≡ laid row.old bits (fact_of fact) }
 {
     let v = fact as usize / Sheet::VALUES;
-    if bits % 2 == 1 {
-        if v < STATE {
-            put8(rows, r * ROW + v, 1);
-            put8(
-                rows,
-                r * ROW + STATE + v,
-                (fact as usize % Sheet::VALUES) as u8,
-            );
-        }
+    if bits % 2 == 1 && v < STATE {
+        row.asked[v] = true;
+        row.values[v] = (fact as usize % Sheet::VALUES) as u8;
     }
 }
 
-// Puts the facts of a group whose bits are one into row r.
-fn stamp_row(words: &[u32], rows: &mut [u8], r: usize, group: Group, bits: u64)
-    requires { r < most_rows }
-    ensures { rows.new
-        ≡ stamped_row rows.old r bits (facts_in words.now group) }
+// Puts the facts whose bits are one into a row; one past the last bit has none.
+fn stamp<F: Facts>(row: &mut Row, bits: u64, facts: F)
+    ensures { row.new ≡ stamped_row row.old bits (F.facts_left facts) }
 {
     let mut left = bits;
-    let mut rest = group;
-    let mut k = 0;
-    while k < STATE {
-        if rest.end <= rest.at {
-            return;
-        }
-        lay(rows, r, left, rest.first(words));
+    for fact in facts {
+        lay(row, left, fact);
         left /= 2;
-        rest = rest.rest();
-        k += 1;
     }
 }
 
-// The same of the facts that effects may write.
-fn stamp_effects(words: &[u32], rows: &mut [u8], r: usize, effects: Effects, bits: u64)
-    requires { r < most_rows }
-    ensures { rows.new
-        ≡ stamped_row rows.old r bits (written_in words.now effects) }
-{
-    let mut left = bits;
-    let mut rest = effects;
-    let mut k = 0;
-    while k < STATE {
-        if rest.end <= rest.at {
-            return;
-        }
-        lay(rows, r, left, rest.first(words));
-        left /= 2;
-        rest = rest.rest(words);
-        k += 1;
-    }
+// The choice at an unflagged step.
+#[derive(Clone, Copy, Default, Drop)]
+pub struct Choice {
+    pub cost: u32,
+    // What is asked for where the step is struck, and where it is kept.
+    pub strike: Row,
+    pub keep: Row,
+    // What of use it may write.
+    pub useful: Row,
+    // What is written where it is struck, and where it is kept.
+    pub struck: Row,
+    pub kept: Row,
 }
 
-// Notes action a, before which there are d unflagged steps: what a flagged one writes is written behind the step before
-// it; an unflagged one has a block of its own.
-fn note(words: &[u32], a: u32, flagged: bool, d: usize, wants: u64, uses: u64, rows: &mut [u8])
-    ensures { rows.new
-        ≡ noted words.now a flagged d wants uses rows.old }
-{
-    let facts = facts_of(words, a);
-    let effects = facts.effects;
-    if MOST < d {
-        return;
-    }
-    let block = KINDS * d;
-    if flagged {
-        stamp_effects(words, rows, block + STRUCK, effects, ALL);
-        stamp_effects(words, rows, block + KEPT, effects, ALL);
-        return;
-    }
-    if d < MOST {
-        let own = block + KINDS;
-        stamp_effects(words, rows, own + STRIKE, effects, wants);
-        stamp_row(words, rows, own + KEEP, facts.precondition, ALL);
-        stamp_effects(words, rows, own + USE, effects, uses);
-        stamp_effects(words, rows, own + KEPT, effects, ALL);
-    }
-}
-
-// Notes the cost of action a, if it is unflagged step d.
-fn note_cost(words: &[u32], a: u32, flagged: bool, d: usize, costs: &mut [u32])
-    ensures { costs.new ≡ noted_cost words.now a flagged d costs.old }
-{
-    if flagged {
-        return;
-    }
-    put(costs, d, cost(words, a));
-}
-
-// How many unflagged steps a step is: one or none.
-pub fn open(flagged: bool) -> usize
-    ensures { (result ≡ digit (not flagged)) × (result ≤ 1) }
-{
-    if flagged { 0 } else { 1 }
-}
-
-// Fills the rows of all unflagged steps and their costs, and returns how many there are. The bits of what is needed are
-// those that are left of all.
-pub fn fill_rows(
-    words: &[u32],
-    plan: &[u32],
-    flags: &[bool],
-    wanted: &[u64],
-    useless: &[u64],
-    costs: &mut [u32],
-    rows: &mut [u8],
-) -> usize
-    ensures { Rowed words.now plan.now flags.now wanted.now
-        useless.now costs.old rows.old result costs.new rows.new }
-{
-    let mut d = 0;
-    let mut i = 0;
-    while i < plan.len() {
-        let a = plan[i];
-        let flagged = flag(flags, i);
-        note(
-            words,
-            a,
-            flagged,
-            d,
-            word64(wanted, i),
-            ALL - word64(useless, i),
-            rows,
+impl Choice {
+    // That of action a, with nothing behind it yet.
+    fn new(words: &[u32], a: u32, behind: Behind) -> Choice
+        ensures { result ≡ choice_of words.now a behind }
+    {
+        let facts = facts_of(words, a);
+        let mut choice = Choice {
+            cost: cost(words, a),
+            strike: Row::new(),
+            keep: Row::new(),
+            useful: Row::new(),
+            struck: Row::new(),
+            kept: Row::new(),
+        };
+        stamp(
+            &mut choice.strike,
+            behind.wanted,
+            facts.effects.facts(words),
         );
-        note_cost(words, a, flagged, d, costs);
-        d += open(flagged);
-        i += 1;
+        stamp(&mut choice.keep, ALL, facts.precondition.facts(words));
+        stamp(
+            &mut choice.useful,
+            ALL - behind.useless,
+            facts.effects.facts(words),
+        );
+        stamp(&mut choice.kept, ALL, facts.effects.facts(words));
+        choice
     }
-    d
+
+    // Writes behind the step what a flagged one writes.
+    fn pass(&mut self, words: &[u32], effects: Effects)
+        ensures { self.new ≡ passed self.old (written_in words.now effects) }
+    {
+        stamp(&mut self.struck, ALL, effects.facts(words));
+        stamp(&mut self.kept, ALL, effects.facts(words));
+    }
+}
+
+// The choices of a plan, and what the flagged steps in front of the first unflagged one write.
+#[derive(Drop)]
+pub struct Choices {
+    pub start: Row,
+    pub steps: ArrayVec<Choice, MOST>,
+}
+
+// The choices at all unflagged steps of a plan, unless there are too many.
+pub fn choices_of(words: &[u32], plan: &[u32], flags: &[bool], behind: &[Behind]) -> Option<Choices>
+    ensures many { IfNone result
+        (most_choices < open_before flags.now (length plan.now)) }
+    ensures told { IfSome result
+        (λ c. ChoicesTold words.now plan.now flags.now behind.now c) }
+{
+    let mut choices = Choices {
+        start: Row::new(),
+        steps: ArrayVec::new(),
+    };
+    for (i, &a) in plan.iter().enumerate() {
+        if flag(flags, i) {
+            let effects = facts_of(words, a).effects;
+            match choices.steps.last_mut() {
+                Some(choice) => choice.pass(words, effects),
+                None => stamp(&mut choices.start, ALL, effects.facts(words)),
+            }
+        } else {
+            let bits = behind.get(i).copied().unwrap_or(Behind::NONE);
+            if choices.steps.try_push(Choice::new(words, a, bits)).is_err() {
+                return None;
+            }
+        }
+    }
+    Some(choices)
 }

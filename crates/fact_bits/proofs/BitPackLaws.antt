@@ -1,72 +1,125 @@
--- The bits of what effects may write, from the first on, by the cases of the loop that packs them: what is packed and what is still to come are the whole, so
--- that nothing wraps. Assumes nothing.
+-- The bits of some facts, from the first on, by the cases of the loop that packs them: what is packed and what is still to come are the whole. Assumes nothing.
 use Prim.Native.Nat.{ℕ, ◌+◌, ◌-◌, ◌*◌, ◌%◌, ◌^◌, ◌≤◌, ◌<◌}
 use native.Mathlib.Nat.{add-zero, mul-add, mul_comm, mul_assoc, mul-zero, one-mul, zero-add, pow-zero, pow-suc}
 use native.Mathlib.Numerals.{add-one}
 use native.Mathlib.Omega.{arith}
-use mathlib.Core.Path.{◌≡◌}
-use mathlib.Core.Bool.{Bool}
-use mathlib.Core.List.{List}
+use mathlib.Core.Path.{◌≡◌, refl}
+use mathlib.Core.Bool.{Bool, true, false, cond}
+use mathlib.Core.List.{List, [], ◌∷◌}
 use lib.ListN.{take}
 use lib.Seq.{take-nil}
+use lib.Bits.{bit_or, or_shifted_r, or_zero_r}
 use lib.Pow.{shl_exact}
+use lib.Dec.{ltb}
+use borrow.Author.Tests.{ltb-true, ltb-false}
+use Rattle.sas.specs.Task.{Assignment}
 use Rattle.mask.specs.Mask.{word_bits, digit, binary}
-use Rattle.mask.proofs.MaskWordLaws.{binary_below, lowest_digit}
-use Rattle.sheet.specs.declared.effects.Effects.{Effects}
-use Rattle.sheet.specs.Between.Effects.{written_in, first_written, rest_effects}
+use Rattle.sheet.specs.Decode.{fact_of}
 use Rattle.sheet.proofs.FactWords.{word_of_fact}
-use Rattle.sheet.proofs.EffectLaws.{written_over, written_next}
 use Rattle.fact_table.specs.Between.Tables.{has_fact}
 use Rattle.fact_bits.specs.Between.Bits.{flagged, packed}
 
--- one digit d more at the weight p, with t to come behind it
-regroup : (b p t d : ℕ) → b + p * (2 * t + d) ≡ b + d * p + p * 2 * t
-regroup b p t d = rw (mul-add, mul_comm d p, mul_assoc) (omega arith)
-
-module _ (t : List Bool) (w : List ℕ) where
+module _ (t : List Bool) where
   -- the number that the first n facts make
-  abbrev pub to_come : ℕ → Effects → ℕ
-  to_come n g = binary (take n (flagged t (written_in w g)))
+  abbrev pub to_come : ℕ → Assignment → ℕ
+  to_come n q = binary (take n (flagged t q))
 
-  over_none : (n : ℕ) (g : Effects) → g.end ≤ g.at → to_come n g ≡ 0
+  first_next : (n x : ℕ) (later : Assignment) → to_come (n + 1) (fact_of x ∷ later) ≡ 2 * to_come n later + digit (has_fact t x)
   unfolding binary
-  over_none n g h = rw (written_over w g h, take-nil)
+  first_next n x later = rw (add-one, word_of_fact x)
 
-  first_next : (n : ℕ) (g : Effects) → g.at < g.end → to_come (n + 1) g ≡ 2 * to_come n (rest_effects w g) + digit (has_fact t (first_written w g))
-  unfolding binary
-  first_next n g h = rw (add-one, written_next w g h, word_of_fact (first_written w g))
+  -- the facts before a place are packed, and `rest` is what is left of all
+  pub record Packing (all rest : Assignment) (bits bit : ℕ) : Type 0 where
+    pub place : ℕ
+    pub room : place ≤ word_bits
+    pub weight : place < word_bits → bit ≡ 2 ^ place
+    pub spent : word_bits ≤ place → bit ≡ 0
+    pub below : bits < 2 ^ place
+    pub whole : bits + 2 ^ place * to_come (word_bits - place) rest ≡ packed t all
 
-  -- k facts of the effects g are packed, and `rest` is what is left of them
-  pub record Packing (g rest : Effects) (k bits : ℕ) : Type 0 where
-    pub room : k ≤ word_bits
-    pub whole : bits + 2 ^ k * to_come (word_bits - k) rest ≡ packed t (written_in w g)
-
-  module _ (g : Effects) where
-    pub packing_start : Packing g g 0 0
+  module _ (all : Assignment) where
+    -- no fact is packed
+    pub packing_start : Packing all all 0 1
     unfolding packed
-    packing_start = record { room = omega arith; whole = rw (pow-zero, one-mul) (zero-add _) }
+    packing_start =
+        record { place = 0; room = omega arith; weight = λ h. refl; spent = λ h. absurd (omega arith); below = omega arith; whole = rw (pow-zero, one-mul) (zero-add _) }
 
-    module _ (rest : Effects) (k bits : ℕ) (so_far : Packing g rest k bits) where
-      pub packed_over : rest.end ≤ rest.at → bits ≡ packed t (written_in w g)
-      packed_over h = rw (over_none (word_bits - k) rest h, mul-zero, add-zero) at so_far.whole
-
-      pub packed_full : word_bits ≤ k → bits ≡ packed t (written_in w g)
+    module _ (rest : Assignment) (bits bit : ℕ) (so_far : Packing all rest bits bit) where
+      -- none is left
+      pub packing_end : rest ≡ [] → bits ≡ packed t all
       unfolding binary
-      packed_full h = let none : word_bits - k ≡ 0 = omega arith in rw (none, mul-zero, add-zero) at so_far.whole
+      packing_end none = rw (none, take-nil, mul-zero, add-zero) at so_far.whole
 
-      module _ (h : rest.at < rest.end) (low : k < word_bits) (x d : ℕ) (read : x ≡ first_written w rest) (shown : d ≡ digit (has_fact t x)) where
-        shifted : d * 2 ^ k % 2 ^ word_bits ≡ d * 2 ^ k
-        shifted = let small : d < 2 ^ 1 = rw shown (omega (arith, lowest_digit 0 (has_fact t x))) in shl_exact 1 k word_bits small (omega arith)
+      -- one more is packed
+      module _ (x : ℕ) (later : Assignment) (next : rest ≡ fact_of x ∷ later) where
+        module _ (left : so_far.place < word_bits) where
+          abbrev n : ℕ
+          n = word_bits - (so_far.place + 1)
 
-        one_more : bits + d * 2 ^ k + 2 ^ (k + 1) * to_come (word_bits - (k + 1)) (rest_effects w rest) ≡ packed t (written_in w g)
-        one_more =
-            let left : word_bits - k ≡ word_bits - (k + 1) + 1 = omega arith in
-            let double : 2 ^ (k + 1) ≡ 2 ^ k * 2 = rw add-one (pow-suc 2 k) in
-            rw (shown, read, double, ← regroup) (rw (left, first_next (word_bits - (k + 1)) rest h) at so_far.whole)
+          parts : bits + 2 ^ so_far.place * (2 * to_come n later + digit (has_fact t x)) ≡ packed t all
+          parts =
+              let more : word_bits - so_far.place ≡ n + 1 = omega arith in
+              rw (next, more, first_next n x later) at so_far.whole
 
-        pub packed_fits : bits + d * 2 ^ k % 2 ^ word_bits < 2 ^ word_bits
-        unfolding packed
-        packed_fits = rw shifted (omega (arith, one_more, binary_below word_bits (flagged t (written_in w g))))
+          double : 2 ^ (so_far.place + 1) ≡ 2 ^ so_far.place * 2
+          double = rw add-one (pow-suc 2 so_far.place)
 
-        pub packing_more : (rest' : Effects) → rest' ≡ rest_effects w rest → Packing g rest' (k + 1) (bits + d * 2 ^ k % 2 ^ word_bits)
-        packing_more rest' e = rw (e, shifted) (record { room = omega arith; whole = one_more })
+          raised : bit_or bits bit ≡ 2 ^ so_far.place + bits
+          raised = rw (so_far.weight left) (rw one-mul at (or_shifted_r 1 so_far.place bits so_far.below))
+
+          regroup : (p d : ℕ) → bits + p * (2 * to_come n later + d) ≡ bits + d * p + p * 2 * to_come n later
+          regroup p d = rw (mul-add, mul_comm d p, mul_assoc) (omega arith)
+
+          shifts : (b : Bool) → ltb (so_far.place + 1) word_bits ≡ b → (so_far.place + 1 < word_bits → bit * 2 ^ 1 % 2 ^ 64 ≡ 2 ^ (so_far.place + 1))
+              × (word_bits ≤ so_far.place + 1 → bit * 2 ^ 1 % 2 ^ 64 ≡ 0)
+          shifts true e = (
+            λ h. rw (so_far.weight left, ← double) (rw one-mul at (shl_exact {a = 1} 1 (so_far.place + 1) 64 (omega arith) (omega arith))),
+            λ h. absurd (omega (arith, ltb-true (so_far.place + 1) word_bits e)),
+          )
+          shifts false e =
+              let last : so_far.place ≡ 63 = omega (arith, ltb-false (so_far.place + 1) word_bits e) in
+              (λ h. absurd (omega arith), λ h. rw (so_far.weight left, last) refl)
+
+          more_left : (had : Bool) → had ≡ has_fact t x → Packing all later (cond had (bit_or bits bit) bits) (bit * 2 ^ 1 % 2 ^ 64)
+          more_left true has =
+              record {
+                place = so_far.place + 1;
+                room = omega arith;
+                weight = (shifts (ltb (so_far.place + 1) word_bits) refl).0;
+                spent = (shifts (ltb (so_far.place + 1) word_bits) refl).1;
+                below = omega (arith, raised, double, so_far.below);
+                whole = rw (raised, double) (omega (arith, regroup (2 ^ so_far.place) 1, rw (← has) at parts));
+              }
+          more_left false has =
+              record {
+                place = so_far.place + 1;
+                room = omega arith;
+                weight = (shifts (ltb (so_far.place + 1) word_bits) refl).0;
+                spent = (shifts (ltb (so_far.place + 1) word_bits) refl).1;
+                below = omega (arith, double, so_far.below);
+                whole =
+                    let none : bits + 2 ^ so_far.place * (2 * to_come n later + 0) ≡ packed t all = rw (← has) at parts in
+                    rw (double, mul_assoc (2 ^ so_far.place) 2 (to_come n later)) (rw add-zero at none);
+              }
+
+        none_left : word_bits ≤ so_far.place → (had : Bool) → Packing all later (cond had (bit_or bits bit) bits) (bit * 2 ^ 1 % 2 ^ 64)
+        none_left full had =
+            record {
+              place = so_far.place;
+              room = so_far.room;
+              weight = λ h. absurd (omega arith);
+              spent = λ h. rw (so_far.spent full) refl;
+              below = rw (same had) so_far.below;
+              whole = rw (same had) (let none : word_bits - so_far.place ≡ 0 = omega arith in rw none (rw none at so_far.whole));
+            }
+          where
+            same : (b : Bool) → cond b (bit_or bits bit) bits ≡ bits
+            same true = rw (so_far.spent full) (or_zero_r bits)
+            same false = refl
+
+        pub packing_more : (had : Bool) → had ≡ has_fact t x → Packing all later (cond had (bit_or bits bit) bits) (bit * 2 ^ 1 % 2 ^ 64)
+        packing_more had has = by_case (ltb so_far.place word_bits) refl
+          where
+            by_case : (b : Bool) → ltb so_far.place word_bits ≡ b → Packing all later (cond had (bit_or bits bit) bits) (bit * 2 ^ 1 % 2 ^ 64)
+            by_case true e = more_left (ltb-true so_far.place word_bits e) had has
+            by_case false e = none_left (ltb-false so_far.place word_bits e) had

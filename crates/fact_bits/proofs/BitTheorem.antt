@@ -32,7 +32,8 @@ use Rattle.plan.proofs.PlanLaws.{steps_at, rest_formed}
 use Rattle.fact_table.specs.Between.Tables.{most_facts, has_fact}
 use Rattle.fact_table.proofs.StampLaws.{stamped_length}
 use Rattle.fact_table.proofs.WantsLaws.{fits, before_length, wants_next, goal_known, goal_length, goal_wants, stamped_known}
-use Rattle.fact_bits.specs.Between.Bits.{packed, table_before, unneeded_behind, step_bits, useless_bits, ToldBehind, bits_hold, idle_or_held}
+use Rattle.fact_bits.specs.declared.bits.Behind.{Behind}
+use Rattle.fact_bits.specs.Between.Bits.{packed, table_before, unneeded_behind, step_bits, useless_bits, no_bits, ToldBehind, bits_hold, idle_or_held}
 use Rattle.fact_bits.proofs.HoldLaws.{bits_tell, idle_sound, others_tell}
 
 -- what a stamp leaves at a fact that a table has where a test fails it
@@ -83,8 +84,8 @@ module _ (w : List ℕ) (accepted : Accepted w) where
   few_written : (a : Action) → Plain (domains w) a → length (written a) ≤ word_bits
   few_written a plain = omega (arith, rising_few plain.rising, domains_length w, (accepted_measured w accepted).variables)
 
-module _ (w l : List ℕ) (flags : Reduction) (wanted_words useless_words : List ℕ) (readable : Readable w l)
-    (told : ToldBehind w l flags wanted_words useless_words) (v : Visit) (inside : v.index < length l) (unflagged : get_or flags v.index false ≡ false) where
+module _ (w l : List ℕ) (flags : Reduction) (bits : List Behind) (readable : Readable w l)
+    (told : ToldBehind w l flags bits) (v : Visit) (inside : v.index < length l) (unflagged : get_or flags v.index false ≡ false) where
   -- the action at the visit
   abbrev here : Action
   here = action w (get_or l v.index 0)
@@ -103,7 +104,7 @@ module _ (w l : List ℕ) (flags : Reduction) (wanted_words useless_words : List
   behind t test tells f m = tells f (here_formed.known f m)
 
   -- what the words have as of no use is so: where each fact that the step may write has its bit or holds, the step is of none
-  pub useless_sound : idle_or_held v.state (get_or useless_words v.index 0) (written (step (steps w l) v.index)) ≡ true
+  pub useless_sound : idle_or_held v.state ((get_or bits v.index no_bits).useless) (written (step (steps w l) v.index)) ≡ true
       → useful (goal w) (steps w l) v ≡ false
   unfolding useful useless_bits packed
   useless_sound h =
@@ -117,7 +118,7 @@ module _ (w l : List ℕ) (flags : Reduction) (wanted_words useless_words : List
     few = few_written w readable.accepted here plain
 
     -- the wanted facts that a plain step may write hold in the visit's state just where the cut of striking says so
-    pub wanted_told : bits_hold v.state (get_or wanted_words v.index 0) (written (step (steps w l) v.index)) ≡ wanted_held (goal w) (steps w l) flags v
+    pub wanted_told : bits_hold v.state ((get_or bits v.index no_bits).wanted) (written (step (steps w l) v.index)) ≡ wanted_held (goal w) (steps w l) flags v
     unfolding wanted_held step_bits packed
     wanted_told =
         rw (told.wants v.index inside within unflagged, steps_at w l v.index inside, ← steps_drop w l (v.index + 1))
@@ -125,7 +126,7 @@ module _ (w l : List ℕ) (flags : Reduction) (wanted_words useless_words : List
         (behind _ _ (wanted_tells w readable.accepted (drop (v.index + 1) l) (drop (v.index + 1) flags) (formed_from (v.index + 1)))))
 
     -- and the needed ones, whose bits are those left of all, just where the step is of no use
-    pub useful_told : bits_hold v.state (2 ^ word_bits - 1 - get_or useless_words v.index 0) (written (step (steps w l) v.index))
+    pub useful_told : bits_hold v.state (2 ^ word_bits - 1 - (get_or bits v.index no_bits).useless) (written (step (steps w l) v.index))
         ≡ not (useful (goal w) (steps w l) v)
     unfolding useful useless_bits packed
     useful_told =

@@ -7,8 +7,7 @@ use native.Mathlib.Omega.{arith}
 use mathlib.Core.Path.{◌≡◌, refl, sym, ◌∙◌, ap}
 use mathlib.Core.Bool.{Bool, true, false, false≢true}
 use mathlib.Core.List.{List}
-use lib.ListN.{length, take, replicate, length-replicate, length-map, get_or-replicate, get_or-eq_default}
-use lib.Seq.{length-take-le}
+use lib.ListN.{length, take, length-replicate, length-map, get_or-replicate, get_or-eq_default}
 use lib.Pow.{shl_exact, pow_pos}
 use lib.Dec.{ltb}
 use borrow.Author.Tests.{ltb-true, ltb-false}
@@ -27,14 +26,18 @@ use Rattle.sheet.specs.Decode.{domains, initial, goal, action}
 use Rattle.step.specs.State.{in_array}
 use Rattle.plan.specs.Limits.{most_steps}
 use Rattle.plan.specs.Valid.{steps}
+use Rattle.fact_bits.specs.declared.bits.Behind.{Behind}
 use Rattle.fact_bits.specs.Between.Bits.{ToldBehind}
 use Rattle.reduced.specs.Reduced.{tally_left}
 use Rattle.reduced.specs.Between.Tallied.{tallied}
 use Rattle.packed_state.specs.Between.Chosen.{most_choices, open_before, chosen}
-use Rattle.packed_state.specs.Between.Packed.{row_bytes, most_rows, written_over, packed_start}
-use Rattle.choice_rows.specs.Between.Rows.{struck_row, Rowed}
+use Rattle.packed_state.specs.Between.Packed.{written_over, packed_start}
+use Rattle.choice_rows.specs.declared.rows.Choice.{Choice}
+use Rattle.choice_rows.specs.declared.rows.Choices.{Choices}
+use Rattle.choice_rows.specs.Between.Rows.{start_before, ChoicesTold}
 use Rattle.packed_state.proofs.ChosenLaws.{chosen_stays, chosen_all}
-use Rattle.choice_rows.proofs.RowTheorem.{start_row_writes, costs_long}
+use Rattle.choice_rows.proofs.ChoiceLaws.{choices_long}
+use Rattle.choice_rows.proofs.RowTheorem.{start_row_writes}
 use Rattle.turns.specs.declared.chosen.Chosen.{Chosen}
 use Rattle.turns.specs.Between.Told.{Chooses, Lent, LentRows, Begins, Finds}
 use Rattle.turns.specs.Between.Unpacked.{Unpacks}
@@ -88,8 +91,8 @@ module _ (w l : List ℕ) (flags : Reduction) (lent : Lent w l flags) where
   minimal_valid = (minimal_found (meets (goal w)) (initial w) (steps w l) lent.valid).valid
 
   -- and the search finds it
-  found_chosen : {costs cells : List ℕ} → LentRows w l flags costs cells → (kept whole_plan after : Chosen) → Chooses w l flags flags kept
-      → Chooses w l flags (whole l) whole_plan → BothTold costs cells 0 (written_over cells (struck_row 0) (packed_start (in_array (initial w)))) kept whole_plan after
+  found_chosen : {choices : List Choice} → LentRows w l flags choices → (kept whole_plan after : Chosen) → Chooses w l flags flags kept
+      → Chooses w l flags (whole l) whole_plan → BothTold choices 0 (written_over (start_before w l flags (length l)) (packed_start (in_array (initial w)))) kept whole_plan after
       → Chooses w l flags (minimal (meets (goal w)) (initial w) (steps w l)) after
   unfolding open_before
   found_chosen rows kept whole_plan after begins lodged both =
@@ -105,43 +108,28 @@ module _ (w l : List ℕ) (flags : Reduction) (lent : Lent w l flags) where
         comes.turned,
       )
       (both.tells w l flags rows comes.at comes.choice comes.course
-      (rw (comes.so_far, rows.filled)
-      (start_row_writes w l flags rows.wanted rows.useless lent.readable (all_plain w l flags lent) lent.few flags comes.at.index comes.next
+      (rw comes.so_far
+      (start_row_writes w l flags rows.behind lent.readable (all_plain w l flags lent) flags comes.at.index comes.next
       (λ k below. comes.next.passed k (omega arith) below)))
       (rw comes.so_far begins) (rw (comes.best, whole_steps) lodged))
 
-pub begins : (w l : List ℕ) (flags : Reduction) (wanted useless : List ℕ) → ToldBehind w l flags wanted useless → (count : ℕ) (costs cells : List ℕ)
-    → Rowed w l flags wanted useless (replicate most_choices 0) (replicate (most_rows * row_bytes) 0) count costs cells
-    → (start state : List ℕ) → start ≡ packed_start (in_array (initial w)) → state ≡ written_over cells (struck_row 0) start
-    → (kept whole_plan after : Chosen) → kept.tally ≡ tallied w l flags → kept.bits ≡ 1
-    → whole_plan.bits ≡ 2 ^ (count + 1) - 1 → BothTold (take count costs) cells 0 state kept whole_plan after → Begins w l flags whole_plan.tally after.bits
-begins w l flags wanted useless behind count costs cells rowed start state starts writes kept whole_plan after counts one ones both =
-    record {
-      found = λ lent lodged.
-          let rows : LentRows w l flags (take count costs) cells =
-          record {
-            lent = lent;
-            wanted = wanted;
-            useless = useless;
-            behind = behind;
-            filled = rowed.filled;
-            priced = rw (rowed.counted, rowed.priced);
-          } in
-          (found_chosen w l flags lent rows kept whole_plan after (flags_chosen w l flags lent kept counts one)
-          (whole_chosen w l flags lent whole_plan lodged (rw rowed.counted at ones)) (rw (writes, starts) at both)).told_by;
-    }
+module _ (w l : List ℕ) (flags : Reduction) (behind : List Behind) (lodged : Tally) where
+  pub begins : ToldBehind w l flags behind → (choices : Choices) → ChoicesTold w l flags behind choices
+      → (start state : List ℕ) → start ≡ packed_start (in_array (initial w)) → state ≡ written_over choices.start start
+      → (kept whole_plan after : Chosen) → kept.tally ≡ tallied w l flags → kept.bits ≡ 1 → whole_plan.tally ≡ lodged
+      → whole_plan.bits ≡ 2 ^ (length choices.steps.items + 1) - 1 → BothTold choices.steps.items 0 state kept whole_plan after → Begins w l flags lodged after.bits
+  begins told choices noted start state starts writes kept whole_plan after counts one whole_counts ones both =
+      record {
+        found = λ lent tallies.
+            let rows : LentRows w l flags choices.steps.items = record { lent = lent; behind = behind; told = told; filled = noted.filled } in
+            let count : length choices.steps.items ≡ open_before flags (length l) = rw noted.filled (choices_long w l flags behind (length l)) in
+            (found_chosen w l flags lent rows kept whole_plan after (flags_chosen w l flags lent kept counts one)
+            (whole_chosen w l flags lent whole_plan (whole_counts ∙ tallies) (rw count at ones)) (rw (writes, starts, noted.started) at both)).told_by;
+      }
 
--- the costs of the unflagged steps are as many
-pub costs_counted : (w l : List ℕ) (flags : Reduction) (wanted useless : List ℕ) (count : ℕ) (needs₀ costs needs : List ℕ)
-    → Rowed w l flags wanted useless (replicate most_choices 0) needs₀ count costs needs → count ≤ most_choices → length (take count costs) ≡ count
-costs_counted w l flags wanted useless count needs₀ costs needs rowed few =
-    length-take-le count costs (rw (rowed.priced, costs_long w l flags (replicate most_choices 0) (length l), length-replicate {A = ℕ} most_choices 0) few)
-
--- too many unflagged steps are not lent
-pub too_many : (w l : List ℕ) (flags : Reduction) (lodged : Tally) (wanted useless : List ℕ) (count bits : ℕ) (costs₀ needs₀ costs needs : List ℕ)
-    → Rowed w l flags wanted useless costs₀ needs₀ count costs needs → most_choices < count → Begins w l flags lodged bits
-too_many w l flags lodged wanted useless count bits costs₀ needs₀ costs needs rowed many =
-    record { found = λ lent told. absurd (omega (arith, rowed.counted, lent.few)) }
+  -- too many unflagged steps are not lent
+  pub too_many : (bits : ℕ) → most_choices < open_before flags (length l) → Begins w l flags lodged bits
+  too_many bits many = record { found = λ lent tallies. absurd (omega (arith, lent.few)) }
 
 -- what is unpacked of the choices found
 pub finds : (w l : List ℕ) (flags kept : Reduction) (lodged : Tally) (bits : ℕ) → Begins w l flags lodged bits → Unpacks flags bits kept → Finds w l flags lodged kept

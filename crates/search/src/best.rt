@@ -4,9 +4,9 @@ ghost use Rattle.packed_state.specs.Between.Chosen.{most_choices};
 ghost use Rattle.turns.specs.Between.Told.{Begins, Finds};
 
 use crate::unpack::unpack;
-use choice_rows::rows::{STRUCK, fill_rows};
+use choice_rows::rows::choices_of;
 use fact_bits::bits::bits_behind;
-use packed_state::packed::{MOST, ROW, ROWS, start, write_row};
+use packed_state::packed::start;
 use plan::limits::Plan;
 use reduced::tallied::tally_of;
 use tally::Tally;
@@ -27,26 +27,22 @@ fn choose(words: &[u32], plan: &[u32], flags: &[bool], lodged: Tally) -> u64
     ensures { Begins words.now plan.now flags.now lodged result }
 {
     let behind = bits_behind(words, plan, flags);
-    let wanted = behind.wanted;
-    let useless = behind.useless;
-    let mut costs = [0u32; MOST];
-    let mut rows = [0u8; ROWS * ROW];
-    let count = fill_rows(words, plan, flags, &wanted, &useless, &mut costs, &mut rows);
-    if MOST < count {
+    let found = choices_of(words, plan, flags, &behind);
+    let Some(choices) = &found else {
         return 0;
-    }
+    };
     let kept = Chosen {
         tally: tally_of(words, plan, flags),
         bits: 1,
     };
     let whole = Chosen {
         tally: lodged,
-        bits: all_chosen(count),
+        bits: all_chosen(choices.steps.len()),
     };
-    let state = write_row(&rows, STRUCK, &start(words));
-    let struck = strike(&costs[..count], &rows, 0, &state, kept, whole);
-    let best = keep(&costs[..count], &rows, 0, &state, kept, struck);
-    best.bits
+    let state = choices.start.write_over(&start(words));
+    let steps = choices.steps.as_slice();
+    let struck = strike(steps, 0, &state, kept, whole);
+    keep(steps, 0, &state, kept, struck).bits
 }
 
 // The flags of the minimal reduction of a valid plan with this tally, of which `flags` has steps that every valid

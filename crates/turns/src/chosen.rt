@@ -1,13 +1,10 @@
 // A reduction on its way, told by its tally and its word of choices.
-ghost use Rattle.std.specs.Prelude.{◌≡◌, get_or};
+ghost use Rattle.std.specs.Prelude.{◌≡◌};
 ghost use Rattle.std.specs.Int.Bits.{bit_or};
-ghost use Rattle.tally.specs.Tally.{one_more, comparison};
-ghost use Rattle.std.specs.Ordering.{is_lt};
+ghost use Rattle.tally.specs.Tally.{one_more};
 ghost use Rattle.turns.specs.Between.Unpacked.{bit_of};
 
-use access::word;
 use mask::Mask;
-use std::cmp::Ordering;
 use tally::Tally;
 
 // A reduction that keeps the flagged steps. It is small, and the turns hand it on by value.
@@ -15,18 +12,6 @@ use tally::Tally;
 pub struct Chosen {
     pub tally: Tally,
     pub bits: u64,
-}
-
-// Whether the first of two tallies is the lower.
-pub fn is_lower(tally: Tally, other: Tally) -> bool
-    ensures { result ≡ is_lt (comparison tally other) }
-{
-    let order = tally.compare(other);
-    match order {
-        Ordering::Less => true,
-        Ordering::Equal => false,
-        Ordering::Greater => false,
-    }
 }
 
 // The bits of a word of choices but the lowest.
@@ -40,13 +25,12 @@ fn bit(d: usize) -> u64
 }
 
 // Keeps unflagged step d too, at its cost.
-pub fn keep_step(costs: &[u32], d: usize, held: Chosen) -> Chosen
-    ensures { (result.tally ≡ one_more held.tally (get_or costs.now d 0))
+pub fn keep_step(cost: u32, d: usize, held: Chosen) -> Chosen
+    ensures { (result.tally ≡ one_more held.tally cost)
         × (result.bits ≡ bit_or held.bits (bit_of d)) }
 {
-    let tally = held.tally;
     Chosen {
-        tally: tally.add(word(costs, d)),
+        tally: held.tally.add(cost),
         bits: held.bits | bit(d),
     }
 }

@@ -1,84 +1,78 @@
--- The rows of each unflagged step of a plan, in blocks. Not to be believed: proofs/RowTheorem says what the rows tell.
--- Assumes nothing.
-use Rattle.std.specs.Prelude.{ℕ, zero, suc, ◌+◌, ◌-◌, ◌*◌, ◌/◌, ◌%◌, ◌≡◌, Bool, false, cond, ◌&&◌, List, [], ◌∷◌, length, get_or, set, take, ltb, eqb}
+-- The choices at the unflagged steps of a plan. Not to be believed: proofs/RowTheorem says what their rows tell. Assumes
+-- nothing.
+use Rattle.std.specs.Prelude.{ℕ, zero, suc, ◌-◌, ◌/◌, ◌%◌, ◌≡◌, true, false, cond, ◌&&◌, List, [], ◌∷◌, ◌++◌, length, get_or, set, take, ltb, eqb}
 use Rattle.sas.specs.Task.{Fact, Assignment}
 use Rattle.sas.specs.Plan.{written, needed}
 use Rattle.reduction.specs.Reduction.{Reduction}
 use Rattle.sheet.specs.Layout.{cost_word}
 use Rattle.sheet.specs.Decode.{action}
-use Rattle.packed_state.specs.Between.Chosen.{most_choices, open_before}
-use Rattle.packed_state.specs.Between.Packed.{state_bytes, row_bytes, row_kinds}
-
--- the rows of block b: asked for a strike, asked for a keep, of use, written where it is struck, where it is kept
-abbrev pub strike_row : ℕ → ℕ
-strike_row b = row_kinds * b
-
-abbrev pub keep_row : ℕ → ℕ
-keep_row b = row_kinds * b + 1
-
-abbrev pub use_row : ℕ → ℕ
-use_row b = row_kinds * b + 2
-
-abbrev pub struck_row : ℕ → ℕ
-struck_row b = row_kinds * b + 3
-
-abbrev pub kept_row : ℕ → ℕ
-kept_row b = row_kinds * b + 4
+use Rattle.fact_bits.specs.declared.bits.Behind.{Behind}
+use Rattle.fact_bits.specs.Between.Bits.{no_bits}
+use Rattle.packed_state.specs.declared.packed.Row.{Row}
+use Rattle.packed_state.specs.Between.Chosen.{open_before}
+use Rattle.packed_state.specs.Between.Packed.{state_bytes, no_row}
+use Rattle.choice_rows.specs.declared.rows.Choice.{Choice}
+use Rattle.choice_rows.specs.declared.rows.Choices.{Choices}
 
 -- bits that ask for every fact
 abbrev pub all_bits : ℕ
 all_bits = 18446744073709551615
 
--- a fact put into row r, where its bit, the lowest, is one
-unfoldable pub laid : List ℕ → ℕ → ℕ → Fact → List ℕ
-laid rows r bits f =
+-- a fact put into a row, where its bit, the lowest, is one
+unfoldable pub laid : Row → ℕ → Fact → Row
+laid row bits f =
     cond (eqb (bits % 2) 1 && ltb f.variable state_bytes)
-    (set (set rows (r * row_bytes + f.variable) 1) (r * row_bytes + state_bytes + f.variable) f.value) rows
+    (record { asked = set row.asked f.variable true; values = set row.values f.variable f.value }) row
 
 -- those of an assignment, one after another
-unfoldable pub laid_all : List ℕ → ℕ → ℕ → Assignment → List ℕ
-laid_all rows r bits [] = rows
-laid_all rows r bits (f ∷ q) = laid_all (laid rows r bits f) r (bits / 2) q
+unfoldable pub laid_all : Row → ℕ → Assignment → Row
+laid_all row bits [] = row
+laid_all row bits (f ∷ q) = laid_all (laid row bits f) (bits / 2) q
 
 -- as many as a row has room for
-abbrev pub stamped_row : List ℕ → ℕ → ℕ → Assignment → List ℕ
-stamped_row rows r bits q = laid_all rows r bits (take state_bytes q)
+abbrev pub stamped_row : Row → ℕ → Assignment → Row
+stamped_row row bits q = laid_all row bits (take state_bytes q)
 
--- the rows with what action a, behind d unflagged steps, is asked and writes, by the bits of what it may write
-unfoldable pub noted : List ℕ → ℕ → Bool → ℕ → ℕ → ℕ → List ℕ → List ℕ
-noted w a flagged d wants uses rows =
-    cond (ltb most_choices d) rows
-    (cond flagged
-    (stamped_row (stamped_row rows (struck_row d) all_bits (written (action w a))) (kept_row d) all_bits
-    (written (action w a)))
-    (cond (ltb d most_choices)
-    (stamped_row
-    (stamped_row
-    (stamped_row (stamped_row rows (strike_row (d + 1)) wants (written (action w a))) (keep_row (d + 1)) all_bits
-    (needed (action w a)))
-    (use_row (d + 1)) uses (written (action w a)))
-    (kept_row (d + 1)) all_bits (written (action w a)))
-    rows))
+-- no choice
+abbrev pub no_choice : Choice
+no_choice = record { cost = 0; strike = no_row; keep = no_row; useful = no_row; struck = no_row; kept = no_row }
 
--- the costs of the unflagged steps, with that of the same action
-unfoldable pub noted_cost : List ℕ → ℕ → Bool → ℕ → List ℕ → List ℕ
-noted_cost w a flagged d costs = cond flagged costs (set costs d (cost_word w a))
+-- what action a costs, is asked and writes, by the bits of what it may write
+unfoldable pub choice_of : List ℕ → ℕ → Behind → Choice
+choice_of w a bits =
+    record {
+      cost = cost_word w a;
+      strike = stamped_row no_row bits.wanted (written (action w a));
+      keep = stamped_row no_row all_bits (needed (action w a));
+      useful = stamped_row no_row (all_bits - bits.useless) (written (action w a));
+      struck = no_row;
+      kept = stamped_row no_row all_bits (written (action w a));
+    }
 
--- the rows and the costs of the steps before index i, in what they are written to
-unfoldable pub rows_before : List ℕ → List ℕ → Reduction → List ℕ → List ℕ → List ℕ → ℕ → List ℕ
-rows_before w l flags wanted useless empty zero = empty
-rows_before w l flags wanted useless empty (suc i) =
-    noted w (get_or l i 0) (get_or flags i false) (open_before flags i) (get_or wanted i 0) (all_bits - get_or useless i 0)
-    (rows_before w l flags wanted useless empty i)
+-- a choice behind which an assignment is written
+unfoldable pub passed : Choice → Assignment → Choice
+passed c q = record c { struck = stamped_row c.struck all_bits q; kept = stamped_row c.kept all_bits q }
 
-unfoldable pub costs_before : List ℕ → List ℕ → Reduction → List ℕ → ℕ → List ℕ
-costs_before w l flags empty zero = empty
-costs_before w l flags empty (suc i) =
-    noted_cost w (get_or l i 0) (get_or flags i false) (open_before flags i) (costs_before w l flags empty i)
+-- the last choice is so
+unfoldable pub passed_last : List Choice → Assignment → List Choice
+passed_last cs q = set cs (length cs - 1) (passed (get_or cs (length cs - 1) no_choice) q)
 
--- the rows and the costs of all unflagged steps of the list l, and how many they are
-pub record Rowed (w l : List ℕ) (flags : Reduction) (wanted useless costs rows : List ℕ) (count : ℕ)
-    (costs' rows' : List ℕ) : Type 0 where
-  pub counted : count ≡ open_before flags (length l)
-  pub filled : rows' ≡ rows_before w l flags wanted useless rows (length l)
-  pub priced : costs' ≡ costs_before w l flags costs (length l)
+-- what the flagged steps before index i write that are in front of the first unflagged one
+unfoldable pub start_before : List ℕ → List ℕ → Reduction → ℕ → Row
+start_before w l flags zero = no_row
+start_before w l flags (suc i) =
+    cond (get_or flags i false && eqb (open_before flags i) 0)
+    (stamped_row (start_before w l flags i) all_bits (written (action w (get_or l i 0)))) (start_before w l flags i)
+
+-- the choices at the unflagged steps before index i, behind which the flagged ones are written
+unfoldable pub choices_before : List ℕ → List ℕ → Reduction → List Behind → ℕ → List Choice
+choices_before w l flags behind zero = []
+choices_before w l flags behind (suc i) =
+    cond (get_or flags i false)
+    (passed_last (choices_before w l flags behind i) (written (action w (get_or l i 0))))
+    (choices_before w l flags behind i ++ choice_of w (get_or l i 0) (get_or behind i no_bits) ∷ [])
+
+-- the choices at all unflagged steps of the list l
+pub record ChoicesTold (w l : List ℕ) (flags : Reduction) (behind : List Behind) (c : Choices) : Type 0 where
+  pub started : c.start ≡ start_before w l flags (length l)
+  pub filled : c.steps.items ≡ choices_before w l flags behind (length l)

@@ -9,6 +9,7 @@ use Rattle.mask.specs.Mask.{word_bits, binary}
 use Rattle.sheet.specs.Decode.{goal, action}
 use Rattle.sheet.specs.Between.Encode.{fact_word}
 use Rattle.plan.specs.Limits.{most_steps}
+use Rattle.fact_bits.specs.declared.bits.Behind.{Behind}
 use Rattle.fact_table.specs.Between.Tables.{most_facts, stamped, has_fact, wanted_before, goal_table}
 
 -- which facts of an assignment the table t has
@@ -36,14 +37,17 @@ step_bits w l flags i = packed (table_before w (drop (i + 1) l) (drop (i + 1) fl
 unfoldable pub useless_bits : List ℕ → List ℕ → ℕ → ℕ
 useless_bits w l i = packed (unneeded_behind w (drop (i + 1) l)) (written (action w (get_or l i 0)))
 
+-- a step that nothing is told of
+abbrev pub no_bits : Behind
+no_bits = record { wanted = 0; useless = 0 }
+
 -- both words of each unflagged step of the list l that is within the limit
-pub record ToldBehind (w l : List ℕ) (flags : Reduction) (wanted useless : List ℕ) : Type 0 where
-  pub wanted_sized : length wanted ≡ most_steps
-  pub useless_sized : length useless ≡ most_steps
+pub record ToldBehind (w l : List ℕ) (flags : Reduction) (behind : List Behind) : Type 0 where
+  pub sized : length behind ≡ most_steps
   pub wants : (i : ℕ) → i < length l → i < most_steps → get_or flags i false ≡ false
-      → get_or wanted i 0 ≡ step_bits w l flags i
+      → (get_or behind i no_bits).wanted ≡ step_bits w l flags i
   pub idles : (i : ℕ) → i < length l → i < most_steps → get_or flags i false ≡ false
-      → get_or useless i 0 ≡ useless_bits w l i
+      → (get_or behind i no_bits).useless ≡ useless_bits w l i
 
 -- each fact of an assignment whose bit is one holds in a state; the first has the lowest bit
 unfoldable pub bits_hold : State → ℕ → Assignment → Bool

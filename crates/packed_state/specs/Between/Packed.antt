@@ -1,6 +1,6 @@
--- A state in bytes, a byte for each variable; and rows of an array, each the facts of an assignment: for each variable
--- whether it has one, and its value. Not to be believed: proofs/RowTheorem says what they tell. Assumes nothing.
-use Rattle.std.specs.Prelude.{ℕ, zero, suc, ◌+◌, ◌*◌, ◌%◌, ◌≡◌, Bool, cond, List, [], ◌∷◌, map, length, get_or, eqb}
+-- A state in bytes, a byte for each variable; and rows, each the facts of an assignment: for each variable whether it
+-- has one, and its value. Not to be believed: proofs/RowTheorem says what they tell. Assumes nothing.
+use Rattle.std.specs.Prelude.{ℕ, zero, suc, ◌+◌, ◌%◌, ◌≡◌, Bool, true, false, cond, not, ◌&&◌, ◌||◌, List, [], ◌∷◌, map, length, get_or, replicate, eqb}
 use Rattle.sas.specs.Task.{Fact}
 use Rattle.sas.specs.Between.WellFormed.{Known}
 use Rattle.reduction.specs.Reduction.{Reduction}
@@ -8,55 +8,49 @@ use Rattle.reduction.specs.Between.Course.{held}
 use Rattle.sheet.specs.Limits.{limits}
 use Rattle.sheet.specs.Decode.{domains, initial}
 use Rattle.plan.specs.Valid.{steps}
-use Rattle.packed_state.specs.Between.Chosen.{most_choices}
+use Rattle.packed_state.specs.declared.packed.Row.{Row}
 
--- the bytes of a state, and those of a row
+-- the bytes of a state
 abbrev pub state_bytes : ℕ
 state_bytes = limits.variables
 
-abbrev pub row_bytes : ℕ
-row_bytes = 2 * limits.variables
+-- a row without facts
+abbrev pub no_row : Row
+no_row = record { asked = replicate state_bytes false; values = replicate state_bytes 0 }
 
--- the rows of a block, and the most rows: a block for each unflagged step, and one for the start
-abbrev pub row_kinds : ℕ
-row_kinds = 5
+-- whether a row has a fact of variable v, and its value
+abbrev pub asks_at : Row → ℕ → Bool
+asks_at row v = get_or row.asked v false
 
-abbrev pub most_rows : ℕ
-most_rows = row_kinds * (most_choices + 1)
+abbrev pub value_at : Row → ℕ → ℕ
+value_at row v = get_or row.values v 0
 
--- whether row r has a fact of variable v, and its value
-abbrev pub asks_at : List ℕ → ℕ → ℕ → ℕ
-asks_at rows r v = get_or rows (r * row_bytes + v) 0
-
-abbrev pub value_at : List ℕ → ℕ → ℕ → ℕ
-value_at rows r v = get_or rows (r * row_bytes + state_bytes + v) 0
-
--- one where a variable that is asked for has another value
-unfoldable pub lacking : ℕ → ℕ → ℕ → ℕ
-lacking asked value has = cond (eqb asked 0) 0 (cond (eqb has value) 0 1)
+-- a variable has the value that it is asked for, if it is
+abbrev pub meeting : Bool → ℕ → ℕ → Bool
+meeting asked value has = not asked || eqb has value
 
 -- the value that a row gives a variable
-unfoldable pub taking : ℕ → ℕ → ℕ → ℕ
-taking asked value has = cond (eqb asked 0) has value
+abbrev pub taking : Bool → ℕ → ℕ → ℕ
+taking asked value has = cond asked value has
 
--- how many of the first n variables lack what row r asks for
-unfoldable pub misses : List ℕ → ℕ → List ℕ → ℕ → ℕ
-misses rows r state zero = 0
-misses rows r state (suc v) = misses rows r state v + lacking (asks_at rows r v) (value_at rows r v) (get_or state v 0)
+-- the first n variables have what a row asks for
+unfoldable pub has_first : Row → List ℕ → ℕ → Bool
+has_first row state zero = true
+has_first row state (suc v) = has_first row state v && meeting (asks_at row v) (value_at row v) (get_or state v 0)
 
--- a state has all that row r asks for
-unfoldable pub has_all : List ℕ → ℕ → List ℕ → Bool
-has_all rows r state = eqb (misses rows r state state_bytes) 0
+-- all have
+abbrev pub has_all : Row → List ℕ → Bool
+has_all row state = has_first row state state_bytes
 
--- the values of n variables from v on with row r written over them
-unfoldable pub written_from : List ℕ → ℕ → List ℕ → ℕ → ℕ → List ℕ
-written_from rows r state v zero = []
-written_from rows r state v (suc n) =
-    taking (asks_at rows r v) (value_at rows r v) (get_or state v 0) ∷ written_from rows r state (v + 1) n
+-- the values of n variables from v on with a row written over them
+unfoldable pub written_from : Row → List ℕ → ℕ → ℕ → List ℕ
+written_from row state v zero = []
+written_from row state v (suc n) =
+    taking (asks_at row v) (value_at row v) (get_or state v 0) ∷ written_from row state (v + 1) n
 
--- a state with row r written over it
-abbrev pub written_over : List ℕ → ℕ → List ℕ → List ℕ
-written_over rows r state = written_from rows r state 0 state_bytes
+-- a state with a row written over it
+abbrev pub written_over : Row → List ℕ → List ℕ
+written_over row state = written_from row state 0 state_bytes
 
 -- values in bytes
 abbrev pub packed_start : List ℕ → List ℕ

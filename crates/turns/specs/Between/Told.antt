@@ -1,6 +1,6 @@
 -- A reduction on its way through the search, told by its tally and its choices, and what the two turns make of it. Not
 -- to be believed: proofs/BestLaws ties it to `minimal` of `reduction`. Assumes nothing.
-use Rattle.std.specs.Prelude.{ℕ, ◌*◌, ◌≤◌, ◌<◌, ◌≡◌, true, false, List, length, get_or, take, drop, replicate}
+use Rattle.std.specs.Prelude.{ℕ, ◌≤◌, ◌<◌, ◌≡◌, true, false, List, length, get_or, drop}
 use Rattle.reduction.specs.Reduction.{Reduction, whole, valid_for, meets}
 use Rattle.reduction.specs.Between.Order.{Contains}
 use Rattle.reduction.specs.Between.Found.{minimal}
@@ -13,12 +13,14 @@ use Rattle.sheet.specs.Decode.{initial, goal}
 use Rattle.plan.specs.Limits.{most_steps}
 use Rattle.plan.specs.Readable.{Readable}
 use Rattle.plan.specs.Valid.{steps}
+use Rattle.fact_bits.specs.declared.bits.Behind.{Behind}
 use Rattle.fact_bits.specs.Between.Bits.{ToldBehind}
 use Rattle.reduced.specs.Reduced.{tally_left}
 use Rattle.reduced.specs.Between.Held.{Leaves}
 use Rattle.packed_state.specs.Between.Chosen.{most_choices, open_before, chosen}
-use Rattle.packed_state.specs.Between.Packed.{row_bytes, most_rows, TellsState}
-use Rattle.choice_rows.specs.Between.Rows.{rows_before, costs_before}
+use Rattle.packed_state.specs.Between.Packed.{TellsState}
+use Rattle.choice_rows.specs.declared.rows.Choice.{Choice}
+use Rattle.choice_rows.specs.Between.Rows.{choices_before}
 use Rattle.turns.specs.declared.chosen.Chosen.{Chosen}
 
 -- c tells the reduction m of the list l, which keeps the flagged steps
@@ -36,15 +38,12 @@ pub record Lent (w l : List ℕ) (flags : Reduction) : Type 0 where
   pub flagged : FlagsKept (meets (goal w)) (initial w) (steps w l) flags
   pub few : open_before flags (length l) ≤ most_choices
 
--- the rows of its unflagged steps, and their costs
-pub record LentRows (w l : List ℕ) (flags : Reduction) (costs rows : List ℕ) : Type 0 where
+-- the choices at its unflagged steps
+pub record LentRows (w l : List ℕ) (flags : Reduction) (choices : List Choice) : Type 0 where
   pub lent : Lent w l flags
-  pub wanted : List ℕ
-  pub useless : List ℕ
-  pub behind : ToldBehind w l flags wanted useless
-  pub filled : rows ≡ rows_before w l flags wanted useless (replicate (most_rows * row_bytes) 0) (length l)
-  pub priced : costs
-      ≡ take (open_before flags (length l)) (costs_before w l flags (replicate most_choices 0) (length l))
+  pub behind : List Behind
+  pub told : ToldBehind w l flags behind
+  pub filled : choices ≡ choices_before w l flags behind (length l)
 
 -- a visit of unflagged step d, or behind the last
 pub record AtChoice (l : List ℕ) (flags : Reduction) (v : Visit) (d : ℕ) : Type 0 where
@@ -53,10 +52,10 @@ pub record AtChoice (l : List ℕ) (flags : Reduction) (v : Visit) (d : ℕ) : T
   pub numbered : d ≡ open_before flags v.index
 
 -- a turn at unflagged step d in a state: of what is kept so far and of the best it makes what the turn of the search
--- makes of them, whatever list has these rows
-pub record TurnTold (costs rows : List ℕ) (t : Turn) (d : ℕ) (state : List ℕ) (so_far best after : Chosen) : Type 0
+-- makes of them, whatever list has these choices
+pub record TurnTold (choices : List Choice) (t : Turn) (d : ℕ) (state : List ℕ) (so_far best after : Chosen) : Type 0
   where
-    pub tells : (w l : List ℕ) (flags : Reduction) → LentRows w l flags costs rows → (v : Visit)
+    pub tells : (w l : List ℕ) (flags : Reduction) → LentRows w l flags choices → (v : Visit)
         → AtChoice l flags v d → OnCourse (goal w) (initial w) (steps w l) flags v
         → TellsState w l v.so_far v.index state
         → Chooses w l flags v.so_far so_far → Chooses w l flags v.best best

@@ -1,19 +1,25 @@
--- `pack` meets its contract. The loop's invariant: what is packed and what is left make the whole. The measure is the number of bits left. Assumes nothing.
-use native.Mathlib.Omega.{arith}
-use Rattle.fact_bits.proofs.BitPackLaws.{packing_start, packing_more, packed_fits, packed_over, packed_full}
+-- `pack` meets its contract. The loop's invariant: what is packed and what is left make the whole. Assumes nothing.
+use mathlib.Core.Path.{sym, ◌∙◌}
+use mathlib.Core.Bool.{true, false}
+use Rattle.fact_bits.proofs.BitPackLaws.{packing_start, packing_more, packing_end}
+use Rattle.fact_bits.proofs.bits.pack.Goals.{then-has, else-has}
 use Rattle.fact_bits.proofs.bits.pack.Goals as goal
 
-pub loop-k-init : goal.loop-k-init
-loop-k-init c = packing_start _ _ _
+pub loop-fact-init : goal.loop-fact-init
+loop-fact-init g c =
+    let laws : _ = g.met.F.Facts in
+    ((laws.goes_on _, laws.ends _), packing_start _ _)
 
-pub returns-then-rest : goal.returns-then-rest
-returns-then-rest c = packed_over _ _ _ _ _ _ c.loop-k.invariant c.if-rest.true
-
-pub overflow_add-bits : goal.overflow_add-bits
-overflow_add-bits c = let low = packed_fits _ _ _ _ _ _ c.loop-k.invariant c.if-rest.false c.loop-k-test.true _ _ c.first.ensures.0 c.digit.ensures in omega (arith, low)
-
-pub loop-k-preserved : goal.loop-k-preserved
-loop-k-preserved c = packing_more _ _ _ _ _ _ c.loop-k.invariant c.if-rest.false c.loop-k-test.true _ _ c.first.ensures.0 c.digit.ensures _ c.rest-rest.ensures
+pub loop-fact-preserved : goal.loop-fact-preserved
+loop-fact-preserved g c =
+    let laws : _ = g.met.F.Facts in
+    let packs : _ = packing_more _ _ _ _ _ c.loop-fact.invariant.1 _ _ (laws.gives _ _ _ c.in-Some.ensures.steps) in (
+      (laws.goes_on _, laws.ends _),
+      elim c.if-has.branch [
+        | then-has w ↦ rw w.bits-is (packs true (sym w.if-has.true ∙ c.has.ensures))
+        | else-has w ↦ rw w.bits-is (packs false (sym w.if-has.false ∙ c.has.ensures))
+      ],
+    )
 
 pub returns : goal.returns
-returns c = packed_full _ _ _ _ _ _ c.loop-k.invariant c.loop-k-test.false
+returns g c = rw (← c.into_iter-fact-iterator.ensures.into_iter_gives) (packing_end _ _ _ _ _ c.loop-fact.invariant.1 (g.met.F.Facts.gives _ _ _ c.in-None.ensures.steps).0)

@@ -1,16 +1,19 @@
--- `start` meets its contract. The loop's invariant: what is packed and what the values left are packed to are the whole. The measure is the number of values
--- left. Assumes nothing.
-use Rattle.packed_state.proofs.PackedLaws.{narrowing_start, narrowing_more, narrowing_end}
-use mathlib.Core.Path.{◌∙◌, ap}
-use Rattle.packed_state.specs.Between.Packed.{packed_start}
+-- `start` meets its contract. Assumes nothing.
+use Prim.Native.Nat.{ℕ, ◌%◌, ◌<◌}
+use native.Mathlib.Omega.{arith}
+use mathlib.Core.Path.{◌≡◌, sym, ◌∙◌}
+use lib.ListN.{length, get_or, get_or-map, length-map}
+use lib.Seq.{ext_get_or}
 use Rattle.std.proofs.Common.{rules}
+use Rattle.packed_state.specs.Between.Packed.{packed_start}
 use Rattle.packed_state.proofs.packed.start.Goals as goal
 
-pub loop-v-init : goal.loop-v-init
-loop-v-init c = narrowing_start _ (search rules)
-
-pub loop-v-preserved : goal.loop-v-preserved
-loop-v-preserved c = narrowing_more _ (search rules) _ _ c.loop-v.invariant c.loop-v-test.true
-
 pub returns : goal.returns
-returns c = narrowing_end _ (search rules) _ _ c.loop-v.invariant c.loop-v-test.false ∙ ap packed_start c.initial-values.ensures
+returns c =
+    let long : length c.initial.result ≡ 64 = search rules in
+    let longer : length c.map.result ≡ 64 = c.map.ensures.items.long in
+    let each : (i : ℕ) → i < 64 → get_or c.map.result i 0 ≡ get_or c.initial.result i 0 % 256 =
+    λ i h. let p = c.map.ensures.items.at i 0 0 h in search rules in
+    rw (← c.initial.ensures)
+    (ext_get_or 0 c.map.result (packed_start c.initial.result) (longer ∙ sym (length-map c.initial.result _ ∙ long))
+    (λ i h. let below : i < 64 = omega arith in each i below ∙ sym (get_or-map _ c.initial.result i 0)))

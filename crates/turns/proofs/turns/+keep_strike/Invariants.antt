@@ -3,7 +3,7 @@ use Rattle.std.proofs.Common.{length, ◌-◌}
 use Rattle.turns.proofs.turns.+keep_strike.Given as goal
 
 abbrev pub decreases-keep : goal.decreases-keep
-decreases-keep l = length l.costs.now - l.d
+decreases-keep l = length l.choices.now - l.d
 
 abbrev pub decreases-strike : goal.decreases-strike
-decreases-strike l = length l.costs.now - l.d
+decreases-strike l = length l.choices.now - l.d
