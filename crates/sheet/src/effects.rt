@@ -11,7 +11,8 @@ use crate::layout::effect_fact;
 use access::get_or;
 
 // The effects of an action, or what is left of them: from word `at` up to, not including, word `end`. In edition 1 each
-// is a fact; in edition 2 each has a condition.
+// is a fact; in edition 2 each has a condition. The edition is a flag and no enum, since it changes only how the first of
+// them is read (`fact_place`, `condition`).
 #[derive(Clone, Copy)]
 pub struct Effects {
     pub at: usize,

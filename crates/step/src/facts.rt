@@ -23,12 +23,13 @@ pub fn holds(state: &[u32], fact: u32) -> bool
 }
 
 // The fact at which facts are seen to fail in the state, by its word, or none where they hold. They are looked at from
-// the last, since planners write those last that fail most (document 02, C-13): `rev` is all that says so. The exact
+// the last, since planners write those last that fail most (document 02, C-13): `next_back` is all that says so, and an
+// edit that takes `next` instead is refused, which a `for` over `rev` would not let it be at the fact found. The exact
 // search tests the facts of a row at once, in no order (`packed_state`).
-pub fn find_failing(state: &[u32], facts: GroupFacts) -> Option<u32>
+pub fn find_failing(state: &[u32], mut facts: GroupFacts) -> Option<u32>
     ensures { Tests state.now (group_left facts.entry) result }
 {
-    for fact in facts.rev() {
+    while let Some(fact) = facts.next_back() {
         if !holds(state, fact) {
             return Some(fact);
         }
