@@ -1,6 +1,8 @@
 -- The two turns meet their contracts: each way through them is a law of TurnsLaws, and the number of unflagged steps left falls at each call. Assumes nothing.
 use native.Mathlib.Omega.{arith}
+use mathlib.Core.Path.{◌∙◌}
 use Rattle.choice_rows.specs.Between.Rows.{no_choice}
+use Rattle.turns.proofs.SoFarLaws.{lt_less}
 use Rattle.turns.proofs.TurnsLaws.{both_told, kept_to_end, not_lower_at_end, lower_at_end, not_struck, struck_on, not_lower_kept, not_able, not_useful, kept_on}
 use Rattle.turns.proofs.turns.+keep_strike.Goals.{keep-then-not-is_lower-via-then-not-is_lower, keep-then-not-is_lower-via-else-not-is_lower+then-not-holds}
 use Rattle.turns.proofs.turns.+keep_strike.Goals as goal
@@ -10,20 +12,20 @@ keep-returns-then-not-is_lower t c =
     let read = c.in-Some.ensures.lookup.4 (omega arith) no_choice in
     elim c.then-not-is_lower.branch [
       | keep-then-not-is_lower-via-then-not-is_lower w ↦ not_lower_kept _ _ _ _ _ c.in-Some.ensures.lookup.3.0 _ read _ _ c.keep_step-with.ensures.0
-          c.keep_step-with.ensures.1 c.is_lower.ensures w.if-not-is_lower.true
+          c.keep_step-with.ensures.1 (c.is_lower.ensures ∙ lt_less _) w.if-not-is_lower.true
       | keep-then-not-is_lower-via-else-not-is_lower+then-not-holds w ↦ not_able _ _ _ _ _ c.in-Some.ensures.lookup.3.0 _ read _ _ c.keep_step-with.ensures.0
-          c.keep_step-with.ensures.1 c.is_lower.ensures _ w.holds.ensures w.if-not-holds.true
+          c.keep_step-with.ensures.1 (c.is_lower.ensures ∙ lt_less _) _ w.holds.ensures w.if-not-holds.true
     ]
 
 pub keep-returns-then-holds : goal.keep-returns-then-holds
 keep-returns-then-holds t c =
     not_useful _ _ _ _ _ c.in-Some.ensures.lookup.3.0 _ (c.in-Some.ensures.lookup.4 (omega arith) no_choice) _ _ c.keep_step-with.ensures.0
-    c.keep_step-with.ensures.1 c.is_lower.ensures _ c.holds.ensures _ c.holds-in-Some.ensures c.if-holds.true
+    c.keep_step-with.ensures.1 (c.is_lower.ensures ∙ lt_less _) _ c.holds.ensures _ c.holds-in-Some.ensures c.if-holds.true
 
 pub keep-returns-in-Some : goal.keep-returns-in-Some
 keep-returns-in-Some t c =
     kept_on _ _ _ _ _ c.in-Some.ensures.lookup.3.0 _ (c.in-Some.ensures.lookup.4 (omega arith) no_choice) _ _ c.keep_step-with.ensures.0
-    c.keep_step-with.ensures.1 c.is_lower.ensures _ c.holds.ensures _ c.holds-in-Some.ensures _ _ c.if-not-is_lower.false c.if-not-holds.false c.if-holds.false
+    c.keep_step-with.ensures.1 (c.is_lower.ensures ∙ lt_less _) _ c.holds.ensures _ c.holds-in-Some.ensures _ _ c.if-not-is_lower.false c.if-not-holds.false c.if-holds.false
     c.write_over-next.ensures (both_told _ _ _ _ _ _ _ c.strike-struck.ensures c.keep.ensures)
 
 pub keep-returns : goal.keep-returns
@@ -39,7 +41,7 @@ strike-returns-in-Some t c =
     c.write_over-next.ensures (both_told _ _ _ _ _ _ _ c.strike-struck.ensures c.keep.ensures)
 
 pub strike-returns-then-is_lower : goal.strike-returns-then-is_lower
-strike-returns-then-is_lower t c = lower_at_end _ _ _ _ _ c.in_default.ensures.lookup.3 _ c.is_lower.ensures c.if-is_lower.true
+strike-returns-then-is_lower t c = lower_at_end _ _ _ _ _ c.in_default.ensures.lookup.3 _ (c.is_lower.ensures ∙ lt_less _) c.if-is_lower.true
 
 pub strike-returns : goal.strike-returns
-strike-returns t c = not_lower_at_end _ _ _ _ _ c.in_default.ensures.lookup.3 _ c.is_lower.ensures c.if-is_lower.false
+strike-returns t c = not_lower_at_end _ _ _ _ _ c.in_default.ensures.lookup.3 _ (c.is_lower.ensures ∙ lt_less _) c.if-is_lower.false
