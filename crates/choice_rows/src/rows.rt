@@ -7,7 +7,7 @@ ghost use Rattle.sheet.specs.Between.Effects.{written_in};
 ghost use Rattle.packed_state.specs.Between.Chosen.{most_choices, open_before};
 ghost use Rattle.choice_rows.specs.Between.Rows.{laid, stamped_row, choice_of, passed, ChoicesTold};
 
-use access::flag;
+use access::get_or;
 use arrayvec::ArrayVec;
 use fact_bits::bits::Behind;
 use packed_state::packed::{MOST, Row, STATE};
@@ -112,14 +112,14 @@ pub fn choices_of(words: &[u32], plan: &[u32], flags: &[bool], behind: &[Behind]
         steps: ArrayVec::new(),
     };
     for (i, &a) in plan.iter().enumerate() {
-        if flag(flags, i) {
+        if get_or(flags, i, false) {
             let effects = facts_of(words, a).effects;
             match choices.steps.last_mut() {
                 Some(choice) => choice.pass(words, effects),
                 None => stamp(&mut choices.start, ALL, effects.facts(words)),
             }
         } else {
-            let bits = behind.get(i).copied().unwrap_or(Behind::NONE);
+            let bits = get_or(behind, i, Behind::NONE);
             if choices.steps.try_push(Choice::new(words, a, bits)).is_err() {
                 return None;
             }

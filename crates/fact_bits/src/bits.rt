@@ -4,7 +4,7 @@
 ghost use Rattle.std.specs.Prelude.{◌≡◌};
 ghost use Rattle.fact_bits.specs.Between.Bits.{packed, ToldBehind};
 
-use access::flag;
+use access::get_or;
 use fact_table::{FACTS, has, pass_back, stamp};
 use plan::limits::Plan;
 use sheet::group::{Facts, facts_of, goal};
@@ -52,7 +52,7 @@ pub fn bits_behind(words: &[u32], plan: &[u32], flags: &[bool]) -> [Behind; Plan
     let mut behind = [Behind::NONE; Plan::STEPS];
     for i in (0..plan.len()).rev() {
         let facts = facts_of(words, plan[i]);
-        let flagged = flag(flags, i);
+        let flagged = get_or(flags, i, false);
         if !flagged && i < Plan::STEPS {
             behind[i] = Behind {
                 wanted: pack(&wanting, facts.effects.facts(words)),

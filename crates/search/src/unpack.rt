@@ -1,7 +1,7 @@
 // The flags of the steps that choices keep.
 ghost use Rattle.turns.specs.Between.Unpacked.{Unpacks};
 
-use access::flag;
+use access::get_or;
 use plan::limits::Plan;
 
 // A flag for each step that a plan may have: up where the step is flagged or kept. The lowest bit is no step's, and each
@@ -12,7 +12,7 @@ pub(crate) fn unpack(flags: &[bool], bits: u64) -> [bool; Plan::STEPS]
     let mut left = bits / 2;
     let mut kept = [false; Plan::STEPS];
     for (i, up) in kept.iter_mut().enumerate() {
-        if flag(flags, i) {
+        if get_or(flags, i, false) {
             *up = true;
         } else {
             *up = left % 2 == 1;

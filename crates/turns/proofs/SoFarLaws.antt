@@ -5,7 +5,7 @@ use Prim.Native.Nat.{ℕ, zero, suc, ◌+◌, ◌*◌, ◌%◌, ◌^◌, ◌≤�
 use native.Mathlib.Nat.{one-mul, add_comm}
 use native.Mathlib.Numerals.{add-one}
 use native.Mathlib.Omega.{arith}
-use mathlib.Core.Path.{◌≡◌, refl, sym, ◌∙◌, ap}
+use mathlib.Core.Path.{◌≡◌, refl, sym, ◌∙◌}
 use mathlib.Core.Bool.{Bool, true, false, true≢false}
 use mathlib.Core.List.{List, [], ◌∷◌}
 use lib.ListN.{length, get_or, set, drop, length-set, length-map}
@@ -23,6 +23,7 @@ use Rattle.reduction.proofs.ReductionLaws.{kept_length, alike_behind}
 use Rattle.tally.specs.declared.Tally.{Tally}
 use Rattle.std.specs.declared.cmp.Ordering.{Ordering}
 use Rattle.std.specs.declared.cmp.Ordering.TheVariants.{Less, Equal, Greater}
+use Rattle.std.specs.Ordering.{is_lt}
 use Rattle.tally.specs.Tally.{one_more, comparison}
 use Rattle.tally.proofs.TallyLaws.{counted, same_tally}
 use Rattle.sheet.specs.Layout.{cost_word}
@@ -39,17 +40,6 @@ use Rattle.packed_state.proofs.ChosenLaws.{open_unflagged, open_rises, chosen_un
 use Rattle.turns.specs.declared.chosen.Chosen.{Chosen}
 use Rattle.turns.specs.Between.Told.{Chooses}
 use Rattle.turns.specs.Between.Unpacked.{choice_bits, bit_of}
-
--- whether a tally is the lower, by its order
-module _ (t u : Tally) (o : Ordering) (compared : o ≡ comparison t u) where
-  pub less : o ≡ Less → true ≡ is_lt (comparison t u)
-  less e = ap is_lt (sym e ∙ compared)
-
-  pub equal : o ≡ Equal → false ≡ is_lt (comparison t u)
-  equal e = ap is_lt (sym e ∙ compared)
-
-  pub greater : o ≡ Greater → false ≡ is_lt (comparison t u)
-  greater e = ap is_lt (sym e ∙ compared)
 
 -- to keep one step more adds it
 more_cost : (m : Reduction) (p : List Action) (i : ℕ) → length m ≡ length p → i < length p → get_or m i false ≡ false

@@ -15,7 +15,7 @@ pub struct Chosen {
 }
 
 // The bits of a word of choices but the lowest.
-pub const BITS: usize = Mask::BITS - 1;
+const BITS: usize = Mask::BITS - 1;
 
 // The bit of unflagged step d, none past the last bit.
 fn bit(d: usize) -> u64
@@ -24,13 +24,15 @@ fn bit(d: usize) -> u64
     if d < BITS { 1 << (d + 1) } else { 0 }
 }
 
-// Keeps unflagged step d too, at its cost.
-pub fn keep_step(cost: u32, d: usize, held: Chosen) -> Chosen
-    ensures { (result.tally ≡ one_more held.tally cost)
-        × (result.bits ≡ bit_or held.bits (bit_of d)) }
-{
-    Chosen {
-        tally: held.tally.add(cost),
-        bits: held.bits | bit(d),
+impl Chosen {
+    // Keeps unflagged step d too, at its cost.
+    pub fn keep_step(self, d: usize, cost: u32) -> Chosen
+        ensures { (result.tally ≡ one_more self.tally cost)
+            × (result.bits ≡ bit_or self.bits (bit_of d)) }
+    {
+        Chosen {
+            tally: self.tally.add(cost),
+            bits: self.bits | bit(d),
+        }
     }
 }

@@ -5,7 +5,7 @@
 ghost use Rattle.reduction.specs.Between.Search.Turn.{strike as striking, keep as keeping};
 ghost use Rattle.turns.specs.Between.Told.{TurnTold};
 
-use crate::chosen::{Chosen, keep_step};
+use crate::chosen::Chosen;
 use choice_rows::rows::Choice;
 use packed_state::packed::STATE;
 
@@ -42,7 +42,7 @@ pub fn keep(choices: &[Choice], d: usize, state: &[u8; STATE], held: Chosen, bes
     ensures { TurnTold choices.now keeping d state.now held best result }
 {
     if let Some(choice) = choices.get(d) {
-        let with = keep_step(choice.cost, d, held);
+        let with = held.keep_step(d, choice.cost);
         if !with.tally.is_lower(best.tally) || !choice.keep.holds(state) {
             return best;
         }

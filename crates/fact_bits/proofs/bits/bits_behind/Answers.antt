@@ -19,9 +19,9 @@ loop-i-preserved c =
     let stamps = rw c.facts-in-loop-i.ensures at c.stamp-in-loop-i.ensures in
     elim c.if-not-flagged.branch [
       | then-not-flagged+then-i-lt-STEPS w ↦ rw w.behind-is
-          (behind_noted _ _ _ _ _ _ _ along _ c.facts_of-facts.ensures.0 c.facts_of-facts.ensures.1 _ c.flag-flagged.ensures _ _ c.pass_back.ensures stamps
+          (behind_noted _ _ _ _ _ _ _ along _ c.facts_of-facts.ensures.0 c.facts_of-facts.ensures.1 _ c.get_or-flagged.ensures _ _ c.pass_back.ensures stamps
           w.if-i-lt-STEPS.true _ (rw w.facts-then-i-lt-STEPS.ensures at w.pack.ensures) (rw w.facts-then-i-lt-STEPS-2.ensures at w.pack-then-i-lt-STEPS.ensures))
       | else-not-flagged w ↦ rw w.behind-is
-          (behind_passed _ _ _ _ _ _ _ along _ c.facts_of-facts.ensures.0 c.facts_of-facts.ensures.1 _ c.flag-flagged.ensures _ _ c.pass_back.ensures stamps
-          (λ inside down. elim w.else-not-flagged.either [ inl past ↦ omega (arith, past.1) | inr up ↦ cc (up, down, c.flag-flagged.ensures) ]))
+          (behind_passed _ _ _ _ _ _ _ along _ c.facts_of-facts.ensures.0 c.facts_of-facts.ensures.1 _ c.get_or-flagged.ensures _ _ c.pass_back.ensures stamps
+          (λ inside down. elim w.else-not-flagged.either [ inl past ↦ omega (arith, past.1) | inr up ↦ cc (up, down, c.get_or-flagged.ensures) ]))
     ]

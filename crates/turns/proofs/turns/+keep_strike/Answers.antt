@@ -1,5 +1,6 @@
 -- The two turns meet their contracts: each way through them is a law of TurnsLaws, and the number of unflagged steps left falls at each call. Assumes nothing.
 use native.Mathlib.Omega.{arith}
+use mathlib.Core.Path.{◌∙◌}
 use Rattle.choice_rows.specs.Between.Rows.{no_choice}
 use Rattle.turns.proofs.TurnsLaws.{both_told, kept_to_end, not_lower_at_end, lower_at_end, not_struck, struck_on, not_lower_kept, not_able, not_useful, kept_on}
 use Rattle.turns.proofs.turns.+keep_strike.Goals.{keep-then-not-is_lower-via-then-not-is_lower, keep-then-not-is_lower-via-else-not-is_lower+then-not-holds}
