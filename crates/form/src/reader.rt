@@ -4,8 +4,8 @@ ghost use Rattle.fields.specs.Between.Reading.{has_line_end};
 
 use fields::lines::{skip_line, strip_line};
 
-// The bytes that are left; the tape, at whose front the numbers kept stand; how many lines and numbers were read; and the
-// first line that no sheet can say.
+// The bytes that are left; the tape, at whose front the numbers kept stand; how many lines and numbers were read; and
+// the first line that no sheet can say.
 #[derive(Drop)]
 pub struct Reader<'a> {
     pub rest: &'a [u8],

@@ -19,8 +19,8 @@ outcome n met xs w =
     cond (whole w) (Whole (xs ++ kept_of w.read) (or_else met (first_barred (n + 1) w.read)))
     (Broken (n + length w.read + 1))
 
--- where a reader stands: the bytes that are left, the tape, how many lines and numbers were read, and the first line that
--- no sheet can say
+-- where a reader stands: the bytes that are left, the tape, how many lines and numbers were read, and the first line
+-- that no sheet can say
 pub record Stand : Type 0 where
   pub rest : List ℕ
   pub tape : List ℕ
