@@ -62,9 +62,6 @@ pub record Left (i n : ℕ) (ds : List Due) (r s : Reader) : Type 0 where
   pub same : (next : List Due) → going_on (times (n - i) ds ++ next) (stand s) ≡ going_on (times n ds ++ next) (stand r)
 
 module _ (n : ℕ) (ds : List Due) {r : Reader} where
-  pub repeats_begin : Left 0 n ds r r
-  repeats_begin = record { same = λ next. ap (λ k. going_on (times k ds ++ next) (stand r)) (omega arith) }
-
   module _ (i : ℕ) {s : Reader} (left : Left i n ds r s) where
     module _ (more : i < n) where
       one_more : (next : List Due) → going_on (ds ++ (times (n - (i + 1)) ds ++ next)) (stand s) ≡ going_on (times n ds ++ next) (stand r)

@@ -30,7 +30,7 @@ use Rattle.form.proofs.StopLaws.{first_or_none}
 -- a starting value, and a cost, are lines of one number
 pub plain_value : PlainRow true Value
 unfolding numbers_fit
-plain_value = record { fits = λ xs. refl; kept = refl; passes = λ xs. refl; adds = λ x. refl }
+plain_value = record { fits = λ xs. refl; kept = refl; passes = λ xs. refl }
 
 -- numbers put on the tape, behind the first `count` of it
 module _ (tape xs : List ℕ) (count : ℕ) (room : count + length xs ≤ length tape) where

@@ -138,9 +138,6 @@ module _ {bytes tape : List ℕ} {from k : ℕ} {rest tape' : List ℕ} (run : H
       (sign_kind (λ ys. test (run.xs ++ ys)) (λ ys. asks.sign run.xs ys few)) none (λ v. asks.short run.xs v few)
       )
 
-  pub run_over : {n : ℕ} → k ≤ n → n ≤ k → HasRun bytes tape from n rest tape'
-  run_over {n} few all = let same_count : k ≡ n = omega arith in subst (λ m. HasRun bytes tape from m rest tape') same_count run
-
 -- what ends an effect
 head_sign : (xs : List ℕ) → numbers_fit Head (any_value ∷ xs) ≡ false
 unfolding numbers_fit plain_but_old

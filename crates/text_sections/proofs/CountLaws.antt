@@ -10,7 +10,7 @@ use Rattle.text_sections.specs.Between.Sections.{Counts}
 
 plain_count : (keeps : Bool) (what : Counted) → row_keeps (Count what) ≡ keeps → ((xs : List ℕ) → row_bars (Count what) xs ≡ false) → PlainRow keeps (Count what)
 unfolding numbers_fit
-plain_count keeps what kept passes = record { fits = λ xs. refl; kept = kept; passes = passes; adds = λ x. refl }
+plain_count keeps what kept passes = record { fits = λ xs. refl; kept = kept; passes = passes }
 
 pub plain_variables : PlainRow true (Count Variables)
 plain_variables = plain_count true Variables refl (λ xs. refl)

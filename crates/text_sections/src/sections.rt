@@ -30,7 +30,7 @@ fn read_variable(reader: &mut Reader) -> Result<(), usize>
     reader.keyword(b"begin_variable")?;
     reader.name()?;
     read_layer(reader)?;
-    read_counted(reader, true, |r| r.name())?;
+    read_counted(reader, true, Reader::name)?;
     reader.keyword(b"end_variable")
 }
 
@@ -48,7 +48,7 @@ fn read_operator(reader: &mut Reader) -> Result<(), usize>
     reader.keyword(b"begin_operator")?;
     reader.name()?;
     read_counted(reader, true, |r| read_fact(r, true))?;
-    read_counted(reader, true, |r| read_effect(r))?;
+    read_counted(reader, true, read_effect)?;
     read_value(reader)?;
     reader.keyword(b"end_operator")
 }
@@ -67,14 +67,14 @@ fn read_axioms(reader: &mut Reader) -> Result<(), usize>
     ensures { Reads (counts Axioms ∷ []) reader.old result reader.new }
 {
     let n = read_axiom_count(reader)?;
-    reader.repeat(n as usize, |r| read_axiom(r))
+    reader.repeat(n as usize, read_axiom)
 }
 
 fn read_state(reader: &mut Reader, n: usize) -> Result<(), usize>
     ensures { Reads (state_lines n) reader.old result reader.new }
 {
     reader.keyword(b"begin_state")?;
-    reader.repeat(n, |r| read_value(r))?;
+    reader.repeat(n, read_value)?;
     reader.keyword(b"end_state")
 }
 
@@ -102,10 +102,10 @@ pub(crate) fn read_front(reader: &mut Reader) -> Result<(), usize>
 pub(crate) fn read_rest(reader: &mut Reader, n: usize) -> Result<(), usize>
     ensures { Reads (after_variables n) reader.old result reader.new }
 {
-    reader.repeat(n, |r| read_variable(r))?;
-    read_counted(reader, false, |r| read_group(r))?;
+    reader.repeat(n, read_variable)?;
+    read_counted(reader, false, read_group)?;
     read_state(reader, n)?;
     read_goal(reader)?;
-    read_counted(reader, true, |r| read_operator(r))?;
+    read_counted(reader, true, read_operator)?;
     read_axioms(reader)
 }
