@@ -9,10 +9,18 @@ use lib.Dec.{eqb}
 use borrow.Author.Tests.{eqb-true}
 use Rattle.ascii.specs.Bytes.{space, ascii_digit, split, all_digits}
 use Rattle.ascii.proofs.SplitLaws.{split_at, split_in}
-use Rattle.fields.specs.declared.class.Class.TheVariants.{Digit, Minus, Space}
+use Rattle.fields.specs.Between.Fields.Class.{Digit, Minus, Space}
 use Rattle.fields.specs.Between.Fields.{minus_sign, ends_word, class_of, words_of, same, minus_one, word_reads, all_read, line_reads}
-use Rattle.fields.proofs.ClassLaws.{class_minus, class_space}
 use Rattle.fields.proofs.WordLaws.{number_digits}
+
+-- the class of a minus, and of a space
+class_minus : (b : ℕ) → b ≡ minus_sign → class_of b ≡ Minus
+unfolding class_of
+class_minus b e = rw e
+
+class_space : (b : ℕ) → b ≡ space → class_of b ≡ Space
+unfolding class_of
+class_space b e = rw e
 
 -- a byte of a word
 abbrev InWord : ℕ → Type 0

@@ -4,16 +4,14 @@ use native.Mathlib.Omega.{arith}
 use mathlib.Core.Path.{◌≡◌, refl, sym, ◌∙◌, ap}
 use mathlib.Core.Bool.{Bool, true, false, ◌&&◌}
 use mathlib.Core.List.{List, [], ◌∷◌}
-use lib.ListN.{length, drop, get_or, drop_of_length-le}
+use lib.ListN.{length}
 use lib.Dec.{leb}
 use borrow.Author.Tests.{leb-true, leb-false}
 use Rattle.ascii.specs.Bytes.{ascii_zero, ascii_nine, ascii_digit, decimal_from}
 use Rattle.fields.specs.Between.Numbers.{most_number}
 use Rattle.fields.specs.Between.Fields.{number}
-use Rattle.fields.specs.declared.word.Behind.{Behind}
-use Rattle.fields.specs.declared.word.Behind.TheVariants.{Neither}
-use Rattle.fields.specs.Between.Reading.{grown, number_from, leading_digits, DigitsLeft, behind_byte, ReadsDigits}
-use Rattle.fields.proofs.LineLaws.{byte_next}
+use Rattle.std.specs.Borrow.{Bor}
+use Rattle.fields.specs.Between.Reading.{grown, number_from, leading_digits, behind_digits, DigitsLeft, ReadsDigits}
 
 -- a digit is no smaller than the first
 pub digit_from_zero : (b : ℕ) → ascii_digit b ≡ true → ascii_zero ≤ b
@@ -56,39 +54,40 @@ pub number_small : (ds : List ℕ) → number ds ≤ most_number
 unfolding number
 number_small ds = omega arith
 
-pub digits_begin : (text : List ℕ) (at : ℕ) → DigitsLeft text at 0 at
-unfolding number
-digits_begin text at = record { number_left = refl; end_left = refl; small = omega arith }
+module _ (bs : List ℕ) where
+  pub digits_begin : DigitsLeft bs 0 bs
+  unfolding number
+  digits_begin = record { number_left = refl; behind_left = refl; small = omega arith }
 
-module _ (text : List ℕ) (at value i : ℕ) (so_far : DigitsLeft text at value i) where
-  -- no digit is left
-  no_digit_left : leading_digits (drop i text) ≡ [] → (value ≡ number (leading_digits (drop at text))) × (i ≡ at + length (leading_digits (drop at text)))
-  unfolding decimal_from
-  no_digit_left e =
-      let same_number : number_from value [] ≡ number (leading_digits (drop at text)) = rw e at so_far.number_left in
-      let same_end : i + 0 ≡ at + length (leading_digits (drop at text)) = rw e at so_far.end_left in
-      (sym (omega (arith, so_far.small)) ∙ same_number, omega arith)
+  module _ (value : ℕ) (rest : List ℕ) (so_far : DigitsLeft bs value rest) where
+    -- no digit is left
+    no_digit_left : leading_digits rest ≡ [] → {p : Bor (List ℕ)} → p.now ≡ rest → ReadsDigits bs (record { value = value; rest = p })
+    unfolding decimal_from
+    no_digit_left none left =
+        let same_number : number_from value [] ≡ number (leading_digits bs) = rw none at so_far.number_left in
+        let same_rest : rest ≡ behind_digits bs = rw none at so_far.behind_left in
+        record { value = sym (omega (arith, so_far.small)) ∙ same_number; rest = left ∙ same_rest }
 
-  pub digits_over : length text ≤ i → ReadsDigits text at (record { value = value; end = i; behind = Neither })
-  unfolding leading_digits
-  digits_over h =
-      let none : leading_digits (drop i text) ≡ [] = rw (drop_of_length-le text h) in
-      record { value = (no_digit_left none).0; end = (no_digit_left none).1; behind = rw (drop_of_length-le text h) }
+    pub digits_over : length rest ≡ 0 → {p : Bor (List ℕ)} → p.now ≡ rest → ReadsDigits bs (record { value = value; rest = p })
+    unfolding leading_digits
+    digits_over empty = no_digit_left (by_rest rest empty)
+      where
+        by_rest : (l : List ℕ) → length l ≡ 0 → leading_digits l ≡ []
+        by_rest [] e = refl
+        by_rest (d ∷ l) e = absurd (omega arith)
 
-  module _ (h : i < length text) where
-    pub digits_end : (b : Behind) → ascii_digit (get_or text i 0) ≡ false → b ≡ behind_byte (get_or text i 0)
-        → ReadsDigits text at (record { value = value; end = i; behind = b })
-    digits_end b e is =
-        let none : leading_digits (drop i text) ≡ [] = rw (byte_next text i h) (leading_at (get_or text i 0) (drop (i + 1) text) e) in
-        record { value = (no_digit_left none).0; end = (no_digit_left none).1; behind = is ∙ rw (byte_next text i h) }
+    module _ (d : ℕ) (after : List ℕ) (begins : rest ≡ d ∷ after) where
+      pub digits_ended : ascii_digit d ≡ false → {p : Bor (List ℕ)} → p.now ≡ rest → ReadsDigits bs (record { value = value; rest = p })
+      digits_ended e = no_digit_left (rw begins (leading_at d after e))
 
-    pub digits_next : (more : ℕ) → ascii_digit (get_or text i 0) ≡ true → more ≡ grown value (get_or text i 0) → more ≤ most_number
-        → DigitsLeft text at more (i + 1)
-    digits_next more e is fits =
-        let left : leading_digits (drop i text) ≡ get_or text i 0 ∷ leading_digits (drop (i + 1) text) =
-        rw (byte_next text i h) (leading_in (get_or text i 0) (drop (i + 1) text) e) in
-        record {
-          number_left = rw is (grows value (get_or text i 0) (leading_digits (drop (i + 1) text))) ∙ ap (number_from value) (sym left) ∙ so_far.number_left;
-          end_left = omega (arith, ap length left, so_far.end_left);
-          small = fits;
-        }
+      pub digits_next : ascii_digit d ≡ true → (more : ℕ) → more ≡ grown value d → DigitsLeft bs more after
+      digits_next e more is =
+          let in_front : leading_digits rest ≡ d ∷ leading_digits after = rw begins (leading_in d after e) in
+          record {
+            number_left = rw is (grows value d (leading_digits after)) ∙ ap (number_from value) (sym in_front) ∙ so_far.number_left;
+            behind_left = behind in_front ∙ so_far.behind_left;
+            small = omega (arith, is);
+          }
+        where
+          behind : leading_digits rest ≡ d ∷ leading_digits after → behind_digits after ≡ behind_digits rest
+          behind e = rw (e, begins)

@@ -1,6 +1,4 @@
--- ClassLaws: the class of a byte by what it is, and back.
-pub mod ClassLaws
--- LineLaws: where a line ends, and whether bytes begin with a line.
+-- LineLaws: what stands behind a line.
 pub mod LineLaws
 -- DigitLaws: the digits in front of bytes, and their number.
 pub mod DigitLaws

@@ -1,25 +1,19 @@
 -- A line of numbers read word by word: what its first word and what stands behind it tell of its numbers. Assumes nothing.
-use Prim.Native.Nat.{ℕ, suc, ◌+◌, ◌≤◌, ◌<◌}
+use Prim.Native.Nat.{ℕ, suc, ◌+◌, ◌≤◌}
 use native.Mathlib.Omega.{arith}
 use mathlib.Core.Path.{◌≡◌, refl, sym, ◌∙◌, ap, subst}
-use mathlib.Core.Bool.{Bool, true, false, not, ◌&&◌, ◌||◌, false≢true}
+use mathlib.Core.Bool.{Bool, true, false, ◌&&◌, ◌||◌, false≢true}
 use mathlib.Core.List.{List, [], ◌∷◌, ◌++◌, map}
 use lib.ListN.{length, drop, length-drop}
-use lib.Seq.{drop-drop}
-use lib.Dec.{T}
 use borrow.Author.Tests.{ne_eqb, eqb-true}
-use mir.Val.{has_key}
-use types.Run.{OneOf, miss}
-use denote.Enum.Declared.{tag_of}
-use Rattle.ascii.specs.Bytes.{Split, ends_line, line_end, runs, split}
+use Rattle.ascii.specs.Bytes.{Split, space, ends_line, line_end, runs, split}
 use Rattle.ascii.proofs.SplitLaws.{split_at, split_in}
 use Rattle.fields.specs.Between.Numbers.{any_value}
 use Rattle.fields.specs.Between.Fields.{ends_word, lines_of, words_of, same, is_number, number, minus_one, word_reads, word_number, all_read, line_reads, plain}
-use Rattle.fields.specs.declared.word.Behind.{Behind}
-use Rattle.fields.specs.declared.word.Behind.TheVariants.{Space, LineEnd, Neither}
+use Rattle.fields.specs.declared.word.End.{End}
+use Rattle.fields.specs.declared.word.End.TheVariants.{Space, LineEnd}
 use Rattle.fields.specs.declared.word.Word.{Word}
-use Rattle.fields.specs.contracts.word.Behind.{the_type}
-use Rattle.fields.specs.Between.Reading.{ends_either, behind_byte, behind_word, first_word, There, ReadsWord, HasNumbers, LacksNumbers}
+use Rattle.fields.specs.Between.Reading.{ends_either, first_word, behind_first, HasWord, LacksWord, HasNumbers, LacksNumbers}
 use Rattle.fields.proofs.LineLaws.{fails_either}
 use Rattle.fields.proofs.DigitLaws.{number_small}
 use Rattle.fields.proofs.WordLaws.{number_word}
@@ -28,23 +22,6 @@ word_long : (w : List ℕ) → word_reads w ≡ true → 1 ≤ length w
 unfolding word_reads same is_number
 word_long [] e = absurd (false≢true e)
 word_long (b ∷ bs) e = omega arith
-
--- what the code has found behind a word is not what stands at another place among the three
-pub other_behind : (ks : List ℕ) (r s : Behind) → T (not (has_key ks (tag_of the_type s))) → OneOf ks (tag_of the_type r) → r ≡ s → ⊥
-other_behind ks r s h told e = miss ks (tag_of the_type s) h (subst (λ c. OneOf ks (tag_of the_type c)) e told)
-
-differ : {A : Type 0} (r s : Behind) → T (not (has_key (tag_of the_type r ∷ []) (tag_of the_type s))) → r ≡ s → A
-differ r s h e = absurd (other_behind (tag_of the_type r ∷ []) r s h refl e)
-
-pub space_is_there : Space ≡ Neither → ⊥
-space_is_there = differ Space Neither tt
-
-pub line_end_is_there : LineEnd ≡ Neither → ⊥
-line_end_is_there = differ LineEnd Neither tt
-
--- the bytes behind the first word
-abbrev behind_first : List ℕ → List ℕ
-behind_first rest = drop (length (first_word rest)) rest
 
 -- a byte before which a word ends is a space or a line end, and not both
 module _ (b : ℕ) where
@@ -269,157 +246,62 @@ module _ (test : List ℕ → Bool) (rest : List ℕ) where
       by_stand [] e = lacks_unended test rest e
       by_stand (b ∷ t) e = by_end b t e (ends_word b) refl (sym (ap first_ends e) ∙ behind_ends rest)
 
--- by what stands behind a word
-module _ (c : ℕ) where
-  space_there : behind_byte c ≡ Space → ends_word c ≡ true
-  unfolding behind_byte
-  space_there e = by_case (ends_word c) (ends_line c) refl refl
-    where
-      by_case : (s t : Bool) → ends_word c ≡ s → ends_line c ≡ t → ends_word c ≡ true
-      by_case true t is on = is
-      by_case false true is on = differ LineEnd Space tt (rw (is, on) at e)
-      by_case false false is on = differ Neither Space tt (rw (is, on) at e)
-
-  line_end_there : behind_byte c ≡ LineEnd → ends_line c ≡ true
-  unfolding behind_byte
-  line_end_there e = by_case (ends_word c) (ends_line c) refl refl
-    where
-      by_case : (s t : Bool) → ends_word c ≡ s → ends_line c ≡ t → ends_line c ≡ true
-      by_case true t is on = differ Space LineEnd tt (rw is at e)
-      by_case false true is on = on
-      by_case false false is on = differ Neither LineEnd tt (rw (is, on) at e)
-
-  not_neither : behind_byte c ≡ Neither → ends_either c ≡ true → ⊥
-  unfolding behind_byte
-  not_neither e over = by_case (ends_word c) (ends_line c) refl refl
-    where
-      by_case : (s t : Bool) → ends_word c ≡ s → ends_line c ≡ t → ⊥
-      by_case true t is on = differ Space Neither tt (rw is at e)
-      by_case false true is on = differ LineEnd Neither tt (rw (is, on) at e)
-      by_case false false is on = false≢true (sym (rw (is, on) at (sym over)))
-
--- a byte and the rest behind it
-pub record ByteThen (test : ℕ → Bool) (l : List ℕ) : Type 0 where
-  pub byte : ℕ
-  pub passes : test byte ≡ true
-  pub stands : l ≡ byte ∷ drop 1 l
-
-space_behind : (l : List ℕ) → behind_word l ≡ Space → ByteThen ends_word l
-space_behind [] e = differ Neither Space tt e
-space_behind (c ∷ l) e = record { byte = c; passes = space_there c e; stands = refl }
-
-line_end_behind : (l : List ℕ) → behind_word l ≡ LineEnd → ByteThen ends_line l
-line_end_behind [] e = differ Neither LineEnd tt e
-line_end_behind (c ∷ l) e = record { byte = c; passes = line_end_there c e; stands = refl }
-
 -- a word that the code has read, of a kind of words that are all among those that read
-module _ (reads : List ℕ → Bool) (kind : (w : List ℕ) → reads w ≡ true → word_reads w ≡ true) (text : List ℕ) (at : ℕ) (r : Word)
-    (read : ReadsWord reads text at r) where
-  abbrev rest : List ℕ
-  rest = drop at text
+module _ (reads : List ℕ → Bool) (kind : (w : List ℕ) → reads w ≡ true → word_reads w ≡ true) (bs : List ℕ) where
+  module _ (e : End) (w : Word) (has : HasWord reads bs e w) where
+    reads_any : word_reads (first_word bs) ≡ true
+    reads_any = kind (first_word bs) has.reads_it
 
-  abbrev word : List ℕ
-  word = first_word (drop at text)
+    -- it has a byte, and its end another one
+    pub word_ahead : length w.rest.now + 2 ≤ length bs
+    word_ahead = omega (arith, word_long (first_word bs) reads_any, length-drop (length (first_word bs)) bs, ap length has.stands)
 
-  behind_is : drop (at + length word) text ≡ behind_first rest
-  behind_is = sym (drop-drop (length word) at text)
+  module _ (w : Word) where
+    -- a space behind it: the line goes on
+    module _ (has : HasWord reads bs Space w) where
+      pub numbers_next : (xs behind : List ℕ) → HasNumbers w.rest.now xs behind → HasNumbers bs (w.value ∷ xs) behind
+      numbers_next xs behind more = rw has.value (has_next bs space w.rest.now has.stands refl xs behind (reads_any Space w has) more)
 
-  -- what the code tells where it has found a word
-  module _ (b : Behind) (found : r.behind ≡ b) (some : b ≡ Neither → ⊥) where
-    is_there : There r
-    is_there e = some (sym found ∙ e)
+      pub no_numbers_next : (test : List ℕ → Bool) → LacksNumbers (λ xs. test (w.value ∷ xs)) w.rest.now → LacksNumbers test bs
+      no_numbers_next test lacks =
+          lacks_next bs space w.rest.now has.stands refl test (subst (λ v. LacksNumbers (λ xs. test (v ∷ xs)) w.rest.now) has.value lacks)
 
-    told : (reads word ≡ true) × (behind_word (behind_first rest) ≡ b)
-    told = by_case (reads word) refl
-      where
-        by_case : (t : Bool) → reads word ≡ t → (reads word ≡ true) × (behind_word (behind_first rest) ≡ b)
-        by_case true e =
-            let behind : r.behind ≡ behind_word (drop (at + length word) text) = read.behind ∙ rw e in
-            (e, sym (ap behind_word behind_is) ∙ sym behind ∙ found)
-        by_case false e = let none : r.behind ≡ Neither = read.behind ∙ rw e in absurd (some (sym found ∙ none))
+    -- the line's end behind it
+    module _ (has : HasWord reads bs LineEnd w) where
+      pub numbers_last : HasNumbers bs (w.value ∷ []) w.rest.now
+      numbers_last = rw has.value (has_last bs line_end w.rest.now has.stands refl (reads_any LineEnd w has))
 
-    value_is : r.value ≡ word_number word
-    value_is = read.value is_there
-
-    after : drop 1 (behind_first rest) ≡ drop (r.end + 1) text
-    after =
-        let place : at + length word + 1 ≡ r.end + 1 = omega (arith, read.end is_there) in
-        ap (drop 1) (sym behind_is) ∙ drop-drop 1 (at + length word) text ∙ ap (λ i. drop i text) place
-
-    pub word_ahead : at < r.end
-    word_ahead = omega (arith, read.end is_there, word_long word (kind word told.0))
-
-    pub word_inside : r.end < length text
-    word_inside = by_case (behind_first rest) refl
-      where
-        by_case : (l : List ℕ) → behind_first rest ≡ l → r.end < length text
-        by_case [] e = absurd (some (sym told.1 ∙ ap behind_word e))
-        by_case (c ∷ l) e = omega (arith, read.end is_there, length-drop (at + length word) text, ap length (behind_is ∙ e))
-
-  -- a space behind it: the line goes on
-  module _ (found : r.behind ≡ Space) where
-    gap : ByteThen ends_word (behind_first rest)
-    gap = space_behind (behind_first rest) (told Space found space_is_there).1
-
-    stands_gap : behind_first rest ≡ gap.byte ∷ drop (r.end + 1) text
-    stands_gap = gap.stands ∙ ap (λ l. gap.byte ∷ l) (after Space found space_is_there)
-
-    pub numbers_next : (xs behind : List ℕ) → HasNumbers (drop (r.end + 1) text) xs behind → HasNumbers (drop at text) (r.value ∷ xs) behind
-    numbers_next xs behind has =
-        rw (value_is Space found space_is_there) (has_next rest gap.byte (drop (r.end + 1) text) stands_gap gap.passes xs behind (kind word (told Space found space_is_there).0) has)
-
-    pub no_numbers_next : (test : List ℕ → Bool) → LacksNumbers (λ xs. test (r.value ∷ xs)) (drop (r.end + 1) text) → LacksNumbers test (drop at text)
-    no_numbers_next test lacks =
-        lacks_next rest gap.byte (drop (r.end + 1) text) stands_gap gap.passes test
-        (subst (λ v. LacksNumbers (λ xs. test (v ∷ xs)) (drop (r.end + 1) text)) (value_is Space found space_is_there) lacks)
-
-  -- the line's end behind it
-  module _ (found : r.behind ≡ LineEnd) where
-    end : ByteThen ends_line (behind_first rest)
-    end = line_end_behind (behind_first rest) (told LineEnd found line_end_is_there).1
-
-    stands_end : behind_first rest ≡ end.byte ∷ drop (r.end + 1) text
-    stands_end = end.stands ∙ ap (λ l. end.byte ∷ l) (after LineEnd found line_end_is_there)
-
-    pub numbers_last : HasNumbers (drop at text) (r.value ∷ []) (drop (r.end + 1) text)
-    numbers_last =
-        rw (value_is LineEnd found line_end_is_there) (has_last rest end.byte (drop (r.end + 1) text) stands_end end.passes (kind word (told LineEnd found line_end_is_there).0))
-
-    pub no_numbers_last : (test : List ℕ → Bool) → test (r.value ∷ []) ≡ false → LacksNumbers test (drop at text)
-    no_numbers_last test fails =
-        lacks_last rest end.byte (drop (r.end + 1) text) stands_end test end.passes
-        (subst (λ v. test (v ∷ []) ≡ false) (value_is LineEnd found line_end_is_there) fails)
+      pub no_numbers_last : (test : List ℕ → Bool) → test (w.value ∷ []) ≡ false → LacksNumbers test bs
+      no_numbers_last test fails = lacks_last bs line_end w.rest.now has.stands test refl (subst (λ v. test (v ∷ []) ≡ false) has.value fails)
 
   -- no word there: a test that fails on all numbers that a word of another kind begins has none
   module _ (test : List ℕ → Bool) (others : (w : List ℕ) → word_reads w ≡ true → reads w ≡ false → (xs : List ℕ) → test (word_number w ∷ xs) ≡ false) where
-    no_numbers_here : r.behind ≡ Neither → LacksNumbers test (drop at text)
-    no_numbers_here none = by_case (reads word) refl
+    by_first : (reads (first_word bs) ≡ true → (c : ℕ) (t : List ℕ) → behind_first bs ≡ c ∷ t → (s : Bool) → ends_word c ≡ s → ends_either c ≡ true → LacksNumbers test bs)
+        → LacksNumbers test bs
+    by_first behind = by_case (reads (first_word bs)) refl
       where
-        by_stand : (l : List ℕ) → behind_first rest ≡ l → behind_word l ≡ Neither → LacksNumbers test rest
-        by_stand [] e is = lacks_unended test rest e
-        by_stand (c ∷ l) e is = absurd (not_neither c is (sym (ap first_ends e) ∙ behind_ends rest))
+        by_stand : reads (first_word bs) ≡ true → (l : List ℕ) → behind_first bs ≡ l → LacksNumbers test bs
+        by_stand read [] e = lacks_unended test bs e
+        by_stand read (c ∷ t) e = behind read c t e (ends_word c) refl (sym (ap first_ends e) ∙ behind_ends bs)
 
-        by_case : (t : Bool) → reads word ≡ t → LacksNumbers test rest
-        by_case true e =
-            let behind : r.behind ≡ behind_word (drop (at + length word) text) = read.behind ∙ rw e in
-            by_stand (behind_first rest) refl (sym (ap behind_word behind_is) ∙ sym behind ∙ none)
-        by_case false e = lacks_first test rest (λ is_read. others word is_read e)
+        by_case : (u : Bool) → reads (first_word bs) ≡ u → LacksNumbers test bs
+        by_case true read = by_stand read (behind_first bs) refl
+        by_case false e = lacks_first test bs (λ read. others (first_word bs) read e)
 
-    pub no_numbers_ended : (r.behind ≡ Space → ⊥) → ((v : ℕ) → test (v ∷ []) ≡ false) → LacksNumbers test (drop at text)
-    no_numbers_ended no_gap fails = by_case r.behind refl
+    pub no_numbers_ended : LacksWord reads bs Space → ((v : ℕ) → test (v ∷ []) ≡ false) → LacksNumbers test bs
+    no_numbers_ended none fails = by_first behind
       where
-        by_case : (b : Behind) → r.behind ≡ b → LacksNumbers test (drop at text)
-        by_case Space e = absurd (no_gap e)
-        by_case LineEnd e = no_numbers_last e test (fails r.value)
-        by_case Neither e = no_numbers_here e
+        behind : reads (first_word bs) ≡ true → (c : ℕ) (t : List ℕ) → behind_first bs ≡ c ∷ t → (s : Bool) → ends_word c ≡ s → ends_either c ≡ true → LacksNumbers test bs
+        behind read c t e true blank over = absurd (none read t (e ∙ ap (λ b. b ∷ t) (eqb-true c space blank)))
+        behind read c t e false blank over = lacks_last bs c t e test (rw blank at over) (fails (word_number (first_word bs)))
 
-    pub no_numbers_on : (r.behind ≡ LineEnd → ⊥) → ((v x : ℕ) (xs : List ℕ) → test (v ∷ x ∷ xs) ≡ false) → LacksNumbers test (drop at text)
-    no_numbers_on no_line_end fails = by_case r.behind refl
+    pub no_numbers_on : LacksWord reads bs LineEnd → ((v x : ℕ) (xs : List ℕ) → test (v ∷ x ∷ xs) ≡ false) → LacksNumbers test bs
+    no_numbers_on none fails = by_first behind
       where
-        by_case : (b : Behind) → r.behind ≡ b → LacksNumbers test (drop at text)
-        by_case Space e = no_numbers_next e test (lacks_all (λ xs. test (r.value ∷ xs)) (fails r.value) (drop (r.end + 1) text))
-        by_case LineEnd e = absurd (no_line_end e)
-        by_case Neither e = no_numbers_here e
+        behind : reads (first_word bs) ≡ true → (c : ℕ) (t : List ℕ) → behind_first bs ≡ c ∷ t → (s : Bool) → ends_word c ≡ s → ends_either c ≡ true → LacksNumbers test bs
+        behind read c t e true blank over =
+            lacks_next bs c t e blank test (lacks_all (λ xs. test (word_number (first_word bs) ∷ xs)) (fails (word_number (first_word bs))) t)
+        behind read c t e false blank over = absurd (none read t (e ∙ ap (λ b. b ∷ t) (eqb-true c line_end (rw blank at over))))
 
 -- the words of the two kinds: all that read, and the numbers among them
 pub any_kind : (w : List ℕ) → word_reads w ≡ true → word_reads w ≡ true
@@ -447,8 +329,7 @@ sign_kind test fails w e f xs = by_case (same w minus_one) refl
     by_case false is = absurd (false≢true (sym f ∙ rw is at e))
 
 -- a number that is there is not −1
-pub number_plain : (text : List ℕ) (at : ℕ) (r : Word) → ReadsWord is_number text at r → (b : Behind) → r.behind ≡ b → (b ≡ Neither → ⊥) → plain r.value ≡ true
-number_plain text at r read b found some =
-    let is : r.value ≡ number (first_word (drop at text)) =
-    read.value (λ e. some (sym found ∙ e)) ∙ number_word (first_word (drop at text)) (told is_number number_kind text at r read b found some).0 in
-    rw (ne_eqb r.value any_value (λ e. omega (arith, is, number_small (first_word (drop at text)))))
+pub number_plain : {bs : List ℕ} {e : End} {w : Word} → HasWord is_number bs e w → plain w.value ≡ true
+number_plain {bs} {w = w} has =
+    let is : w.value ≡ number (first_word bs) = has.value ∙ number_word (first_word bs) has.reads_it in
+    rw (ne_eqb w.value any_value (λ e. omega (arith, is, number_small (first_word bs))))

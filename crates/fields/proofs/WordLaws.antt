@@ -1,68 +1,34 @@
 -- The first word of what is left of a text, as the code reads it: behind a minus, or by the digits in front. Assumes nothing.
-use Prim.Native.Nat.{ℕ, ◌+◌, ◌≤◌, ◌<◌}
+use Prim.Native.Nat.{ℕ}
 use native.Mathlib.Omega.{arith}
 use mathlib.Core.Path.{◌≡◌, refl, sym, ◌∙◌, ap}
 use mathlib.Core.Bool.{Bool, true, false, false≢true}
 use mathlib.Core.List.{List, [], ◌∷◌}
-use lib.ListN.{length, drop, get_or, drop_of_length-le, get_or-eq_default}
-use lib.Seq.{get_or-drop, drop-drop}
-use lib.Dec.{leb}
-use borrow.Author.Tests.{ne_eqb, leb-true, leb-false}
-use Rattle.ascii.specs.Bytes.{ends_line, ascii_zero, ascii_digit, split, all_digits, decimal_from}
+use lib.ListN.{length, drop, get_or}
+use borrow.Author.Tests.{ne_eqb}
+use Rattle.ascii.specs.Bytes.{ascii_zero, ascii_digit, split, all_digits, decimal_from}
 use Rattle.ascii.proofs.SplitLaws.{split_at, split_in}
 use Rattle.fields.specs.Between.Numbers.{any_value}
-use Rattle.fields.specs.Between.Fields.{minus_sign, ends_word, same, is_number, number, minus_one, word_reads, word_number}
-use Rattle.fields.specs.declared.word.Behind.{Behind}
-use Rattle.fields.specs.declared.word.Behind.TheVariants.{Neither}
+use Rattle.fields.specs.Between.Fields.{minus_sign, same, is_number, number, minus_one, word_reads, word_number}
+use Rattle.std.specs.Prelude.{Option, Some, None}
+use Rattle.fields.specs.declared.word.End.{End}
+use Rattle.fields.specs.declared.word.End.TheVariants.{Space, LineEnd}
 use Rattle.fields.specs.declared.word.Word.{Word}
-use Rattle.fields.specs.Between.Reading.{leading_digits, ends_either, behind_byte, behind_word, first_word, ReadsDigits, ReadsWord}
-use Rattle.fields.proofs.LineLaws.{fails_either, byte_next}
+use Rattle.fields.specs.Between.Reading.{leading_digits, behind_digits, end_byte, IsBefore, ends_either, first_word, ReadsDigits, LacksWord, ReadsWord}
+use Rattle.fields.proofs.LineLaws.{fails_either}
 use Rattle.fields.proofs.DigitLaws.{digit_from_zero, leading_in, leading_at}
-
--- a byte that is not 0 stands within the bytes
-byte_within : (bs : List ℕ) (i : ℕ) → (get_or bs i 0 ≡ 0 → ⊥) → i < length bs
-byte_within bs i some_byte = by_case (leb (length bs) i) refl
-  where
-    by_case : (t : Bool) → leb (length bs) i ≡ t → i < length bs
-    by_case true e = absurd (some_byte (get_or-eq_default bs 0 (leb-true (length bs) i e)))
-    by_case false e = leb-false (length bs) i e
-
-module _ (text : List ℕ) (i : ℕ) where
-  pub zero_within : get_or text i 0 ≡ ascii_zero → i < length text
-  zero_within zero = byte_within text i (λ e. omega arith)
-
-  pub minus_within : get_or text i 0 ≡ minus_sign → i < length text
-  minus_within minus = byte_within text i (λ e. omega arith)
-
-  pub one_within : get_or text i 0 ≡ 49 → i < length text
-  one_within one = byte_within text i (λ e. omega arith)
-
--- what stands behind a word that ends before an index, by the byte there: past the end it is 0
-behind_here : (text : List ℕ) (i : ℕ) → behind_byte (get_or text i 0) ≡ behind_word (drop i text)
-unfolding behind_byte
-behind_here text i = by_case (leb (length text) i) refl
-  where
-    by_case : (t : Bool) → leb (length text) i ≡ t → behind_byte (get_or text i 0) ≡ behind_word (drop i text)
-    by_case true e =
-        let over : length text ≤ i = leb-true (length text) i e in
-        ap behind_byte (get_or-eq_default text 0 over) ∙ sym (ap behind_word (drop_of_length-le text over))
-    by_case false e = sym (ap behind_word (byte_next text i (leb-false (length text) i e)))
 
 -- whether a word is over before these bytes
 abbrev over : List ℕ → Bool
 over [] = true
 over (b ∷ bs) = ends_either b
 
--- where it is not, there is neither a space nor a line end
-not_over : (rest : List ℕ) → over rest ≡ false → behind_word rest ≡ Neither
-unfolding behind_byte
-not_over [] h = absurd (false≢true (sym h))
-not_over (b ∷ bs) h = by_case (ends_word b) (ends_line b) refl refl
+over_end : (e : End) (rest t : List ℕ) → rest ≡ end_byte e ∷ t → over rest ≡ true
+over_end e rest t stands = ap over stands ∙ ends e
   where
-    by_case : (s t : Bool) → ends_word b ≡ s → ends_line b ≡ t → behind_byte b ≡ Neither
-    by_case true t e f = absurd (false≢true (rw e at (sym h)))
-    by_case false true e f = absurd (false≢true (rw (e, f) at (sym h)))
-    by_case false false e f = rw (e, f)
+    ends : (e : End) → ends_either (end_byte e) ≡ true
+    ends Space = refl
+    ends LineEnd = refl
 
 -- the first word, by the next byte
 word_over : (b : ℕ) (bs : List ℕ) → ends_either b ≡ true → first_word (b ∷ bs) ≡ []
@@ -190,116 +156,114 @@ minus_one_over : (bs : List ℕ) → over bs ≡ true → first_word (minus_sign
 unfolding split
 minus_one_over bs e = ap (λ w. minus_sign ∷ 49 ∷ w) (no_word_left bs e)
 
--- a word that is read, or is not
-module _ (reads : List ℕ → Bool) (text : List ℕ) (at : ℕ) where
-  word_none : (r : Word) → r.behind ≡ Neither → reads (first_word (drop at text)) ≡ false → ReadsWord reads text at r
-  word_none r none unread =
-      record {
-        behind = none ∙ rw unread;
-        value = λ there. absurd (there none);
-        end = λ there. absurd (there none);
-      }
+-- bytes that do not begin with one
+first_differs : (bs : List ℕ) (b : ℕ) → ((t : List ℕ) → bs ≡ b ∷ t → ⊥) → (0 ≡ b → ⊥) → get_or bs 0 0 ≡ b → ⊥
+first_differs [] b others some is = some is
+first_differs (c ∷ bs) b others some is = others bs (ap (λ d. d ∷ bs) is)
 
-  word_found : (r : Word) (w : List ℕ) → first_word (drop at text) ≡ w → reads w ≡ true → r.value ≡ word_number w → r.end ≡ at + length w
-      → r.behind ≡ behind_word (drop r.end text) → ReadsWord reads text at r
-  word_found r w is read value end behind =
-      record {
-        behind = behind ∙ rw (is, read, end);
-        value = λ there. value ∙ ap word_number (sym is);
-        end = λ there. end ∙ ap (λ v. at + length v) (sym is);
-      }
+-- a zero, and −1
+zero_reads : is_number (ascii_zero ∷ []) ≡ true
+unfolding is_number all_digits
+zero_reads = refl
 
-head : (text : List ℕ) (at : ℕ) → get_or (drop at text) 0 0 ≡ get_or text at 0
-head text at = let place : at + 0 ≡ at = omega arith in get_or-drop at text 0 0 ∙ ap (λ i. get_or text i 0) place
+zero_is : word_number (ascii_zero ∷ []) ≡ 0
+unfolding word_number same number decimal_from
+zero_is = refl
 
-module _ (text : List ℕ) (at : ℕ) where
-  -- the digits in front
-  abbrev ds : List ℕ
-  ds = leading_digits (drop at text)
+minus_one_reads : word_reads minus_one ≡ true
+unfolding word_reads same
+minus_one_reads = refl
 
-  -- what `read_number` returns
-  module _ (first : ℕ) (is_first : first ≡ get_or text at 0) where
-    pub reads_zero : first ≡ ascii_zero → (second : ℕ) (b : Behind) → second ≡ get_or text (at + 1) 0 → b ≡ behind_byte second
-        → ReadsWord is_number text at (record { value = 0; end = at + 1; behind = b })
-    unfolding all_digits is_number same number decimal_from word_number
-    reads_zero zero second b is_second is_behind = by_case (over (drop (at + 1) text)) refl
+minus_one_is : word_number minus_one ≡ any_value
+unfolding word_number same
+minus_one_is = refl
+
+-- what `read_number` returns
+module _ (e : End) where
+  zero_first : (rest : List ℕ) (r : Option Word) → IsBefore 0 rest e r → ReadsWord is_number (ascii_zero ∷ rest) e r
+  zero_first rest (Some w) (is, stands) =
+      let word : first_word (ascii_zero ∷ rest) ≡ ascii_zero ∷ [] =
+      word_on ascii_zero rest refl ∙ ap (λ v. ascii_zero ∷ v) (no_word_left rest (over_end e rest w.rest.now stands)) in
+      record { reads_it = ap is_number word ∙ zero_reads; value = is ∙ sym (ap word_number word ∙ zero_is); stands = ap (λ v. drop (length v) (ascii_zero ∷ rest)) word ∙ stands }
+  zero_first rest None none = λ read t stands. by_case (over rest) refl read t stands
+    where
+      by_case : (u : Bool) → over rest ≡ u → LacksWord is_number (ascii_zero ∷ rest) e
+      by_case true is read t stands =
+          let word : first_word (ascii_zero ∷ rest) ≡ ascii_zero ∷ [] = word_on ascii_zero rest refl ∙ ap (λ v. ascii_zero ∷ v) (no_word_left rest is) in
+          none t (sym (ap (λ v. drop (length v) (ascii_zero ∷ rest)) word) ∙ stands)
+      by_case false is read t stands = false≢true (sym (zero_goes_on rest is) ∙ read)
+
+  pub reads_zero : {bs : List ℕ} (b : ℕ) (rest : List ℕ) → bs ≡ b ∷ rest → b ≡ ascii_zero → (r : Option Word) → IsBefore 0 rest e r
+      → ReadsWord is_number bs e r
+  reads_zero b rest begins zero r found = rw (begins, zero) (zero_first rest r found)
+
+  module _ (b : ℕ) (bs : List ℕ) where
+    -- the digits in front
+    abbrev ds : List ℕ
+    ds = leading_digits (b ∷ bs)
+
+    digits_first : (b ≡ ascii_zero → ⊥) → ascii_digit b ≡ true → (d : Word) → ReadsDigits (b ∷ bs) d → (r : Option Word)
+        → IsBefore d.value d.rest.now e r → ReadsWord is_number (b ∷ bs) e r
+    digits_first no_zero digit d digits (Some w) (is, stands) =
+        let leads : is_number ds ≡ true = leading_number b bs digit no_zero in
+        let behind : behind_digits (b ∷ bs) ≡ end_byte e ∷ w.rest.now = sym digits.rest ∙ stands in
+        let word : first_word (b ∷ bs) ≡ ds = all_leading (b ∷ bs) (over_end e _ w.rest.now behind) in
+        record {
+          reads_it = ap is_number word ∙ leads;
+          value = is ∙ digits.value ∙ sym (ap word_number word ∙ number_word ds leads);
+          stands = ap (λ v. drop (length v) (b ∷ bs)) word ∙ behind;
+        }
+    digits_first no_zero digit d digits None none = λ read t stands. by_case (over (behind_digits (b ∷ bs))) refl read t stands
       where
-        rest : drop at text ≡ ascii_zero ∷ drop (at + 1) text
-        rest = byte_next text at (zero_within text at (sym is_first ∙ zero)) ∙ ap (λ d. d ∷ drop (at + 1) text) (sym is_first ∙ zero)
+        by_case : (u : Bool) → over (behind_digits (b ∷ bs)) ≡ u → LacksWord is_number (b ∷ bs) e
+        by_case true is read t stands =
+            none t (digits.rest ∙ sym (ap (λ v. drop (length v) (b ∷ bs)) (all_leading (b ∷ bs) is)) ∙ stands)
+        by_case false is read t stands =
+            false≢true (sym (no_number (first_word (b ∷ bs)) (not_all_leading (b ∷ bs) is)) ∙ read)
 
-        stands : b ≡ behind_word (drop (at + 1) text)
-        stands = is_behind ∙ ap behind_byte is_second ∙ behind_here text (at + 1)
+    no_digit_there : ascii_digit b ≡ false → LacksWord is_number (b ∷ bs) e
+    no_digit_there no_digit read t stands = false≢true (sym (no_digit_first (b ∷ bs) no_digit) ∙ read)
 
-        by_case : (t : Bool) → over (drop (at + 1) text) ≡ t → ReadsWord is_number text at (record { value = 0; end = at + 1; behind = b })
-        by_case true e =
-            word_found is_number text at _ (ascii_zero ∷ [])
-            (ap (λ l. first_word l) rest ∙ word_on ascii_zero (drop (at + 1) text) refl ∙ ap (λ w. ascii_zero ∷ w) (no_word_left (drop (at + 1) text) e))
-            refl refl refl stands
-        by_case false e =
-            word_none is_number text at _ (stands ∙ not_over (drop (at + 1) text) e) (ap (λ l. is_number (first_word l)) rest ∙ zero_goes_on (drop (at + 1) text) e)
+  pub reads_digits : {bs : List ℕ} (b : ℕ) (rest : List ℕ) → bs ≡ b ∷ rest → (b ≡ ascii_zero → ⊥) → ascii_digit b ≡ true → (d : Word)
+      → ReadsDigits bs d → (r : Option Word) → IsBefore d.value d.rest.now e r → ReadsWord is_number bs e r
+  reads_digits b rest begins no_zero digit d digits r found = rw begins (digits_first b rest no_zero digit d (rw begins at digits) r found)
 
-    pub reads_digits : (first ≡ ascii_zero → ⊥) → ascii_digit first ≡ true → (r : Word) → ReadsDigits text at r → ReadsWord is_number text at r
-    reads_digits no_zero digit r digits = by_case (over (drop (length ds) (drop at text))) refl
-      where
-        within : at < length text
-        within = byte_within text at (λ e. omega (arith, is_first, digit_from_zero first digit))
-
-        leads : is_number ds ≡ true
-        leads =
-            ap (λ l. is_number (leading_digits l)) (byte_next text at within)
-            ∙ leading_number (get_or text at 0) (drop (at + 1) text) (ap ascii_digit (sym is_first) ∙ digit) (λ e. no_zero (is_first ∙ e))
-
-        behind_digits : drop r.end text ≡ drop (length ds) (drop at text)
-        behind_digits = ap (λ i. drop i text) digits.end ∙ sym (drop-drop (length (leading_digits (drop at text))) at text)
-
-        by_case : (t : Bool) → over (drop (length ds) (drop at text)) ≡ t → ReadsWord is_number text at r
-        by_case true e =
-            word_found is_number text at r ds (all_leading (drop at text) e) leads (digits.value ∙ sym (number_word ds leads)) digits.end digits.behind
-        by_case false e =
-            word_none is_number text at r (digits.behind ∙ ap behind_word behind_digits ∙ not_over (drop (length ds) (drop at text)) e)
-            (no_number (first_word (drop at text)) (not_all_leading (drop at text) e))
-
-    pub reads_no_digit : ascii_digit first ≡ false → (r : Word) → r ≡ record { value = 0; end = at; behind = Neither } → ReadsWord is_number text at r
-    reads_no_digit no_digit r is =
-        word_none is_number text at r (ap (λ u. u.behind) is) (no_digit_first (drop at text) (ap ascii_digit (head text at ∙ sym is_first) ∙ no_digit))
+  pub reads_no_digit : {bs : List ℕ} (b : ℕ) (rest : List ℕ) → bs ≡ b ∷ rest → ascii_digit b ≡ false → LacksWord is_number bs e
+  reads_no_digit b rest begins no_digit = rw begins (no_digit_there b rest no_digit)
 
   -- what `read_word` returns
-  module _ (first : ℕ) (is_first : first ≡ get_or text at 0) where
-    module _ (minus : first ≡ minus_sign) (second : ℕ) (is_second : second ≡ get_or text (at + 1) 0) where
-      behind_minus : drop at text ≡ minus_sign ∷ drop (at + 1) text
-      behind_minus = byte_next text at (minus_within text at (sym is_first ∙ minus)) ∙ ap (λ d. d ∷ drop (at + 1) text) (sym is_first ∙ minus)
+  minus_one_first : (rest : List ℕ) (r : Option Word) → IsBefore any_value rest e r → ReadsWord word_reads (minus_sign ∷ 49 ∷ rest) e r
+  minus_one_first rest (Some w) (is, stands) =
+      let word : first_word (minus_sign ∷ 49 ∷ rest) ≡ minus_one = minus_one_over rest (over_end e rest w.rest.now stands) in
+      record {
+        reads_it = ap word_reads word ∙ minus_one_reads;
+        value = is ∙ sym (ap word_number word ∙ minus_one_is);
+        stands = ap (λ v. drop (length v) (minus_sign ∷ 49 ∷ rest)) word ∙ stands;
+      }
+  minus_one_first rest None none = λ read t stands. by_case (over rest) refl read t stands
+    where
+      by_case : (u : Bool) → over rest ≡ u → LacksWord word_reads (minus_sign ∷ 49 ∷ rest) e
+      by_case true is read t stands = none t (sym (ap (λ v. drop (length v) (minus_sign ∷ 49 ∷ rest)) (minus_one_over rest is)) ∙ stands)
+      by_case false is read t stands = false≢true (sym (minus_one_on rest is) ∙ read)
 
-      pub reads_minus_one : second ≡ 49 → (third : ℕ) (b : Behind) → third ≡ get_or text (at + 2) 0 → b ≡ behind_byte third
-          → ReadsWord word_reads text at (record { value = any_value; end = at + 2; behind = b })
-      unfolding same word_reads word_number
-      reads_minus_one one third b is_third is_behind = by_case (over (drop (at + 2) text)) refl
-        where
-          two : drop at text ≡ minus_sign ∷ 49 ∷ drop (at + 2) text
-          two =
-              let place : at + 1 + 1 ≡ at + 2 = omega arith in
-              behind_minus
-              ∙ ap (λ bs. minus_sign ∷ bs) (byte_next text (at + 1) (one_within text (at + 1) (sym is_second ∙ one)))
-              ∙ ap (λ d. minus_sign ∷ d ∷ drop (at + 1 + 1) text) (sym is_second ∙ one)
-              ∙ ap (λ i. minus_sign ∷ 49 ∷ drop i text) place
+  pub reads_minus_one : (bs next rest : List ℕ) → bs ≡ minus_sign ∷ next → next ≡ 49 ∷ rest → (r : Option Word) → IsBefore any_value rest e r
+      → ReadsWord word_reads bs e r
+  reads_minus_one bs next rest minus one r found = rw (minus, one) (minus_one_first rest r found)
 
-          stands : b ≡ behind_word (drop (at + 2) text)
-          stands = is_behind ∙ ap behind_byte is_third ∙ behind_here text (at + 2)
+  other_minus : (rest : List ℕ) → ((t : List ℕ) → rest ≡ 49 ∷ t → ⊥) → LacksWord word_reads (minus_sign ∷ rest) e
+  other_minus rest no_one read t stands = false≢true (sym (minus_other rest (first_differs rest 49 no_one (λ e. omega arith))) ∙ read)
 
-          by_case : (t : Bool) → over (drop (at + 2) text) ≡ t → ReadsWord word_reads text at (record { value = any_value; end = at + 2; behind = b })
-          by_case true e =
-              word_found word_reads text at _ minus_one (ap (λ l. first_word l) two ∙ minus_one_over (drop (at + 2) text) e) refl refl refl stands
-          by_case false e =
-              word_none word_reads text at _ (stands ∙ not_over (drop (at + 2) text) e)
-              (ap (λ l. word_reads (first_word l)) two ∙ minus_one_on (drop (at + 2) text) e)
+  pub reads_other_minus : (bs rest : List ℕ) → bs ≡ minus_sign ∷ rest → ((t : List ℕ) → rest ≡ 49 ∷ t → ⊥) → LacksWord word_reads bs e
+  reads_other_minus bs rest minus no_one = rw minus (other_minus rest no_one)
 
-      pub reads_other_minus : (second ≡ 49 → ⊥) → (r : Word) → r ≡ record { value = 0; end = at; behind = Neither } → ReadsWord word_reads text at r
-      reads_other_minus no_one r is =
-          word_none word_reads text at r (ap (λ u. u.behind) is)
-          (ap (λ l. word_reads (first_word l)) behind_minus ∙ minus_other (drop (at + 1) text) (λ e. no_one (is_second ∙ sym (head text (at + 1)) ∙ e)))
+  pub reads_no_minus : (bs : List ℕ) → ((t : List ℕ) → bs ≡ minus_sign ∷ t → ⊥) → (r : Option Word) → ReadsWord is_number bs e r
+      → ReadsWord word_reads bs e r
+  unfolding word_reads
+  reads_no_minus bs no_minus r number_read = by_result r number_read
+    where
+      as_number : word_reads (first_word bs) ≡ is_number (first_word bs)
+      as_number = rw (not_minus_one bs (first_differs bs minus_sign no_minus (λ e. omega arith)))
 
-    pub reads_no_minus : (first ≡ minus_sign → ⊥) → (r : Word) → ReadsWord is_number text at r → ReadsWord word_reads text at r
-    unfolding word_reads
-    reads_no_minus no_minus r number_read =
-        let as_number : word_reads (first_word (drop at text)) ≡ is_number (first_word (drop at text)) =
-        rw (not_minus_one (drop at text) (λ e. no_minus (is_first ∙ sym (head text at) ∙ e))) in
-        record { behind = number_read.behind ∙ rw as_number; value = number_read.value; end = number_read.end }
+      by_result : (r : Option Word) → ReadsWord is_number bs e r → ReadsWord word_reads bs e r
+      by_result (Some w) found = record { reads_it = as_number ∙ found.reads_it; value = found.value; stands = found.stands }
+      by_result None none = λ read t stands. none (sym as_number ∙ read) t stands

@@ -1,85 +1,53 @@
 // Lines of a text.
-ghost use Rattle.std.specs.Prelude.{◌≡◌, ◌+◌, ◌≤◌, length, drop};
-ghost use Rattle.ascii.specs.Bytes.{ends_line, split};
-ghost use Rattle.fields.specs.Between.Reading.{has_line_end, begins_line};
-
-use crate::class::{Class, classify};
+ghost use Rattle.std.specs.Prelude.{◌≡◌, ◌==◌, ◌||◌, false, fold, position, length, ◌≤◌};
+ghost use Rattle.fields.specs.Between.Fields.{lines_of};
+ghost use Rattle.fields.specs.Between.Reading.{SkipsLine, StripsLine};
 
 // How many bytes are looked at together: a name is passed over without a test for each of its bytes.
 const BLOCK: usize = 16;
 
-// Whether a line ends within these bytes, of which there are BLOCK. Each is looked at, with no early exit, so that they
-// can be tested at once.
+// Whether a line ends within these bytes. Each is looked at, with no early exit, so that they can be tested at once.
 fn ends_within(block: &[u8]) -> bool
-    requires { length block.now ≡ 16 }
-    ensures { result ≡ has_line_end block.now }
+    ensures { result ≡ fold (λ found byte. found || byte == 10) false block.now }
 {
-    let mut found = false;
-    let mut k = 0;
-    while k < BLOCK {
-        let read = classify(block[k]);
-        k += 1;
-        if let Class::LineEnd = read {
-            found = true;
-        }
-    }
-    found
+    block
+        .iter()
+        .fold(false, |found, byte| found | (*byte == b'\n'))
 }
 
-// Passes over blocks in which no line ends, from index `at` on: the line ends where it did.
-fn skip_blocks(text: &[u8], at: usize) -> usize
-    ensures { (at ≤ result) × (result + length (split ends_line (drop result text.now)).first
-        ≡ at + length (split ends_line (drop at text.now)).first) }
+// Passes over blocks in which no line ends: what stands behind the first line stays.
+fn skip_blocks(bytes: &[u8]) -> &[u8]
+    ensures { ((lines_of result.now).others ≡ (lines_of bytes.now).others) × (length result.now ≤ length bytes.now) }
 {
-    if text.len() < BLOCK {
-        return at;
-    }
-    let last = text.len() - BLOCK;
-    let mut i = at;
-    while i <= last {
-        if ends_within(&text[i..i + BLOCK]) {
-            return i;
+    let mut rest = bytes;
+    while let Some((block, after)) = rest.split_first_chunk::<BLOCK>() {
+        if ends_within(block) {
+            break;
         }
-        i += BLOCK;
+        rest = after;
     }
-    i
+    rest
 }
 
-// Where the line that begins at index `at` ends: the index of its line end, or of the text's end where it has none.
-pub fn line_end(text: &[u8], at: usize) -> usize
-    ensures { result ≡ at + length (split ends_line (drop at text.now)).first }
+// Where the first line end stands.
+fn first_end(bytes: &[u8]) -> Option<usize>
+    ensures { result ≡ position (λ byte. byte == 10) bytes.now }
 {
-    let mut i = skip_blocks(text, at);
-    while i < text.len() {
-        let read = classify(text[i]);
-        if let Class::LineEnd = read {
-            return i;
-        }
-        i += 1;
-    }
-    i
+    bytes.iter().position(|byte| *byte == b'\n')
 }
 
-// Whether the bytes from index `at` on begin with this line and its line end.
-pub fn begins_with(text: &[u8], at: usize, line: &[u8]) -> bool
-    ensures { result ≡ begins_line (drop at text.now) line.now }
+// What stands behind the first line, if it ends.
+pub fn skip_line(bytes: &[u8]) -> Option<&[u8]>
+    ensures { SkipsLine bytes.now result }
 {
-    if text.len() <= at {
-        return false;
-    }
-    if text.len() - at <= line.len() {
-        return false;
-    }
-    let mut i = 0;
-    while i < line.len() {
-        if text[at + i] != line[i] {
-            return false;
-        }
-        i += 1;
-    }
-    let read = classify(text[at + i]);
-    if let Class::LineEnd = read {
-        return true;
-    }
-    false
+    let rest = skip_blocks(bytes);
+    let end = first_end(rest)?;
+    Some(&rest[end + 1..])
+}
+
+// What stands behind this line and its line end, if the bytes begin with them.
+pub fn strip_line<'a>(bytes: &'a [u8], line: &[u8]) -> Option<&'a [u8]>
+    ensures { StripsLine bytes.now line.now result }
+{
+    bytes.strip_prefix(line)?.strip_prefix(b"\n")
 }

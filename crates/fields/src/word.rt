@@ -1,123 +1,98 @@
 // One word of a line of numbers.
-ghost use Rattle.std.specs.Prelude.{◌≡◌, true, ◌≤◌};
-ghost use Rattle.ascii.specs.Bytes.{ascii_digit};
-ghost use Rattle.fields.specs.Between.Numbers.{most_number};
+ghost use Rattle.std.specs.Prelude.{◌≡◌};
 ghost use Rattle.fields.specs.Between.Fields.{is_number, word_reads};
-ghost use Rattle.fields.specs.declared.word.Behind.TheVariants.{Neither};
-ghost use Rattle.fields.specs.Between.Reading.{grown, behind_byte, ReadsDigits, ReadsWord};
+ghost use Rattle.fields.specs.Between.Reading.{grown, end_byte, IsBefore, ReadsDigits, ReadsWord};
 
-use crate::class::{Class, classify, is_digit};
 use crate::limits::{ANY, MOST};
-use access::byte;
 
-// What stands behind a word: a space, the end of its line, or neither of them.
+// What ends a word.
 #[derive(Clone, Copy)]
-pub enum Behind {
+pub enum End {
     Space,
     LineEnd,
-    Neither,
 }
 
-// A word: its number, the index behind it, and what stands there. Where that is neither a space nor a line end, or the
-// word is none that was asked for, there is no word.
-#[derive(Clone, Copy)]
-pub struct Word {
-    pub value: u32,
-    pub end: usize,
-    pub behind: Behind,
-}
-
-// No word from index `at` on.
-fn no_word(at: usize) -> Word
-    ensures { result ≡ record { value = 0; end = at; behind = Neither } }
-{
-    Word {
-        value: 0,
-        end: at,
-        behind: Behind::Neither,
+impl End {
+    // The byte that it is.
+    fn byte(self) -> u8
+        ensures { result ≡ end_byte self }
+    {
+        match self {
+            End::Space => b' ',
+            End::LineEnd => b'\n',
+        }
     }
 }
 
-// What stands behind a word whose next byte this is.
-fn behind_word(byte: u8) -> Behind
-    ensures { result ≡ behind_byte byte }
+// A word: its number, and what stands behind it.
+#[derive(Clone, Copy)]
+pub struct Word<'a> {
+    pub value: u32,
+    pub rest: &'a [u8],
+}
+
+// The word with this number, where `rest` begins with what ends it.
+fn word_before(value: u32, rest: &[u8], end: End) -> Option<Word>
+    ensures { IsBefore value rest.now end result }
 {
-    let read = classify(byte);
-    match read {
-        Class::Space => Behind::Space,
-        Class::LineEnd => Behind::LineEnd,
-        _ => Behind::Neither,
+    match rest.split_first() {
+        Some((byte, rest)) if *byte == end.byte() => Some(Word { value, rest }),
+        _ => None,
     }
 }
 
 // The number that one more digit makes.
 fn grow(value: u32, digit: u8) -> u32
-    requires { (value ≤ most_number) × (ascii_digit digit ≡ true) }
-    ensures { (result ≡ grown value digit) × (result ≤ most_number) }
+    ensures { result ≡ grown value digit }
 {
-    let more = 10 * value + (digit - b'0') as u32;
-    if MOST < more { MOST } else { more }
+    value
+        .saturating_mul(10)
+        .saturating_add(u32::from(digit.saturating_sub(b'0')))
+        .min(MOST)
 }
 
-// The digits from index `at` on.
-fn read_digits(text: &[u8], at: usize) -> Word
-    ensures { ReadsDigits text.now at result }
+// The digits in front.
+fn read_digits(bytes: &[u8]) -> Word
+    ensures { ReadsDigits bytes.now result }
 {
     let mut value = 0;
-    let mut i = at;
-    while i < text.len() {
-        let next = text[i];
-        if is_digit(next) {
-            value = grow(value, next);
-            i += 1;
-        } else {
-            return Word {
-                value,
-                end: i,
-                behind: behind_word(next),
-            };
+    let mut rest = bytes;
+    while let Some((digit, after)) = rest.split_first() {
+        if !digit.is_ascii_digit() {
+            break;
         }
+        value = grow(value, *digit);
+        rest = after;
     }
-    Word {
-        value,
-        end: i,
-        behind: Behind::Neither,
-    }
+    Word { value, rest }
 }
 
-// The word from index `at` on, if it is a number. Behind a zero in front a digit is neither a space nor a line end.
-pub fn read_number(text: &[u8], at: usize) -> Word
-    ensures { ReadsWord is_number text.now at result }
+// The word in front, if it is a number with this end. A number that begins with a zero ends behind it.
+pub fn read_number(bytes: &[u8], end: End) -> Option<Word>
+    ensures { ReadsWord is_number bytes.now end result }
 {
-    let first = byte(text, at);
-    if first == b'0' {
-        let end = at + 1;
-        return Word {
-            value: 0,
-            end,
-            behind: behind_word(byte(text, end)),
-        };
+    let Some((first, rest)) = bytes.split_first() else {
+        return None;
+    };
+    if *first == b'0' {
+        return word_before(0, rest, end);
     }
-    if is_digit(first) {
-        return read_digits(text, at);
+    if first.is_ascii_digit() {
+        let digits = read_digits(bytes);
+        return word_before(digits.value, digits.rest, end);
     }
-    no_word(at)
+    None
 }
 
-// The word from index `at` on, if it is a number or −1.
-pub fn read_word(text: &[u8], at: usize) -> Word
-    ensures { ReadsWord word_reads text.now at result }
+// The word in front, if it is a number or −1 with this end.
+pub fn read_word(bytes: &[u8], end: End) -> Option<Word>
+    ensures { ReadsWord word_reads bytes.now end result }
 {
-    if byte(text, at) == b'-' {
-        if byte(text, at + 1) == b'1' {
-            let end = at + 2;
-            return Word {
-                value: ANY,
-                end,
-                behind: behind_word(byte(text, end)),
-            };
-        }
-        return no_word(at);
-    }
-    read_number(text, at)
+    let Some(rest) = bytes.strip_prefix(b"-") else {
+        return read_number(bytes, end);
+    };
+    let Some(rest) = rest.strip_prefix(b"1") else {
+        return None;
+    };
+    word_before(ANY, rest, end)
 }

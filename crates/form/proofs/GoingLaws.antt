@@ -1,20 +1,17 @@
 -- How a line takes a reader on: where it is what it must be, going on behind it finds what going on before it did; where it is not, or there is none, going
 -- on finds that line broken. Assumes nothing.
-use Rattle.std.specs.Prelude.{None, Some}
 use Prim.Native.Nat.{ℕ, ◌+◌}
 use native.Mathlib.Omega.{arith}
 use mathlib.Core.Path.{◌≡◌, refl, sym, ◌∙◌, ap}
 use mathlib.Core.Bool.{Bool, true, false, cond}
 use mathlib.Core.List.{List, [], ◌∷◌, ◌++◌, append_assoc}
-use lib.ListN.{take, drop}
-use borrow.Author.Tests.{ne_eqb}
-use Rattle.refusal.specs.Place.{Place}
-use Rattle.refusal.specs.Place.{when, or_else}
+use lib.ListN.{take}
+use Rattle.std.specs.Prelude.{None, Some}
+use Rattle.refusal.specs.Place.{Place, when, or_else}
 use Rattle.ascii.specs.Bytes.{Split, runs}
 use Rattle.fields.specs.Between.Fields.{lines_of}
-use Rattle.form.specs.declared.reader.Reader.{Reader}
 use Rattle.form.specs.Between.Form.{Due, Entry, Walk, read_first, stop, walk, walk_from, whole, fits, further, bars, first_barred, kept, kept_of}
-use Rattle.form.specs.Between.Reading.{outcome, barred_at, going_on}
+use Rattle.form.specs.Between.Reading.{outcome, Stand, going_on}
 use Rattle.form.specs.Between.Reading.Outcome.{Broken, Whole}
 
 -- the first place of three
@@ -54,51 +51,45 @@ module _ (m l : List ℕ) (others : List (List ℕ)) (d : Due) (ds : List Due) w
   unfolding walk
   walk_unfit e = rw (e, walk)
 
--- a reader that has stopped finds the next line broken, whatever is due
-pub going_stopped : (ds : List Due) (text tape : List ℕ) (r : Reader) → (r.broken ≡ 0 → ⊥) → going_on ds text r tape ≡ Broken r.broken
-unfolding going_on
-going_stopped ds text tape r e = rw (ne_eqb r.broken 0 e)
+-- a line that ends: the bytes l, and what stands behind its line end
+abbrev pub Cut : List ℕ → List ℕ → List ℕ → Type 0
+Cut bs l after = lines_of bs ≡ record { first = l; others = runs (lines_of after) }
 
--- a line that ends: the bytes l, and behind its line end what stands from index `after` on
-abbrev pub Cut : List ℕ → ℕ → List ℕ → ℕ → Type 0
-Cut text at l after = lines_of (drop at text) ≡ record { first = l; others = runs (lines_of (drop after text)) }
-
-module _ (text tape : List ℕ) (r : Reader) (goes_on : r.broken ≡ 0) where
+module _ (s : Stand) where
   -- what going on finds, spelled out
-  going : (ds : List Due)
-      → going_on ds text r tape ≡ outcome r.line (barred_at r.barred) (take r.count tape) (walk_from ds (drop r.at text))
+  going : (ds : List Due) → going_on ds s ≡ outcome s.line s.barred (take s.count s.tape) (walk_from ds s.rest)
   unfolding going_on
-  going ds = rw goes_on
+  going ds = refl
 
   -- no line is left
-  pub going_missing : (l : List ℕ) → lines_of (drop r.at text) ≡ record { first = l; others = [] } → (d : Due) (ds : List Due)
-      → going_on (d ∷ ds) text r tape ≡ Broken (r.line + 1)
+  pub going_missing : (l : List ℕ) → lines_of s.rest ≡ record { first = l; others = [] } → (d : Due) (ds : List Due)
+      → going_on (d ∷ ds) s ≡ Broken (s.line + 1)
   unfolding walk
-  going_missing l cut d ds = going (d ∷ ds) ∙ rw cut (outcome_stopped r.line (barred_at r.barred) (take r.count tape) l [] d ds)
+  going_missing l cut d ds = going (d ∷ ds) ∙ rw cut (outcome_stopped s.line s.barred (take s.count s.tape) l [] d ds)
 
   -- the line, if it ends, is not what it must be
-  pub going_broken : (d : Due) → ((l m : List ℕ) (others : List (List ℕ)) → lines_of (drop r.at text) ≡ record { first = l; others = m ∷ others } → fits d l ≡ false)
-      → (ds : List Due) → going_on (d ∷ ds) text r tape ≡ Broken (r.line + 1)
-  going_broken d unfit ds = by_case (lines_of (drop r.at text)).first (lines_of (drop r.at text)).others refl
+  pub going_broken : (d : Due) → ((l m : List ℕ) (others : List (List ℕ)) → lines_of s.rest ≡ record { first = l; others = m ∷ others } → fits d l ≡ false)
+      → (ds : List Due) → going_on (d ∷ ds) s ≡ Broken (s.line + 1)
+  going_broken d unfit ds = by_case (lines_of s.rest).first (lines_of s.rest).others refl
     where
-      by_case : (l : List ℕ) (others : List (List ℕ)) → lines_of (drop r.at text) ≡ record { first = l; others = others }
-          → going_on (d ∷ ds) text r tape ≡ Broken (r.line + 1)
+      by_case : (l : List ℕ) (others : List (List ℕ)) → lines_of s.rest ≡ record { first = l; others = others }
+          → going_on (d ∷ ds) s ≡ Broken (s.line + 1)
       by_case l [] cut = going_missing l cut d ds
       by_case l (m ∷ others) cut =
           going (d ∷ ds)
-          ∙ rw (cut, walk_unfit m l others d ds (unfit l m others cut)) (outcome_stopped r.line (barred_at r.barred) (take r.count tape) l (m ∷ others) d ds)
+          ∙ rw (cut, walk_unfit m l others d ds (unfit l m others cut)) (outcome_stopped s.line s.barred (take s.count s.tape) l (m ∷ others) d ds)
 
-  module _ (d : Due) (l : List ℕ) (after : ℕ) (cut : Cut text r.at l after) where
+  module _ (d : Due) (l after : List ℕ) (cut : Cut s.rest l after) where
     -- the line is what it must be
-    pub going_next : fits d l ≡ true → (tape' : List ℕ) (count barred : ℕ) → take count tape' ≡ take r.count tape ++ kept d l
-        → barred_at barred ≡ or_else (barred_at r.barred) (when (bars d l) (r.line + 1)) → (ds : List Due)
-        → going_on (further d l ++ ds) text (record { at = after; line = r.line + 1; count = count; barred = barred; broken = 0 }) tape'
-        ≡ going_on (d ∷ ds) text r tape
+    pub going_next : fits d l ≡ true → (tape : List ℕ) (count : ℕ) (barred : Place) → take count tape ≡ take s.count s.tape ++ kept d l
+        → barred ≡ or_else s.barred (when (bars d l) (s.line + 1)) → (ds : List Due)
+        → going_on (further d l ++ ds) (record { rest = after; tape = tape; line = s.line + 1; count = count; barred = barred })
+        ≡ going_on (d ∷ ds) s
     unfolding going_on
-    going_next fit tape' count barred more met ds =
-        let c : Split = lines_of (drop after text) in
-        let w : Walk = walk_from (further d l ++ ds) (drop after text) in
+    going_next fit tape count barred more met ds =
+        let c : Split = lines_of after in
+        let w : Walk = walk_from (further d l ++ ds) after in
         rw (more, met) (
-        outcome_next r.line (barred_at r.barred) (take r.count tape) (record { due = d; line = l }) w
+        outcome_next s.line s.barred (take s.count s.tape) (record { due = d; line = l }) w
         ∙ sym (going (d ∷ ds) ∙ rw (cut, walk_fit c.first l c.others d ds fit))
         )

@@ -3,83 +3,83 @@ use Prim.Native.Nat.{ℕ, suc, ◌+◌, ◌-◌, ◌≤◌, ◌<◌}
 use native.Mathlib.Omega.{arith}
 use mathlib.Core.Path.{◌≡◌, sym, ◌∙◌, ap}
 use mathlib.Core.List.{List, [], ◌∷◌, ◌++◌, append_assoc}
-use lib.ListN.{get_or}
+use Rattle.std.specs.Prelude.{Result, Ok, Err}
+use Rattle.std.specs.Result.{IsErrAnd}
+use Rattle.std.proofs.lemmas.Result.{err_from_is_err_and}
 use Rattle.form.specs.declared.reader.Reader.{Reader}
 use Rattle.form.specs.Between.Form.{Row, Count, Counted, Due, numbers, counts, times, after_count}
-use Rattle.form.specs.Between.Reading.{going_on, Within, Reads, after_first, ReadsRow}
-use Rattle.form.proofs.GoingLaws.{going_stopped}
+use Rattle.form.specs.Between.Reading.{Stand, going_on, stand, Reads, after_first, ReadsRow}
 
--- one part, then another
-pub reads_then : {first second : List Due} {text : List ℕ} {r s u : Reader} {tape tape' tape'' : List ℕ}
-    → Reads first text r tape s tape' → Reads second text s tape' u tape'' → Reads (first ++ second) text r tape u tape''
-reads_then {first} {second} {text} {r} {tape = tape} before after =
-    record {
-      same = λ next. after.same next ∙ before.same (second ++ next) ∙ ap (λ ds. going_on ds text r tape) (sym (append_assoc first second next));
-      within = after.within;
-    }
+-- a reader as the code leaves it, and a line of numbers that it has read
+pub reads_at : {ds : List Due} {r s : Reader} {t : Stand} → stand s ≡ t → ((next : List Due) → going_on next t ≡ going_on (ds ++ next) (stand r))
+    → Reads ds r (Ok tt) s
+reads_at e same = record { same = λ next. rw e (same next) }
 
--- a reader that has stopped stays, whatever is due
-pub reads_stopped : (ds : List Due) (text : List ℕ) (r : Reader) (tape : List ℕ) → (r.broken ≡ 0 → ⊥) → Within text r → Reads ds text r tape r tape
-reads_stopped ds text r tape stops within =
-    record { same = λ next. going_stopped next text tape r stops ∙ sym (going_stopped (ds ++ next) text tape r stops); within = within }
+pub row_at : {row : Row} {x : ℕ} {r s : Reader} {t : Stand} → stand s ≡ t
+    → ((next : List Due) → going_on (after_first row x ++ next) t ≡ going_on (numbers row ∷ next) (stand r)) → ReadsRow row r (Ok x) s
+row_at e same = record { same = λ next. rw e (same next) }
 
--- a reader as the code makes it
-pub reads_as : {ds : List Due} {text : List ℕ} {r s u : Reader} {tape tape' : List ℕ} → s ≡ u → Reads ds text r tape u tape' → Reads ds text r tape s tape'
-reads_as e read = rw e read
+-- a line that is not what it must be, where `?` passes it on
+pub passed_on : {ds : List Due} {r s : Reader} {result : Result (Unit {0}) ℕ} {n : ℕ} → IsErrAnd result (λ m. m ≡ n) → Reads ds r (Err n) s
+    → Reads ds r result s
+passed_on {result = result} is stopped = let (m, e, f) = err_from_is_err_and result is in rw (e, f) stopped
 
-pub row_as : {row : Row} {text : List ℕ} {r s u : Reader} {tape tape' : List ℕ} → s ≡ u → ReadsRow row text r tape u tape' → ReadsRow row text r tape s tape'
-row_as e read = rw e read
+module _ {r s : Reader} where
+  -- one part, then another; or the first stops
+  pub reads_then : {first second : List Due} {u : Reader} {result : Result (Unit {0}) ℕ} → Reads first r (Ok tt) s → Reads second s result u
+      → Reads (first ++ second) r result u
+  reads_then {first} {second} before after =
+      record { same = λ next. after.same next ∙ before.same (second ++ next) ∙ ap (λ ds. going_on ds (stand r)) (sym (append_assoc first second next)) }
 
-module _ {text : List ℕ} {r s : Reader} {tape tape' : List ℕ} where
+  pub reads_stopped : {first : List Due} (second : List Due) {n : ℕ} → Reads first r (Err n) s → Reads (first ++ second) r (Err n) s
+  reads_stopped {first} second stopped =
+      record { same = λ next. stopped.same (second ++ next) ∙ ap (λ ds. going_on ds (stand r)) (sym (append_assoc first second next)) }
+
+  -- the same for one line
+  pub line_then : {d : Due} {ds : List Due} {u : Reader} {result : Result (Unit {0}) ℕ} → Reads (d ∷ []) r (Ok tt) s → Reads ds s result u
+      → Reads (d ∷ ds) r result u
+  line_then before after = record { same = λ next. after.same next ∙ before.same _ }
+
+  pub line_stopped : {d : Due} {ds : List Due} {n : ℕ} → Reads (d ∷ []) r (Err n) s → Reads (d ∷ ds) r (Err n) s
+  line_stopped stopped = record { same = λ next. stopped.same _ }
+
   -- a line of numbers that adds no line
-  pub row_alone : (row : Row) → ((x : ℕ) → after_first row x ≡ []) → ReadsRow row text r tape s tape' → Reads (numbers row ∷ []) text r tape s tape'
-  row_alone row none read =
-      record {
-        same = λ next. ap (λ ds. going_on (ds ++ next) text s tape') (sym (none (get_or tape' r.count 0))) ∙ read.same next;
-        within = read.within;
-      }
+  pub row_alone : {row : Row} {x : ℕ} → after_first row x ≡ [] → ReadsRow row r (Ok x) s → Reads (numbers row ∷ []) r (Ok tt) s
+  row_alone none read = record { same = λ next. ap (λ ds. going_on (ds ++ next) (stand s)) (sym none) ∙ read.same next }
+
+  -- and one that is none
+  pub row_stopped : {row : Row} {n : ℕ} → ReadsRow row r (Err n) s → Reads (numbers row ∷ []) r (Err n) s
+  row_stopped stopped = record { same = λ next. stopped.same next }
 
   -- a number that says how many lines follow, and those lines
-  pub row_counted : {u : Reader} {tape'' : List ℕ} (what : Counted) (n : ℕ) (ds : List Due) → ReadsRow (Count what) text r tape s tape'
-      → n ≡ get_or tape' r.count 0 → after_count what n ≡ ds → Reads ds text s tape' u tape'' → Reads (counts what ∷ []) text r tape u tape''
-  row_counted what n ds read told lines after =
-      record {
-        same = λ next. after.same next ∙ ap (λ k. going_on (k ++ next) text s tape') (sym lines ∙ ap (after_count what) told) ∙ read.same next;
-        within = after.within;
-      }
+  pub row_counted : {u : Reader} {result : Result (Unit {0}) ℕ} {what : Counted} {n : ℕ} {ds : List Due} → ReadsRow (Count what) r (Ok n) s
+      → after_count what n ≡ ds → Reads ds s result u → Reads (counts what ∷ []) r result u
+  row_counted read lines after =
+      record { same = λ next. after.same next ∙ ap (λ k. going_on (k ++ next) (stand s)) (sym lines) ∙ read.same next }
 
 -- i of n times the same lines are read
-pub record Left (i n : ℕ) (ds : List Due) (text : List ℕ) (r : Reader) (tape : List ℕ) (s : Reader) (tape' : List ℕ) : Type 0 where
-  pub same : (next : List Due) → going_on (times (n - i) ds ++ next) text s tape' ≡ going_on (times n ds ++ next) text r tape
-  pub within : Within text s
+pub record Left (i n : ℕ) (ds : List Due) (r s : Reader) : Type 0 where
+  pub same : (next : List Due) → going_on (times (n - i) ds ++ next) (stand s) ≡ going_on (times n ds ++ next) (stand r)
 
-module _ (n : ℕ) (ds : List Due) {text : List ℕ} {r : Reader} {tape : List ℕ} where
-  pub repeats_begin : Within text r → Left 0 n ds text r tape r tape
-  repeats_begin within = record { same = λ next. ap (λ k. going_on (times k ds ++ next) text r tape) (omega arith); within = within }
+module _ (n : ℕ) (ds : List Due) {r : Reader} where
+  module _ (i : ℕ) {s : Reader} (left : Left i n ds r s) where
+    module _ (more : i < n) where
+      one_more : (next : List Due) → going_on (ds ++ (times (n - (i + 1)) ds ++ next)) (stand s) ≡ going_on (times n ds ++ next) (stand r)
+      unfolding times
+      one_more next =
+          let one : n - i ≡ suc (n - (i + 1)) = omega arith in
+          ap (λ l. going_on l (stand s)) (sym (append_assoc ds (times (n - (i + 1)) ds) next))
+          ∙ ap (λ k. going_on (times k ds ++ next) (stand s)) (sym one)
+          ∙ left.same next
 
-  module _ (i : ℕ) {s : Reader} {tape' : List ℕ} (left : Left i n ds text r tape s tape') where
-    pub repeats_more : {u : Reader} {tape'' : List ℕ} → i < n → Reads ds text s tape' u tape'' → Left (i + 1) n ds text r tape u tape''
-    unfolding times
-    repeats_more more read =
-        let one : n - i ≡ suc (n - (i + 1)) = omega arith in
-        record {
-          same = λ next.
-              read.same (times (n - (i + 1)) ds ++ next)
-              ∙ ap (λ l. going_on l text s tape') (sym (append_assoc ds (times (n - (i + 1)) ds) next))
-              ∙ ap (λ k. going_on (times k ds ++ next) text s tape') (sym one)
-              ∙ left.same next;
-          within = read.within;
-        }
+      pub repeats_more : {u : Reader} → Reads ds s (Ok tt) u → Left (i + 1) n ds r u
+      repeats_more read = record { same = λ next. read.same (times (n - (i + 1)) ds ++ next) ∙ one_more next }
 
-    pub repeats_stopped : (s.broken ≡ 0 → ⊥) → Reads (times n ds) text r tape s tape'
-    repeats_stopped stops =
-        record {
-          same = λ next. going_stopped next text tape' s stops ∙ sym (going_stopped (times (n - i) ds ++ next) text tape' s stops) ∙ left.same next;
-          within = left.within;
-        }
+      pub repeats_stopped : {u : Reader} {m : ℕ} → Reads ds s (Err m) u → Reads (times n ds) r (Err m) u
+      repeats_stopped stopped = record { same = λ next. stopped.same (times (n - (i + 1)) ds ++ next) ∙ one_more next }
 
-    pub repeats_over : n ≤ i → Reads (times n ds) text r tape s tape'
+    pub repeats_over : n ≤ i → Reads (times n ds) r (Ok tt) s
     unfolding times
     repeats_over over =
         let none : n - i ≡ 0 = omega arith in
-        record { same = λ next. ap (λ k. going_on (times k ds ++ next) text s tape') (sym none) ∙ left.same next; within = left.within }
+        record { same = λ next. ap (λ k. going_on (times k ds ++ next) (stand s)) (sym none) ∙ left.same next }

@@ -1,107 +1,110 @@
-// How far a text is read.
-ghost use Rattle.std.specs.Prelude.{◌≡◌, cond, ◌+◌, ◌≤◌, ◌<◌, ◌^◌};
-ghost use Rattle.refusal.specs.Place.{when, or_else};
-ghost use Rattle.form.specs.Between.Reading.{barred_at};
+// A text that is read line by line.
+ghost use Rattle.std.specs.Prelude.{◌+◌, ◌*◌, ◌≤◌, ◌<◌, ◌≡◌, ◌^◌, length, false, List, [], ◌∷◌};
+ghost use Rattle.fields.specs.Between.Reading.{has_line_end};
 
-// The index of the next line; how many lines and numbers were read; the first line that no sheet can say, or 0; and the
-// line that is not what it must be, or 0: behind that one no line is read.
-#[derive(Clone, Copy)]
-pub struct Reader {
-    pub at: usize,
+use fields::lines::{skip_line, strip_line};
+
+// The bytes that are left; the tape, at whose front the numbers kept stand; how many lines and numbers were read; and
+// the first line that no sheet can say.
+#[derive(Drop)]
+pub struct Reader<'a> {
+    pub rest: &'a [u8],
+    pub tape: &'a mut [u32],
     pub line: usize,
     pub count: usize,
-    pub barred: usize,
-    pub broken: usize,
+    pub barred: Option<usize>,
+    // A number has a byte, and another one behind it: the tape has room for those that are left.
+    ghost room: { 2 * count + length rest.now ≤ 2 * length tape.now },
+    // A line has a byte, its line end.
+    ghost lines: { line + length rest.now < 2 ^ 63 },
 }
 
-impl Reader {
+// What reads lines answers Ok where each is what it must be; or Err with the number of the first that is not, from 1.
+impl<'a> Reader<'a> {
+    ghost use Rattle.form.specs.Between.Form.{keyword as due_keyword, name as due_name, Due, times};
+    ghost use Rattle.form.specs.Between.Reading.{stand, starting, passed, keeping, noting, Reads, AlwaysReads};
+
     // At the beginning of a text.
-    pub fn start() -> Reader
-        ensures { result ≡ record { at = 0; line = 0; count = 0; barred = 0; broken = 0 } }
+    pub fn start(text: &'a [u8], tape: &'a mut [u32]) -> Reader<'a>
+        requires { length text.now ≤ 2 * length tape.old }
+        ensures { stand result ≡ starting text.now tape.old }
     {
         Reader {
-            at: 0,
+            rest: text,
+            tape,
             line: 0,
             count: 0,
-            barred: 0,
-            broken: 0,
+            barred: None,
         }
     }
 
-    // Past a line, with the next one at index `at`, and with so many numbers.
-    pub fn past(self, at: usize, count: usize) -> Reader
-        requires { self.line < at }
-        ensures { result ≡ record {
-          at = at;
-          line = self.line + 1;
-          count = count;
-          barred = self.barred;
-          broken = 0;
-        } }
+    // The number of the next line.
+    pub fn next_line(&self) -> usize
+        ensures { result ≡ self.now.line + 1 }
     {
-        Reader {
-            at,
-            line: self.line + 1,
-            count,
-            barred: self.barred,
-            broken: 0,
-        }
+        self.line + 1
     }
 
-    // The same, with the first line that no sheet can say: one met before, or this one, if it `bars`.
-    pub fn past_barred(self, at: usize, count: usize, bars: bool) -> Reader
-        requires { self.line < at }
-        ensures { (result ≡ record { at = at; line = self.line + 1; count = count; barred = result.barred; broken = 0 })
-            × (barred_at result.barred ≡ or_else (barred_at self.barred) (when bars (self.line + 1))) }
+    // Goes past a line, with these bytes behind it.
+    pub fn pass(&mut self, rest: &'a [u8])
+        requires { length rest.now < length self.old.rest.now }
+        ensures { stand self.new ≡ passed rest.now (stand self.old) }
     {
-        Reader {
-            at,
-            line: self.line + 1,
-            count,
-            barred: first_barred(self.barred, bars, self.line + 1),
-            broken: 0,
-        }
+        self.rest = rest;
+        self.line += 1;
     }
 
-    // Stopped before the next line.
-    pub fn stopped(self) -> Reader
-        requires { self.line < 2 ^ 63 }
-        ensures { result ≡ record {
-          at = self.at;
-          line = self.line;
-          count = self.count;
-          barred = self.barred;
-          broken = self.line + 1;
-        } }
+    // Keeps a number of the line that was passed last.
+    pub fn keep(&mut self, number: u32)
+        requires { 2 * (self.old.count + 1) + length self.old.rest.now ≤ 2 * length self.old.tape.now }
+        ensures { stand self.new ≡ keeping number (stand self.old) }
     {
-        Reader {
-            at: self.at,
-            line: self.line,
-            count: self.count,
-            barred: self.barred,
-            broken: self.line + 1,
+        self.tape[self.count] = number;
+        self.count += 1;
+    }
+
+    // Notes the line that was passed last, if it is the first that no sheet can say.
+    pub fn note(&mut self, bars: bool)
+        ensures { stand self.new ≡ noting bars (stand self.old) }
+    {
+        self.barred = self.barred.or(bars.then_some(self.line));
+    }
+
+    // Reads a keyword.
+    pub fn keyword(&mut self, word: &[u8]) -> Result<(), usize>
+        requires { has_line_end word.now ≡ false }
+        ensures { Reads (due_keyword word.now ∷ []) self.old result self.new }
+    {
+        let Some(rest) = strip_line(self.rest, word) else {
+            return Err(self.next_line());
+        };
+        self.pass(rest);
+        Ok(())
+    }
+
+    // Reads a name, which is any line.
+    pub fn name(&mut self) -> Result<(), usize>
+        ensures { Reads (due_name ∷ []) self.old result self.new }
+    {
+        let Some(rest) = skip_line(self.rest) else {
+            return Err(self.next_line());
+        };
+        self.pass(rest);
+        Ok(())
+    }
+
+    // Reads n times what `step` reads.
+    pub fn repeat<F: Fn(&mut Reader<'a>) -> Result<(), usize>>(
+        &mut self,
+        n: usize,
+        step: F,
+    ) -> Result<(), usize>
+        requires { F.IsAlwaysCallable step }
+        ensures { (ds : List Due) → AlwaysReads ds (F.post step) → Reads (times n ds) self.old result self.new }
+    {
+        for _ in 0..n {
+            step(self)?;
         }
+        Ok(())
     }
-}
-
-// The first line that no sheet can say, or 0, after a line like that or any other.
-fn first_barred(before: usize, is: bool, line: usize) -> usize
-    requires { 1 ≤ line }
-    ensures { barred_at result ≡ or_else (barred_at before) (when is line) }
-{
-    if before != 0 {
-        return before;
-    }
-    if is { line } else { 0 }
-}
-
-// How many numbers are kept, where there are `more` of them.
-pub fn kept_count(keeps: bool, count: usize, more: usize) -> usize
-    requires { count + more < 2 ^ 64 }
-    ensures { result ≡ count + cond keeps more 0 }
-{
-    if keeps {
-        return count + more;
-    }
-    count
 }

@@ -1,103 +1,70 @@
-// Lines of one number. The number stands on the tape then, behind those kept before, whether it is kept or not: a
-// number that counts is read from there.
-ghost use Rattle.std.specs.Prelude.{List, [], ◌∷◌, ℕ};
-ghost use Rattle.form.specs.Between.Form.{Row, Metric, Layer, Value, Count, Axioms, numbers, times};
-ghost use Rattle.form.specs.Between.Reading.{Within, Room, Reads, ReadsRow};
+// Lines of one number.
+ghost use Rattle.std.specs.Prelude.{[], ◌∷◌};
+ghost use Rattle.form.specs.Between.Form.{Row, Metric, Layer, Value, Count, Axioms, numbers};
+ghost use Rattle.form.specs.Between.Reading.{Reads, ReadsRow};
 ghost use Rattle.number_rows.specs.Between.Rows.{PlainRow};
 
-use access::put;
 use fields::limits::ANY;
-use fields::word::{Behind, read_number, read_word};
-use form::reader::{Reader, kept_count};
+use fields::word::{End, read_number, read_word};
+use form::reader::Reader;
 
-// Reads a line of one number, which is kept or not, and which every sheet can say.
-pub fn read_plain(text: &[u8], r: Reader, tape: &mut [u32], keeps: bool) -> Reader
-    requires { Within text.now r × Room text.now tape.old }
-    ensures { (row : Row) → PlainRow keeps row
-        → ReadsRow row text.now r tape.old result tape.new }
+// Reads a line of one number, which is kept or not, and which every sheet can say, and tells the number.
+pub fn read_plain(reader: &mut Reader, keeps: bool) -> Result<u32, usize>
+    ensures { (row : Row) → PlainRow keeps row → ReadsRow row reader.old result reader.new }
 {
-    if r.broken != 0 {
-        return r;
+    let Some(number) = read_number(reader.rest, End::LineEnd) else {
+        return Err(reader.next_line());
+    };
+    reader.pass(number.rest);
+    if keeps {
+        reader.keep(number.value);
     }
-    let one = read_number(text, r.at);
-    let behind = one.behind;
-    if let Behind::LineEnd = behind {
-        let count = r.count;
-        put(tape, count, one.value);
-        return r.past(one.end + 1, kept_count(keeps, count, 1));
-    }
-    r.stopped()
+    Ok(number.value)
 }
 
-// Reads n starting values.
-pub fn read_values(text: &[u8], r: Reader, tape: &mut [u32], n: usize) -> Reader
-    requires { Within text.now r × Room text.now tape.old }
-    ensures { Reads (times n (numbers Value ∷ [])) text.now r tape.old
-        result tape.new }
+// Reads a starting value, or a cost.
+pub fn read_value(reader: &mut Reader) -> Result<(), usize>
+    ensures { Reads (numbers Value ∷ []) reader.old result reader.new }
 {
-    let mut current = r;
-    let mut i = 0;
-    while i < n {
-        if current.broken != 0 {
-            return current;
-        }
-        current = read_plain(text, current, tape, true);
-        i += 1;
-    }
-    current
+    read_plain(reader, true)?;
+    Ok(())
 }
 
 // Reads the metric, 0 or 1.
-pub fn read_metric(text: &[u8], r: Reader, tape: &mut [u32]) -> Reader
-    requires { Within text.now r × Room text.now tape.old }
-    ensures { Reads (numbers Metric ∷ []) text.now r tape.old result tape.new }
+pub fn read_metric(reader: &mut Reader) -> Result<(), usize>
+    ensures { Reads (numbers Metric ∷ []) reader.old result reader.new }
 {
-    if r.broken != 0 {
-        return r;
-    }
-    let one = read_number(text, r.at);
-    let behind = one.behind;
-    let Behind::LineEnd = behind else {
-        return r.stopped();
+    let Some(metric) = read_number(reader.rest, End::LineEnd) else {
+        return Err(reader.next_line());
     };
-    if one.value < 2 {
-        let count = r.count;
-        put(tape, count, one.value);
-        return r.past(one.end + 1, count + 1);
+    if 1 < metric.value {
+        return Err(reader.next_line());
     }
-    r.stopped()
+    reader.pass(metric.rest);
+    reader.keep(metric.value);
+    Ok(())
 }
 
 // Reads an axiom layer: only −1 is what a sheet can say.
-pub fn read_layer(text: &[u8], r: Reader) -> Reader
-    requires { Within text.now r }
-    ensures { (tape : List ℕ) → Reads (numbers Layer ∷ []) text.now r tape result tape }
+pub fn read_layer(reader: &mut Reader) -> Result<(), usize>
+    ensures { Reads (numbers Layer ∷ []) reader.old result reader.new }
 {
-    if r.broken != 0 {
-        return r;
-    }
-    let one = read_word(text, r.at);
-    let behind = one.behind;
-    if let Behind::LineEnd = behind {
-        return r.past_barred(one.end + 1, r.count, one.value != ANY);
-    }
-    r.stopped()
+    let Some(layer) = read_word(reader.rest, End::LineEnd) else {
+        return Err(reader.next_line());
+    };
+    reader.pass(layer.rest);
+    reader.note(layer.value != ANY);
+    Ok(())
 }
 
-// Reads how many axioms there are: only 0 is what a sheet can say.
-pub fn read_axiom_count(text: &[u8], r: Reader, tape: &mut [u32]) -> Reader
-    requires { Within text.now r × Room text.now tape.old }
-    ensures { ReadsRow (Count Axioms) text.now r tape.old result tape.new }
+// Reads how many axioms there are, and tells it: only 0 is what a sheet can say.
+pub fn read_axiom_count(reader: &mut Reader) -> Result<u32, usize>
+    ensures { ReadsRow (Count Axioms) reader.old result reader.new }
 {
-    if r.broken != 0 {
-        return r;
-    }
-    let one = read_number(text, r.at);
-    let behind = one.behind;
-    if let Behind::LineEnd = behind {
-        let count = r.count;
-        put(tape, count, one.value);
-        return r.past_barred(one.end + 1, count, 0 < one.value);
-    }
-    r.stopped()
+    let Some(axioms) = read_number(reader.rest, End::LineEnd) else {
+        return Err(reader.next_line());
+    };
+    reader.pass(axioms.rest);
+    reader.note(0 < axioms.value);
+    Ok(axioms.value)
 }

@@ -3,27 +3,27 @@
 use Prim.Native.Nat.{ℕ, suc, ◌+◌, ◌*◌, ◌≤◌, ◌<◌}
 use native.Mathlib.Omega.{arith}
 use mathlib.Core.Path.{◌≡◌, refl, sym, ◌∙◌, ap}
-use mathlib.Core.Bool.{Bool, true, false}
+use mathlib.Core.Bool.{Bool, true, false, true≢false}
+use lib.Dec.{eqb}
 use mathlib.Core.List.{List, [], ◌∷◌, append-nil}
-use lib.ListN.{length, take, drop, get_or, drop_of_length-le}
-use lib.Seq.{drop-cons}
-use borrow.Author.Tests.{lt-ltb, le-ltb}
+use lib.ListN.{length, take}
+use borrow.Author.Tests.{lt-ltb, le-ltb, eqb-true}
+use Rattle.std.specs.Prelude.{Result, Ok, Err}
 use Rattle.ascii.specs.Bytes.{ends_line, split}
 use Rattle.ascii.proofs.SplitLaws.{split_at, split_in}
 use Rattle.fields.specs.Between.Fields.{lines_of}
 use Rattle.form.specs.declared.reader.Reader.{Reader}
 use Rattle.form.specs.Between.Form.{text_lines, stop, walk, whole, nothing_left, walked, unsupported_line, numbers_of, first_barred, kept_of}
-use Rattle.form.specs.Between.Reading.{outcome, barred_at, going_on, Within, Reads}
-use Rattle.text_sections.specs.Between.Outcome.{text_outcome, found_in}
+use Rattle.form.specs.Between.Reading.{outcome, Stand, stand, starting, going_on, found, Reads}
+use Rattle.text_sections.specs.Between.Outcome.{text_outcome, found_in, outcome_of}
+use Rattle.text_sections.specs.declared.text.Numbers.{Numbers}
+use Rattle.std.specs.Result.{IsErrAnd}
+use Rattle.std.proofs.lemmas.Result.{err_from_is_err_and}
 use Rattle.form.specs.Between.Reading.Outcome.{Broken, Whole}
-use Rattle.form.proofs.GoingLaws.{same_either, going_stopped}
+use Rattle.form.proofs.GoingLaws.{same_either}
 use Rattle.form.proofs.StopLaws.{first_or_none}
 
--- a reader at the beginning
-abbrev pub start_reader : Reader
-start_reader = record { at = 0; line = 0; count = 0; barred = 0; broken = 0 }
-
-pub going_start : (text tape : List ℕ) → going_on text_lines text start_reader tape ≡ text_outcome text
+pub going_start : (text tape : List ℕ) → going_on text_lines (starting text tape) ≡ text_outcome text
 unfolding going_on outcome text_outcome walked unsupported_line numbers_of
 going_start text tape = same_either (whole (walked text)) refl refl (omega arith)
 
@@ -42,29 +42,23 @@ left_over b bs = by_case (ends_line b) refl
     by_case true e = rw (split_at ends_line b bs e)
     by_case false e = rw (split_in ends_line b bs e)
 
-module _ (text tape : List ℕ) (r : Reader) (goes_on : r.broken ≡ 0) where
+module _ (s : Stand) where
   -- what is left, where no line is due
-  going_last : (bytes : List ℕ) → drop r.at text ≡ bytes
-      → going_on [] text r tape
-      ≡ outcome r.line (barred_at r.barred) (take r.count tape) (stop (lines_of bytes).others (lines_of bytes).first [])
+  going_last : (bytes : List ℕ) → s.rest ≡ bytes
+      → going_on [] s ≡ outcome s.line s.barred (take s.count s.tape) (stop (lines_of bytes).others (lines_of bytes).first [])
   unfolding going_on
-  going_last bytes e = rw (goes_on, e, walk_over (lines_of bytes).others (lines_of bytes).first)
+  going_last bytes e = rw (e, walk_over (lines_of bytes).others (lines_of bytes).first)
 
   -- a text that goes on is broken there
-  pub going_over : r.at < length text → going_on [] text r tape ≡ Broken (r.line + 1)
+  pub going_over : (b : ℕ) (bytes : List ℕ) → s.rest ≡ b ∷ bytes → going_on [] s ≡ Broken (s.line + 1)
   unfolding outcome whole
-  going_over more =
-      going_last _ (drop-cons text r.at 0 more) ∙ rw (left_over (get_or text r.at 0) (drop (suc r.at) text)) (ap Broken (omega arith))
+  going_over b bytes more = going_last (b ∷ bytes) more ∙ rw (left_over b bytes) (ap Broken (omega arith))
 
   -- a text that ends there is whole
-  pub going_whole : length text ≤ r.at → going_on [] text r tape ≡ Whole (take r.count tape) (barred_at r.barred)
+  pub going_whole : s.rest ≡ [] → going_on [] s ≡ Whole (take s.count s.tape) s.barred
   unfolding outcome whole split nothing_left kept_of first_barred
   going_whole over =
-      going_last [] (drop_of_length-le text over)
-      ∙ rw (append-nil (take r.count tape)) (ap (Whole (take r.count tape)) (sym (first_or_none (barred_at r.barred))))
-
-pub within_start : (text : List ℕ) {r : Reader} → r ≡ start_reader → Within text r
-within_start text e = rw e (record { at = omega arith; line = omega arith; count = omega arith })
+      going_last [] over ∙ rw (append-nil (take s.count s.tape)) (ap (Whole (take s.count s.tape)) (sym (first_or_none s.barred)))
 
 -- a text for whose numbers there is no room
 pub found_long : (room : ℕ) (text : List ℕ) → 2 * room < length text → Broken 0 ≡ found_in room text
@@ -72,19 +66,27 @@ unfolding found_in
 found_long room text long = rw (lt-ltb (2 * room) (length text) long)
 
 -- what a reader that began with the text has found at its end
-module _ (room : ℕ) {text tape tape' : List ℕ} {r s : Reader} (short : length text ≤ 2 * room) (begins : r ≡ start_reader)
-    (read : Reads text_lines text r tape s tape') where
-  found : going_on [] text s tape' ≡ found_in room text
+module _ (room : ℕ) {text tape : List ℕ} {r s : Reader} (short : length text ≤ 2 * room) (begins : stand r ≡ starting text tape) where
+  found_at_end : {result : Result (Unit {0}) ℕ} → Reads text_lines r result s → found result [] (stand s) ≡ found_in room text
   unfolding found_in
-  found =
-      read.same [] ∙ ap (λ ds. going_on ds text r tape) (append-nil text_lines) ∙ ap (λ u. going_on text_lines text u tape) begins
+  found_at_end read =
+      read.same [] ∙ ap (λ ds. going_on ds (stand r)) (append-nil text_lines) ∙ ap (going_on text_lines) begins
       ∙ going_start text tape ∙ rw (le-ltb (2 * room) (length text) short)
 
-  pub found_broken : (s.broken ≡ 0 → ⊥) → Broken s.broken ≡ found_in room text
-  found_broken stops = sym (going_stopped [] text tape' s stops) ∙ found
+  pub found_broken : (result : Result Numbers ℕ) {n : ℕ} → IsErrAnd result (λ m. m ≡ n) → Reads text_lines r (Err n) s → outcome_of result ≡ found_in room text
+  found_broken result is read = let (m, e, f) = err_from_is_err_and result is in rw (e, f) (found_at_end read)
 
-  pub found_over : s.broken ≡ 0 → s.at < length text → Broken (s.line + 1) ≡ found_in room text
-  found_over goes_on more = sym (going_over text tape' s goes_on more) ∙ found
+  module _ (read : Reads text_lines r (Ok tt) s) where
+    pub found_over : eqb (length s.rest.now) 0 ≡ false → {n : ℕ} → n ≡ s.line + 1 → Broken n ≡ found_in room text
+    found_over more told = ap Broken told ∙ by_rest s.rest.now refl more
+      where
+        by_rest : (bytes : List ℕ) → s.rest.now ≡ bytes → eqb (length bytes) 0 ≡ false → Broken (s.line + 1) ≡ found_in room text
+        by_rest [] e h = absurd (true≢false h)
+        by_rest (b ∷ bytes) e h = sym (going_over (stand s) b bytes e) ∙ found_at_end read
 
-  pub found_whole : s.broken ≡ 0 → length text ≤ s.at → Whole (take s.count tape') (barred_at s.barred) ≡ found_in room text
-  found_whole goes_on over = sym (going_whole text tape' s goes_on over) ∙ found
+    pub found_whole : eqb (length s.rest.now) 0 ≡ true → Whole (take s.count s.tape.now) s.barred ≡ found_in room text
+    found_whole over = sym (going_whole (stand s) (by_rest s.rest.now over)) ∙ found_at_end read
+      where
+        by_rest : (bytes : List ℕ) → eqb (length bytes) 0 ≡ true → bytes ≡ []
+        by_rest [] e = refl
+        by_rest (b ∷ bytes) e = absurd (let none : suc (length bytes) ≡ 0 = eqb-true (suc (length bytes)) 0 e in omega arith)

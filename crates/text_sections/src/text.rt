@@ -1,49 +1,50 @@
 // The reading of a whole text.
 ghost use Rattle.std.specs.Prelude.{◌≡◌, length};
 ghost use Rattle.form.specs.Between.Form.{text_lines};
-ghost use Rattle.form.specs.Between.Reading.{Within, Room, Reads};
+ghost use Rattle.form.specs.Between.Reading.{Reads};
 ghost use Rattle.text_sections.specs.Between.Outcome.{outcome_of, found_in};
 
 use crate::sections::{read_front, read_rest};
-use access::word;
 use form::reader::Reader;
 use number_rows::numbers::read_plain;
 
-// What reading a text finds: the first line that is not what it must be, or that it is too long, as line 0; or how many
-// numbers, and the first line that no sheet can say, or 0.
+// The numbers of a text, and the first line that no sheet can say.
 #[derive(Clone, Copy)]
-pub enum Form {
-    Broken(usize),
-    Whole { count: usize, barred: usize },
+pub struct Numbers<'a> {
+    pub kept: &'a [u32],
+    pub barred: Option<usize>,
 }
 
 // Reads all lines that a text must have.
-fn read_all(text: &[u8], r: Reader, tape: &mut [u32]) -> Reader
-    requires { Within text.now r × Room text.now tape.old }
-    ensures { Reads text_lines text.now r tape.old result tape.new }
+fn read_all(reader: &mut Reader) -> Result<(), usize>
+    ensures { Reads text_lines reader.old result reader.new }
 {
-    let front = read_front(text, r, tape);
-    let counted = read_plain(text, front, tape, true);
-    read_rest(text, counted, tape, word(tape, front.count) as usize)
+    read_front(reader)?;
+    let n = read_plain(reader, true)?;
+    read_rest(reader, n as usize)
 }
 
-// Reads a text, and puts its numbers to the front of the tape. A text of more than two bytes for each number that the
-// tape has room for is too long.
-pub fn read_text(text: &[u8], tape: &mut [u32]) -> Form
-    ensures { outcome_of result tape.new ≡ found_in (length tape.old) text.now }
+// Reads a text, and puts its numbers to the front of the tape. Or tells the first line that is not what it must be; as
+// line 0, that the text has more than two bytes for each number that the tape has room for.
+pub fn read_text<'a>(text: &'a [u8], tape: &'a mut [u32]) -> Result<Numbers<'a>, usize>
+    ensures { outcome_of result ≡ found_in (length tape.old) text.now }
 {
     if 2 * tape.len() < text.len() {
-        return Form::Broken(0);
+        return Err(0);
     }
-    let read = read_all(text, Reader::start(), tape);
-    if read.broken != 0 {
-        return Form::Broken(read.broken);
+    let mut reader = Reader::start(text, tape);
+    read_all(&mut reader)?;
+    if !reader.rest.is_empty() {
+        return Err(reader.next_line());
     }
-    if read.at < text.len() {
-        return Form::Broken(read.line + 1);
-    }
-    Form::Whole {
-        count: read.count,
-        barred: read.barred,
-    }
+    let Reader {
+        tape,
+        count,
+        barred,
+        ..
+    } = reader;
+    Ok(Numbers {
+        kept: &tape[..count],
+        barred,
+    })
 }

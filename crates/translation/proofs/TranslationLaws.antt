@@ -9,7 +9,7 @@ use mathlib.Core.List.{List, []}
 use lib.ListN.{length, take, drop}
 use lib.Seq.{sets, sets-eq, drop_at}
 use lib.Dec.{ltb}
-use borrow.Author.Tests.{lt-ltb, le-ltb, eq-eqb, ne_eqb}
+use borrow.Author.Tests.{lt-ltb, le-ltb}
 use Rattle.refusal.specs.Place.{Place}
 use Rattle.refusal.specs.declared.Refusal.TheVariants as refusal
 use Rattle.refusal.specs.Check.{answer}
@@ -19,7 +19,7 @@ use Rattle.sheet.specs.Layout.{first_edition}
 use Rattle.sheet.specs.Between.Encode.{encode}
 use Rattle.planner.specs.Text.{most_bytes}
 use Rattle.form.specs.Between.Form.{walked, whole, broken_line, unsupported_line, numbers_of}
-use Rattle.form.specs.Between.Reading.{Outcome, barred_at}
+use Rattle.form.specs.Between.Reading.{Outcome}
 use Rattle.form.specs.Between.Reading.Outcome.{Broken, Whole}
 use Rattle.text_sections.specs.Between.Outcome.{text_outcome, found_in}
 use Rattle.task_sheet.specs.declared.build.Built.{Built}
@@ -207,15 +207,15 @@ module _ (room : ℕ) (half : most_bytes ≡ 2 * room) (text before : List ℕ) 
   pub translates_broken : (n : ℕ) → Broken n ≡ found_in room text → AnswersChecks text before (Refused (refusal.Form n)) before
   translates_broken n found = record { answers = told_broken room half text n (length before) found; leaves = refl }
 
-  module _ (xs : List ℕ) (barred : ℕ) (found : Whole xs (barred_at barred) ≡ found_in room text) where
-    pub translates_barred : (barred ≡ 0 → ⊥) → AnswersChecks text before (Refused (refusal.Unsupported barred)) before
-    translates_barred some_line =
-        record { answers = told_unsupported room half text _ _ found barred (length before) (rw (ne_eqb barred 0 some_line)); leaves = refl }
+  module _ (xs : List ℕ) (barred : Place) (found : Whole xs barred ≡ found_in room text) where
+    pub translates_barred : (line : ℕ) → barred ≡ Some line → AnswersChecks text before (Refused (refusal.Unsupported line)) before
+    translates_barred line some_line =
+        record { answers = told_unsupported room half text _ _ found line (length before) some_line; leaves = refl }
 
-    pub translates_task : barred ≡ 0 → (r : Translated) (after : List ℕ) → WritesTask xs before r after → AnswersChecks text before r after
+    pub translates_task : barred ≡ None → (r : Translated) (after : List ℕ) → WritesTask xs before r after → AnswersChecks text before r after
     translates_task no_line r after writes =
         let read : xs ≡ numbers_of text = read_numbers room half text _ _ found in
-        let rest = told_rest room half text _ _ found (length before) (rw (eq-eqb barred 0 no_line)) in
+        let rest = told_rest room half text _ _ found (length before) no_line in
         record {
           answers = writes.answers ∙ ap (λ y. answer (task_checks y (length before))) read ∙ rest;
           leaves = subst (λ y. LeavesTask (meaning y) before r after) read writes.leaves;

@@ -10,7 +10,7 @@ use form::limits::NUMBERS;
 use refusal::Refusal;
 use sheet::limits::Sheet;
 use task_sheet::build::build;
-use text_sections::text::{Form, read_text};
+use text_sections::text::read_text;
 
 // A refusal, or how many words the sheet has.
 #[derive(Clone, Copy)]
@@ -49,14 +49,13 @@ fn run_checks(text: &[u8], out: &mut [u32]) -> Translated
     ensures { AnswersChecks text.now out.old result out.new }
 {
     let mut tape = number_room();
-    let read = read_text(text, &mut tape);
-    match read {
-        Form::Broken(line) => Translated::Refused(Refusal::Form(line)),
-        Form::Whole { count, barred } => {
-            if barred != 0 {
-                return Translated::Refused(Refusal::Unsupported(barred));
+    match read_text(text, &mut tape) {
+        Err(line) => Translated::Refused(Refusal::Form(line)),
+        Ok(numbers) => {
+            if let Some(line) = numbers.barred {
+                return Translated::Refused(Refusal::Unsupported(line));
             }
-            write_task(front(&tape, count), out)
+            write_task(numbers.kept, out)
         }
     }
 }

@@ -1,10 +1,9 @@
 -- What reading a whole text finds. Assumes nothing.
-use Rattle.std.specs.Prelude.{ℕ, ◌+◌, ◌*◌, cond, List, length, take, ltb}
+use Rattle.std.specs.Prelude.{ℕ, ◌+◌, ◌*◌, cond, List, length, ltb, Result, Ok, Err}
 use Rattle.form.specs.Between.Form.{whole, walked, numbers_of, unsupported_line}
-use Rattle.form.specs.Between.Reading.{Outcome, barred_at}
+use Rattle.form.specs.Between.Reading.{Outcome}
 use Rattle.form.specs.Between.Reading.Outcome.{Broken, Whole}
-use Rattle.text_sections.specs.declared.text.Form.{Form}
-use Rattle.text_sections.specs.declared.text.Form.TheVariants as form
+use Rattle.text_sections.specs.declared.text.Numbers.{Numbers}
 
 -- what reading a whole text finds
 unfoldable pub text_outcome : List ℕ → Outcome
@@ -17,7 +16,7 @@ text_outcome text =
 unfoldable pub found_in : ℕ → List ℕ → Outcome
 found_in room text = cond (ltb (2 * room) (length text)) (Broken 0) (text_outcome text)
 
--- what the code answers, where the numbers stand at the front of the tape
-abbrev pub outcome_of : Form → List ℕ → Outcome
-outcome_of (form.Broken n) tape = Broken n
-outcome_of (form.Whole count barred) tape = Whole (take count tape) (barred_at barred)
+-- what the code answers
+abbrev pub outcome_of : Result Numbers ℕ → Outcome
+outcome_of (Ok numbers) = Whole numbers.kept.now numbers.barred
+outcome_of (Err n) = Broken n

@@ -1,13 +1,12 @@
--- `skip_blocks` meets its contract. The loop's invariant: what is left of the line ends where the line ends.
--- The measure is the number of bytes left. Assumes nothing.
-use Prim.Native.Nat.{◌+◌, ◌-◌, ◌≤◌}
+-- `skip_blocks` meets its contract. The loop's invariant: what stands behind the first line stays. The measure is the number of bytes left. Assumes nothing.
+use Prim.Native.Nat.{◌≤◌}
 use mathlib.Core.Path.{◌≡◌}
-use lib.ListN.{length, drop}
-use Rattle.ascii.specs.Bytes.{ends_line, split}
+use lib.ListN.{length}
+use Rattle.fields.specs.Between.Fields.{lines_of}
 use Rattle.fields.proofs.lines.skip_blocks.Given as goal
 
-abbrev pub invariant-loop-i : goal.invariant-loop-i
-invariant-loop-i l = (l.at ≤ l.i) × (l.i + length (split ends_line (drop l.i l.text)).first ≡ l.at + length (split ends_line (drop l.at l.text)).first)
+abbrev pub invariant-loop-block : goal.invariant-loop-block
+invariant-loop-block l = ((lines_of l.rest).others ≡ (lines_of l.bytes).others) × (length l.rest ≤ length l.bytes)
 
-abbrev pub decreases-loop-i : goal.decreases-loop-i
-decreases-loop-i l = length l.text - l.i
+abbrev pub decreases-loop-block : goal.decreases-loop-block
+decreases-loop-block l = length l.rest

@@ -1,23 +1,20 @@
 -- `read_digits` meets its contract. The loop's invariant: the digits left lead to what all lead to. The measure is the number of bytes left. Assumes nothing.
-use mathlib.Core.Path.{sym, ◌∙◌}
-use Rattle.fields.proofs.DigitLaws.{digits_begin, digits_next, digits_over, digits_end}
+use mathlib.Core.Path.{refl, sym}
+use Rattle.fields.proofs.DigitLaws.{digits_begin, digits_next, digits_ended, digits_over}
 use Rattle.fields.proofs.word.read_digits.Goals as goal
+use Rattle.fields.proofs.word.read_digits.Goals.{in-Some+then-not-is_ascii_digit, in_default}
 
-pub loop-i-init : goal.loop-i-init
-loop-i-init c = digits_begin _ _
+pub loop-digit-init : goal.loop-digit-init
+loop-digit-init c = digits_begin _
 
-pub grow-value-requires : goal.grow-value-requires
-grow-value-requires c = (c.loop-i.invariant.small, sym c.is_digit.ensures ∙ c.if-is_digit.true)
-
-pub loop-i-preserved : goal.loop-i-preserved
-loop-i-preserved c =
-    let turn = c in
-    digits_next _ _ _ _ turn.loop-i.invariant turn.loop-i-test.true _ (sym c.is_digit.ensures ∙ c.if-is_digit.true) c.grow-value.ensures.0 c.grow-value.ensures.1
-
-pub returns-else-is_digit : goal.returns-else-is_digit
-returns-else-is_digit c =
-    let turn = c in
-    digits_end _ _ _ _ turn.loop-i.invariant turn.loop-i-test.true _ (sym c.is_digit.ensures ∙ c.if-is_digit.false) c.behind_word.ensures
+pub loop-digit-preserved : goal.loop-digit-preserved
+loop-digit-preserved c =
+    digits_next _ _ _ c.loop-digit.invariant _ _ c.in-Some.ensures.cases.0 (sym c.if-not-is_ascii_digit.ensures.value) _ c.grow-value.ensures
 
 pub returns : goal.returns
-returns c = digits_over _ _ _ _ c.loop-i.invariant c.loop-i-test.false
+returns c =
+    elim c.match-split_first.branch [
+      | in-Some+then-not-is_ascii_digit w ↦
+          digits_ended _ _ _ c.loop-digit.invariant _ _ w.in-Some.ensures.cases.0 (sym w.if-not-is_ascii_digit.ensures.value) refl
+      | in_default w ↦ digits_over _ _ _ c.loop-digit.invariant w.in_default.ensures.cases refl
+    ]

@@ -1,29 +1,42 @@
--- `read_fact` meets its contract: a law for each way to a return, by what stands behind its numbers. Assumes nothing.
+-- `read_fact` meets its contract: a law for each way to a return, by what stands behind its numbers, and whether they are kept. Assumes nothing.
 use native.Mathlib.Omega.{arith}
-use Rattle.form.proofs.ReadsLaws.{reads_as}
-use Rattle.number_rows.proofs.FactRowLaws.{next_ahead, next_inside, fact_ended, fact_on, last_ahead, last_inside, fact_read}
+use mathlib.Core.Path.{◌∙◌, ap}
+use lib.ListN.{length-set}
+use Rattle.form.specs.Between.Reading.{stand, keeping}
+use Rattle.form.proofs.ReadsLaws.{reads_at}
+use Rattle.form.proofs.StopLaws.{stops}
+use Rattle.number_rows.proofs.RowLaws.{number_ahead, room_at}
+use Rattle.number_rows.proofs.FactRowLaws.{fact_ended, fact_on, fact_kept, fact_passed}
 use Rattle.number_rows.proofs.facts.read_fact.Goals as goal
 
 pub returns-in_default : goal.returns-in_default
-returns-in_default c =
-    reads_as c.stopped.ensures (fact_ended c.requires.0 c.requires.2 c.args.keeps _ _ c.read_number-variable.ensures c.in_default.not-Space)
+returns-in_default c = stops c.next_line.ensures (fact_ended (stand c.args.reader.now) _ c.in_default.ensures)
 
-pub overflow_add-variable : goal.overflow_add-variable
-overflow_add-variable c =
-    omega (arith, next_inside c.read_number-variable.ensures c.in-Space.is)
+pub returns-in_default-read_number : goal.returns-in_default-read_number
+returns-in_default-read_number c =
+    stops c.next_line-in_default-read_number.ensures (fact_on (stand c.args.reader.now) _ _ c.in-Some.ensures c.in_default-read_number.ensures)
 
-pub returns-in_default-behind : goal.returns-in_default-behind
-returns-in_default-behind c =
-    reads_as c.stopped-in_default-behind.ensures (fact_on c.requires.0 c.requires.2 c.args.keeps _ _ c.read_number-variable.ensures c.in-Space.is _ c.read_number-value.ensures c.in_default-behind.not-LineEnd)
+pub pass-requires : goal.pass-requires
+pass-requires c = omega (arith, number_ahead c.in-Some.ensures, number_ahead c.in-Some-read_number.ensures)
 
-pub overflow_add-value : goal.overflow_add-value
-overflow_add-value c =
-    omega (arith, last_inside c.requires.0 c.requires.2 c.args.keeps c.args.tape.now _ c.read_number-variable.ensures c.in-Space.is _ c.read_number-value.ensures c.in-LineEnd.is)
+pub keep-requires : goal.keep-requires
+keep-requires c =
+    room_at c.pass.new.self _ c.pass.ensures (omega (arith, number_ahead c.in-Some.ensures, number_ahead c.in-Some-read_number.ensures, c.args.reader.now.room))
 
-pub past-requires : goal.past-requires
-past-requires c =
-    omega (arith, next_ahead c.read_number-variable.ensures c.in-Space.is, last_ahead c.requires.0 c.requires.2 c.args.keeps c.args.tape.now _ c.read_number-variable.ensures c.in-Space.is _ c.read_number-value.ensures c.in-LineEnd.is, c.requires.0.line)
+pub keep-requires-then-keeps : goal.keep-requires-then-keeps
+keep-requires-then-keeps c =
+    room_at c.keep.new.self _ (c.keep.ensures ∙ ap (keeping _) c.pass.ensures)
+    (omega
+    (arith, number_ahead c.in-Some.ensures, number_ahead c.in-Some-read_number.ensures, c.args.reader.now.room, length-set c.args.reader.now.tape.now c.args.reader.now.count c.in-Some.variable.value))
 
-pub returns : goal.returns
-returns c =
-    reads_as c.past.ensures (fact_read c.requires.0 c.requires.2 c.args.keeps _ _ c.read_number-variable.ensures c.in-Space.is _ c.read_number-value.ensures c.in-LineEnd.is c.requires.1 _ _ c.put.ensures c.put-2.ensures _ c.kept_count.ensures)
+pub returns-then-keeps : goal.returns-then-keeps
+returns-then-keeps c =
+    rw c.if-keeps.true (
+    reads_at (c.keep-then-keeps.ensures ∙ ap (keeping _) (c.keep.ensures ∙ ap (keeping _) c.pass.ensures))
+    (fact_kept (stand c.args.reader.now) _ _ c.in-Some.ensures c.in-Some-read_number.ensures
+    (omega (arith, number_ahead c.in-Some.ensures, number_ahead c.in-Some-read_number.ensures, c.args.reader.now.room)))
+    )
+
+pub returns-else-keeps : goal.returns-else-keeps
+returns-else-keeps c =
+    rw c.if-keeps.false (reads_at c.pass.ensures (fact_passed (stand c.args.reader.now) _ _ c.in-Some.ensures c.in-Some-read_number.ensures))

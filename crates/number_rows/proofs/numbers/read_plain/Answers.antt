@@ -1,28 +1,29 @@
--- `read_plain` meets its contract: a law for each way to a return, by whether the line is one number. Assumes nothing.
+-- `read_plain` meets its contract: a law for each way to a return, by whether the line is one number, and whether it is kept. Assumes nothing.
 use native.Mathlib.Omega.{arith}
-use Rattle.fields.specs.Between.Fields.{is_number}
-use Rattle.fields.proofs.NumberLaws.{number_kind, word_ahead, word_inside, line_end_is_there}
-use Rattle.form.proofs.ReadsLaws.{row_as}
-use Rattle.form.proofs.StopLaws.{row_stopped}
-use Rattle.number_rows.proofs.RowLaws.{plain_lacks, plain_read}
+use mathlib.Core.Path.{◌∙◌, ap}
+use Rattle.form.specs.Between.Reading.{stand, keeping}
+use Rattle.form.proofs.ReadsLaws.{row_at}
+use Rattle.form.proofs.StopLaws.{stops_row}
+use Rattle.number_rows.proofs.RowLaws.{number_ahead, room_at, plain_lacks, plain_kept, plain_passed}
 use Rattle.number_rows.proofs.numbers.read_plain.Goals as goal
 
-pub returns-then-r-ne0 : goal.returns-then-r-ne0
-returns-then-r-ne0 c =
-    λ row plain_Row. row_stopped c.requires.0 row _ c.if-r-ne0.true
+pub returns-in_default : goal.returns-in_default
+returns-in_default c = λ row plain_row. stops_row c.next_line.ensures (plain_lacks (stand c.args.reader.now) c.in_default.ensures _ row plain_row)
 
-pub overflow_add-one : goal.overflow_add-one
-overflow_add-one c =
-    omega (arith, word_inside is_number number_kind _ _ _ c.read_number-one.ensures _ c.in-LineEnd.is line_end_is_there)
+pub pass-requires : goal.pass-requires
+pass-requires c = omega (arith, number_ahead c.in-Some.ensures)
 
-pub past-requires : goal.past-requires
-past-requires c =
-    omega (arith, word_ahead is_number number_kind _ _ _ c.read_number-one.ensures _ c.in-LineEnd.is line_end_is_there, c.requires.0.line)
+pub keep-requires : goal.keep-requires
+keep-requires c = room_at c.pass.new.self _ c.pass.ensures (omega (arith, number_ahead c.in-Some.ensures, c.args.reader.now.room))
 
-pub returns-in-LineEnd : goal.returns-in-LineEnd
-returns-in-LineEnd c =
-    λ row plain_Row. row_as c.past.ensures (plain_read c.requires.0 c.if-r-ne0.false _ _ c.read_number-one.ensures _ row plain_Row c.in-LineEnd.is c.requires.1 _ c.put.ensures _ c.kept_count.ensures)
+pub returns-then-keeps : goal.returns-then-keeps
+returns-then-keeps c =
+    rw c.if-keeps.true (
+    λ row plain_row.
+    row_at (c.keep.ensures ∙ ap (keeping _) c.pass.ensures)
+    (plain_kept (stand c.args.reader.now) _ row c.in-Some.ensures plain_row (omega (arith, number_ahead c.in-Some.ensures, c.args.reader.now.room)))
+    )
 
-pub returns : goal.returns
-returns c =
-    λ row plain_Row. row_as c.stopped.ensures (plain_lacks c.requires.0 c.if-r-ne0.false _ _ c.read_number-one.ensures _ row plain_Row c.in_default.not-LineEnd _)
+pub returns-else-keeps : goal.returns-else-keeps
+returns-else-keeps c =
+    rw c.if-keeps.false (λ row plain_row. row_at c.pass.ensures (plain_passed (stand c.args.reader.now) _ row c.in-Some.ensures plain_row))

@@ -1,29 +1,39 @@
--- `read_axiom` meets its contract: its lines are read in turn. Assumes nothing.
-use mathlib.Core.Path.{refl}
-use mathlib.Core.List.{[]}
+-- `read_axiom` meets its contract: its lines are read in turn, and the first that is not what it must be is passed on. Assumes nothing.
+use Rattle.std.proofs.Common.{rules}
+use Rattle.form.proofs.ReadsLaws.{line_stopped, line_then, passed_on}
 use Rattle.text_sections.proofs.CountLaws.{counted_conditions}
-use Rattle.form.proofs.ReadsLaws.{reads_then}
-use native.Mathlib.Omega.{arith}
 use Rattle.text_sections.proofs.sections.read_axiom.Goals as goal
 
-pub keyword-begun-requires : goal.keyword-begun-requires
-keyword-begun-requires c = (c.requires.0, refl)
+pub returns-in_err-keyword : goal.returns-in_err-keyword
+returns-in_err-keyword c =
+    passed_on c.from_residual.ensures.1 (
+    line_stopped c.in_err-keyword.ensures
+    )
 
-pub count_facts-needed-requires : goal.count_facts-needed-requires
-count_facts-needed-requires c =
-    ((c.keyword-begun.ensures []).within, c.requires.1)
+pub returns-in_err-read_counted : goal.returns-in_err-read_counted
+returns-in_err-read_counted c =
+    passed_on c.from_residual-in_err-read_counted.ensures.1 (
+    line_then c.in_ok-keyword.ensures (
+    line_stopped (c.in_err-read_counted.ensures _ _ counted_conditions (record { each = λ r result s met. search rules }))
+    )
+    )
 
-pub read_head-headed-requires : goal.read_head-headed-requires
-read_head-headed-requires c = (
-  (c.count_facts-needed.ensures _ counted_conditions).within,
-  omega (arith, c.requires.1, c.count_facts-needed.auto.tape),
-)
-
-pub keyword-requires : goal.keyword-requires
-keyword-requires c = (c.read_head-headed.ensures.within, refl)
+pub returns-in_err-read_head : goal.returns-in_err-read_head
+returns-in_err-read_head c =
+    passed_on c.from_residual-in_err-read_head.ensures.1 (
+    line_then c.in_ok-keyword.ensures (
+    line_then (c.in_ok-read_counted.ensures _ _ counted_conditions (record { each = λ r result s met. search rules })) (
+    line_stopped c.in_err-read_head.ensures
+    )
+    )
+    )
 
 pub returns : goal.returns
 returns c =
-    reads_then (c.keyword-begun.ensures _)
-    (reads_then (c.count_facts-needed.ensures _ counted_conditions)
-    (reads_then c.read_head-headed.ensures (c.keyword.ensures _)))
+    line_then c.in_ok-keyword.ensures (
+    line_then (c.in_ok-read_counted.ensures _ _ counted_conditions (record { each = λ r result s met. search rules })) (
+    line_then c.in_ok-read_head.ensures (
+    c.keyword-2.ensures
+    )
+    )
+    )

@@ -1,32 +1,67 @@
--- `read_front` meets its contract: its lines are read in turn. Assumes nothing.
-use mathlib.Core.Path.{refl}
-use mathlib.Core.List.{[]}
-use Rattle.form.proofs.ReadsLaws.{reads_then}
+-- `read_front` meets its contract: its lines are read in turn, and the first that is not what it must be is passed on. Assumes nothing.
+use Rattle.form.proofs.ReadsLaws.{line_stopped, line_then, passed_on}
 use Rattle.text_sections.proofs.sections.read_front.Goals as goal
 
-pub keyword-begun-requires : goal.keyword-begun-requires
-keyword-begun-requires c = (c.requires.0, refl)
+pub returns-in_err-keyword : goal.returns-in_err-keyword
+returns-in_err-keyword c =
+    passed_on c.from_residual.ensures.1 (
+    line_stopped c.in_err-keyword.ensures
+    )
 
-pub keyword-third-requires : goal.keyword-third-requires
-keyword-third-requires c = ((c.keyword-begun.ensures []).within, refl)
+pub returns-in_err-keyword-2 : goal.returns-in_err-keyword-2
+returns-in_err-keyword-2 c =
+    passed_on c.from_residual-in_err-keyword-2.ensures.1 (
+    line_then c.in_ok-keyword.ensures (
+    line_stopped c.in_err-keyword-2.ensures
+    )
+    )
 
-pub keyword-ended-requires : goal.keyword-ended-requires
-keyword-ended-requires c = ((c.keyword-third.ensures []).within, refl)
+pub returns-in_err-keyword-3 : goal.returns-in_err-keyword-3
+returns-in_err-keyword-3 c =
+    passed_on c.from_residual-in_err-keyword-3.ensures.1 (
+    line_then c.in_ok-keyword.ensures (
+    line_then c.in_ok-keyword-2.ensures (
+    line_stopped c.in_err-keyword-3.ensures
+    )
+    )
+    )
 
-pub keyword-metric-requires : goal.keyword-metric-requires
-keyword-metric-requires c = ((c.keyword-ended.ensures []).within, refl)
+pub returns-in_err-keyword-4 : goal.returns-in_err-keyword-4
+returns-in_err-keyword-4 c =
+    passed_on c.from_residual-in_err-keyword-4.ensures.1 (
+    line_then c.in_ok-keyword.ensures (
+    line_then c.in_ok-keyword-2.ensures (
+    line_then c.in_ok-keyword-3.ensures (
+    line_stopped c.in_err-keyword-4.ensures
+    )
+    )
+    )
+    )
 
-pub read_metric-told-requires : goal.read_metric-told-requires
-read_metric-told-requires c =
-    ((c.keyword-metric.ensures []).within, c.requires.1)
-
-pub keyword-requires : goal.keyword-requires
-keyword-requires c = (c.read_metric-told.ensures.within, refl)
+pub returns-in_err-read_metric : goal.returns-in_err-read_metric
+returns-in_err-read_metric c =
+    passed_on c.from_residual-in_err-read_metric.ensures.1 (
+    line_then c.in_ok-keyword.ensures (
+    line_then c.in_ok-keyword-2.ensures (
+    line_then c.in_ok-keyword-3.ensures (
+    line_then c.in_ok-keyword-4.ensures (
+    line_stopped c.in_err-read_metric.ensures
+    )
+    )
+    )
+    )
+    )
 
 pub returns : goal.returns
 returns c =
-    reads_then (c.keyword-begun.ensures _)
-    (reads_then (c.keyword-third.ensures _)
-    (reads_then (c.keyword-ended.ensures _)
-    (reads_then (c.keyword-metric.ensures _)
-    (reads_then c.read_metric-told.ensures (c.keyword.ensures _)))))
+    line_then c.in_ok-keyword.ensures (
+    line_then c.in_ok-keyword-2.ensures (
+    line_then c.in_ok-keyword-3.ensures (
+    line_then c.in_ok-keyword-4.ensures (
+    line_then c.in_ok-read_metric.ensures (
+    c.keyword-5.ensures
+    )
+    )
+    )
+    )
+    )

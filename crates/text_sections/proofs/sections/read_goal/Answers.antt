@@ -1,20 +1,27 @@
--- `read_goal` meets its contract: its lines are read in turn. Assumes nothing.
-use mathlib.Core.Path.{refl}
-use mathlib.Core.List.{[]}
+-- `read_goal` meets its contract: its lines are read in turn, and the first that is not what it must be is passed on. Assumes nothing.
+use Rattle.std.proofs.Common.{rules}
+use Rattle.form.proofs.ReadsLaws.{line_stopped, line_then, passed_on}
 use Rattle.text_sections.proofs.CountLaws.{counted_facts}
-use Rattle.form.proofs.ReadsLaws.{reads_then}
 use Rattle.text_sections.proofs.sections.read_goal.Goals as goal
 
-pub keyword-begun-requires : goal.keyword-begun-requires
-keyword-begun-requires c = (c.requires.0, refl)
+pub returns-in_err-keyword : goal.returns-in_err-keyword
+returns-in_err-keyword c =
+    passed_on c.from_residual.ensures.1 (
+    line_stopped c.in_err-keyword.ensures
+    )
 
-pub count_facts-listed-requires : goal.count_facts-listed-requires
-count_facts-listed-requires c =
-    ((c.keyword-begun.ensures []).within, c.requires.1)
-
-pub keyword-requires : goal.keyword-requires
-keyword-requires c = ((c.count_facts-listed.ensures _ counted_facts).within, refl)
+pub returns-in_err-read_counted : goal.returns-in_err-read_counted
+returns-in_err-read_counted c =
+    passed_on c.from_residual-in_err-read_counted.ensures.1 (
+    line_then c.in_ok-keyword.ensures (
+    line_stopped (c.in_err-read_counted.ensures _ _ counted_facts (record { each = λ r result s met. search rules }))
+    )
+    )
 
 pub returns : goal.returns
 returns c =
-    reads_then (c.keyword-begun.ensures _) (reads_then (c.count_facts-listed.ensures _ counted_facts) (c.keyword.ensures _))
+    line_then c.in_ok-keyword.ensures (
+    line_then (c.in_ok-read_counted.ensures _ _ counted_facts (record { each = λ r result s met. search rules })) (
+    c.keyword-2.ensures
+    )
+    )

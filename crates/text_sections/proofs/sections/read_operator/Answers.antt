@@ -1,39 +1,69 @@
--- `read_operator` meets its contract: its lines are read in turn. Assumes nothing.
-use mathlib.Core.Path.{refl}
-use mathlib.Core.List.{[]}
-use Rattle.number_rows.proofs.RowLaws.{plain_value}
-use Rattle.text_sections.proofs.CountLaws.{counted_facts}
-use Rattle.form.proofs.ReadsLaws.{reads_then, row_alone}
-use native.Mathlib.Omega.{arith}
+-- `read_operator` meets its contract: its lines are read in turn, and the first that is not what it must be is passed on. Assumes nothing.
+use Rattle.std.proofs.Common.{rules}
+use Rattle.form.proofs.ReadsLaws.{line_stopped, line_then, passed_on}
+use Rattle.text_sections.proofs.CountLaws.{counted_effects, counted_facts}
 use Rattle.text_sections.proofs.sections.read_operator.Goals as goal
 
-pub keyword-begun-requires : goal.keyword-begun-requires
-keyword-begun-requires c = (c.requires.0, refl)
+pub returns-in_err-keyword : goal.returns-in_err-keyword
+returns-in_err-keyword c =
+    passed_on c.from_residual.ensures.1 (
+    line_stopped c.in_err-keyword.ensures
+    )
 
-pub name-named-requires : goal.name-named-requires
-name-named-requires c = (c.keyword-begun.ensures []).within
+pub returns-in_err-name : goal.returns-in_err-name
+returns-in_err-name c =
+    passed_on c.from_residual-in_err-name.ensures.1 (
+    line_then c.in_ok-keyword.ensures (
+    line_stopped c.in_err-name.ensures
+    )
+    )
 
-pub count_facts-needed-requires : goal.count_facts-needed-requires
-count_facts-needed-requires c =
-    ((c.name-named.ensures []).within, c.requires.1)
+pub returns-in_err-read_counted : goal.returns-in_err-read_counted
+returns-in_err-read_counted c =
+    passed_on c.from_residual-in_err-read_counted.ensures.1 (
+    line_then c.in_ok-keyword.ensures (
+    line_then c.in_ok-name.ensures (
+    line_stopped (c.in_err-read_counted.ensures _ _ counted_facts (record { each = λ r result s met. search rules }))
+    )
+    )
+    )
 
-pub count_effects-done-requires : goal.count_effects-done-requires
-count_effects-done-requires c =
-    ((c.count_facts-needed.ensures _ counted_facts).within, omega (arith, c.requires.1, c.count_facts-needed.auto.tape))
+pub returns-in_err-read_counted-2 : goal.returns-in_err-read_counted-2
+returns-in_err-read_counted-2 c =
+    passed_on c.from_residual-in_err-read_counted-2.ensures.1 (
+    line_then c.in_ok-keyword.ensures (
+    line_then c.in_ok-name.ensures (
+    line_then (c.in_ok-read_counted.ensures _ _ counted_facts (record { each = λ r result s met. search rules })) (
+    line_stopped (c.in_err-read_counted-2.ensures _ _ counted_effects (record { each = λ r result s met. search rules }))
+    )
+    )
+    )
+    )
 
-pub read_plain-priced-requires : goal.read_plain-priced-requires
-read_plain-priced-requires c = (
-  c.count_effects-done.ensures.within,
-  omega (arith, c.requires.1, c.count_facts-needed.auto.tape, c.count_effects-done.auto.tape),
-)
-
-pub keyword-requires : goal.keyword-requires
-keyword-requires c = ((c.read_plain-priced.ensures _ plain_value).within, refl)
+pub returns-in_err-read_value : goal.returns-in_err-read_value
+returns-in_err-read_value c =
+    passed_on c.from_residual-in_err-read_value.ensures.1 (
+    line_then c.in_ok-keyword.ensures (
+    line_then c.in_ok-name.ensures (
+    line_then (c.in_ok-read_counted.ensures _ _ counted_facts (record { each = λ r result s met. search rules })) (
+    line_then (c.in_ok-read_counted-2.ensures _ _ counted_effects (record { each = λ r result s met. search rules })) (
+    line_stopped c.in_err-read_value.ensures
+    )
+    )
+    )
+    )
+    )
 
 pub returns : goal.returns
 returns c =
-    reads_then (c.keyword-begun.ensures _)
-    (reads_then (c.name-named.ensures _)
-    (reads_then (c.count_facts-needed.ensures _ counted_facts)
-    (reads_then c.count_effects-done.ensures
-    (reads_then (row_alone _ (λ x. refl) (c.read_plain-priced.ensures _ plain_value)) (c.keyword.ensures _)))))
+    line_then c.in_ok-keyword.ensures (
+    line_then c.in_ok-name.ensures (
+    line_then (c.in_ok-read_counted.ensures _ _ counted_facts (record { each = λ r result s met. search rules })) (
+    line_then (c.in_ok-read_counted-2.ensures _ _ counted_effects (record { each = λ r result s met. search rules })) (
+    line_then c.in_ok-read_value.ensures (
+    c.keyword-2.ensures
+    )
+    )
+    )
+    )
+    )

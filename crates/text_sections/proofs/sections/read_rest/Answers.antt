@@ -1,55 +1,69 @@
--- `read_rest` meets its contract: the sections are read in turn. Assumes nothing.
-use mathlib.Core.Path.{◌∙◌}
+-- `read_rest` meets its contract: the sections are read in turn, and the first line that is not what it must be is passed on. Assumes nothing.
+use Rattle.std.proofs.Common.{rules}
+use Rattle.form.proofs.ReadsLaws.{line_stopped, line_then, passed_on, reads_stopped, reads_then}
 use Rattle.text_sections.proofs.CountLaws.{counted_groups, counted_operators}
-use Rattle.form.proofs.ReadsLaws.{reads_then}
-use native.Mathlib.Omega.{arith}
 use Rattle.text_sections.proofs.sections.read_rest.Goals as goal
 
-pub read_blocks-variables-requires : goal.read_blocks-variables-requires
-read_blocks-variables-requires c =
-    (c.requires.0, c.requires.1)
+pub returns-in_err-repeat : goal.returns-in_err-repeat
+returns-in_err-repeat c =
+    passed_on c.from_residual.ensures.1 (
+    reads_stopped _ (c.in_err-repeat.ensures _ (record { each = λ r result s met. search rules }))
+    )
 
-pub count_blocks-groups-requires : goal.count_blocks-groups-requires
-count_blocks-groups-requires c =
-    (c.read_blocks-variables.ensures.within, omega (arith, c.requires.1, c.read_blocks-variables.auto.tape))
+pub returns-in_err-read_counted : goal.returns-in_err-read_counted
+returns-in_err-read_counted c =
+    passed_on c.from_residual-in_err-read_counted.ensures.1 (
+    reads_then (c.in_ok-repeat.ensures _ (record { each = λ r result s met. search rules })) (
+    line_stopped (c.in_err-read_counted.ensures _ _ counted_groups (record { each = λ r result s met. search rules }))
+    )
+    )
 
-pub read_state-state-requires : goal.read_state-state-requires
-read_state-state-requires c = (
-  (c.count_blocks-groups.ensures _ counted_groups).within,
-  omega (arith, c.requires.1, c.read_blocks-variables.auto.tape, c.count_blocks-groups.auto.tape),
-)
+pub returns-in_err-read_state : goal.returns-in_err-read_state
+returns-in_err-read_state c =
+    passed_on c.from_residual-in_err-read_state.ensures.1 (
+    reads_then (c.in_ok-repeat.ensures _ (record { each = λ r result s met. search rules })) (
+    line_then (c.in_ok-read_counted.ensures _ _ counted_groups (record { each = λ r result s met. search rules })) (
+    reads_stopped _ c.in_err-read_state.ensures
+    )
+    )
+    )
 
-pub read_goal-goal-requires : goal.read_goal-goal-requires
-read_goal-goal-requires c = (
-  c.read_state-state.ensures.within,
-  omega (arith, c.requires.1, c.read_blocks-variables.auto.tape, c.count_blocks-groups.auto.tape, c.read_state-state.auto.tape),
-)
+pub returns-in_err-read_goal : goal.returns-in_err-read_goal
+returns-in_err-read_goal c =
+    passed_on c.from_residual-in_err-read_goal.ensures.1 (
+    reads_then (c.in_ok-repeat.ensures _ (record { each = λ r result s met. search rules })) (
+    line_then (c.in_ok-read_counted.ensures _ _ counted_groups (record { each = λ r result s met. search rules })) (
+    reads_then c.in_ok-read_state.ensures (
+    reads_stopped _ c.in_err-read_goal.ensures
+    )
+    )
+    )
+    )
 
-pub count_blocks-operators-requires : goal.count_blocks-operators-requires
-count_blocks-operators-requires c = (
-  c.read_goal-goal.ensures.within,
-  omega (arith, c.requires.1, c.read_blocks-variables.auto.tape, c.count_blocks-groups.auto.tape, c.read_state-state.auto.tape, c.read_goal-goal.auto.tape),
-)
-
-pub count_axioms-requires : goal.count_axioms-requires
-count_axioms-requires c = (
-  (c.count_blocks-operators.ensures _ counted_operators).within,
-  omega (arith, c.requires.1, c.read_blocks-variables.auto.tape, c.count_blocks-groups.auto.tape, c.read_state-state.auto.tape, c.read_goal-goal.auto.tape, c.count_blocks-operators.auto.tape),
-)
-
-pub shape_of-tape : goal.shape_of-tape
-shape_of-tape c =
-    c.count_axioms.auto.tape
-    ∙ c.count_blocks-operators.auto.tape
-    ∙ c.read_goal-goal.auto.tape
-    ∙ c.read_state-state.auto.tape
-    ∙ c.count_blocks-groups.auto.tape
-    ∙ c.read_blocks-variables.auto.tape
+pub returns-in_err-read_counted-2 : goal.returns-in_err-read_counted-2
+returns-in_err-read_counted-2 c =
+    passed_on c.from_residual-in_err-read_counted-2.ensures.1 (
+    reads_then (c.in_ok-repeat.ensures _ (record { each = λ r result s met. search rules })) (
+    line_then (c.in_ok-read_counted.ensures _ _ counted_groups (record { each = λ r result s met. search rules })) (
+    reads_then c.in_ok-read_state.ensures (
+    reads_then c.in_ok-read_goal.ensures (
+    line_stopped (c.in_err-read_counted-2.ensures _ _ counted_operators (record { each = λ r result s met. search rules }))
+    )
+    )
+    )
+    )
+    )
 
 pub returns : goal.returns
 returns c =
-    reads_then c.read_blocks-variables.ensures
-    (reads_then (c.count_blocks-groups.ensures _ counted_groups)
-    (reads_then c.read_state-state.ensures
-    (reads_then c.read_goal-goal.ensures
-    (reads_then (c.count_blocks-operators.ensures _ counted_operators) c.count_axioms.ensures))))
+    reads_then (c.in_ok-repeat.ensures _ (record { each = λ r result s met. search rules })) (
+    line_then (c.in_ok-read_counted.ensures _ _ counted_groups (record { each = λ r result s met. search rules })) (
+    reads_then c.in_ok-read_state.ensures (
+    reads_then c.in_ok-read_goal.ensures (
+    line_then (c.in_ok-read_counted-2.ensures _ _ counted_operators (record { each = λ r result s met. search rules })) (
+    c.read_axioms.ensures
+    )
+    )
+    )
+    )
+    )

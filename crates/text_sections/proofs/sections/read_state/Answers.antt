@@ -1,19 +1,26 @@
--- `read_state` meets its contract: its lines are read in turn. Assumes nothing.
-use mathlib.Core.Path.{refl}
-use mathlib.Core.List.{[]}
-use Rattle.form.proofs.ReadsLaws.{reads_then}
+-- `read_state` meets its contract: its lines are read in turn, and the first that is not what it must be is passed on. Assumes nothing.
+use Rattle.std.proofs.Common.{rules}
+use Rattle.form.proofs.ReadsLaws.{line_stopped, line_then, passed_on, reads_stopped, reads_then}
 use Rattle.text_sections.proofs.sections.read_state.Goals as goal
 
-pub keyword-begun-requires : goal.keyword-begun-requires
-keyword-begun-requires c = (c.requires.0, refl)
+pub returns-in_err-keyword : goal.returns-in_err-keyword
+returns-in_err-keyword c =
+    passed_on c.from_residual.ensures.1 (
+    line_stopped c.in_err-keyword.ensures
+    )
 
-pub read_values-valued-requires : goal.read_values-valued-requires
-read_values-valued-requires c =
-    ((c.keyword-begun.ensures []).within, c.requires.1)
-
-pub keyword-requires : goal.keyword-requires
-keyword-requires c = (c.read_values-valued.ensures.within, refl)
+pub returns-in_err-repeat : goal.returns-in_err-repeat
+returns-in_err-repeat c =
+    passed_on c.from_residual-in_err-repeat.ensures.1 (
+    line_then c.in_ok-keyword.ensures (
+    reads_stopped _ (c.in_err-repeat.ensures _ (record { each = λ r result s met. search rules }))
+    )
+    )
 
 pub returns : goal.returns
 returns c =
-    reads_then (c.keyword-begun.ensures _) (reads_then c.read_values-valued.ensures (c.keyword.ensures _))
+    line_then c.in_ok-keyword.ensures (
+    reads_then (c.in_ok-repeat.ensures _ (record { each = λ r result s met. search rules })) (
+    c.keyword-2.ensures
+    )
+    )

@@ -1,28 +1,53 @@
--- `read_variable` meets its contract: its lines are read in turn. Assumes nothing.
-use mathlib.Core.Path.{refl}
-use mathlib.Core.List.{[]}
-use Rattle.form.proofs.ReadsLaws.{reads_then}
+-- `read_variable` meets its contract: its lines are read in turn, and the first that is not what it must be is passed on. Assumes nothing.
+use Rattle.std.proofs.Common.{rules}
+use Rattle.form.proofs.ReadsLaws.{line_stopped, line_then, passed_on}
+use Rattle.text_sections.proofs.CountLaws.{counted_values}
 use Rattle.text_sections.proofs.sections.read_variable.Goals as goal
 
-pub keyword-begun-requires : goal.keyword-begun-requires
-keyword-begun-requires c = (c.requires.0, refl)
+pub returns-in_err-keyword : goal.returns-in_err-keyword
+returns-in_err-keyword c =
+    passed_on c.from_residual.ensures.1 (
+    line_stopped c.in_err-keyword.ensures
+    )
 
-pub name-named-requires : goal.name-named-requires
-name-named-requires c = (c.keyword-begun.ensures []).within
+pub returns-in_err-name : goal.returns-in_err-name
+returns-in_err-name c =
+    passed_on c.from_residual-in_err-name.ensures.1 (
+    line_then c.in_ok-keyword.ensures (
+    line_stopped c.in_err-name.ensures
+    )
+    )
 
-pub read_layer-layered-requires : goal.read_layer-layered-requires
-read_layer-layered-requires c = (c.name-named.ensures []).within
+pub returns-in_err-read_layer : goal.returns-in_err-read_layer
+returns-in_err-read_layer c =
+    passed_on c.from_residual-in_err-read_layer.ensures.1 (
+    line_then c.in_ok-keyword.ensures (
+    line_then c.in_ok-name.ensures (
+    line_stopped c.in_err-read_layer.ensures
+    )
+    )
+    )
 
-pub count_names-valued-requires : goal.count_names-valued-requires
-count_names-valued-requires c =
-    ((c.read_layer-layered.ensures []).within, c.requires.1)
-
-pub keyword-requires : goal.keyword-requires
-keyword-requires c = (c.count_names-valued.ensures.within, refl)
+pub returns-in_err-read_counted : goal.returns-in_err-read_counted
+returns-in_err-read_counted c =
+    passed_on c.from_residual-in_err-read_counted.ensures.1 (
+    line_then c.in_ok-keyword.ensures (
+    line_then c.in_ok-name.ensures (
+    line_then c.in_ok-read_layer.ensures (
+    line_stopped (c.in_err-read_counted.ensures _ _ counted_values (record { each = λ r result s met. search rules }))
+    )
+    )
+    )
+    )
 
 pub returns : goal.returns
 returns c =
-    reads_then (c.keyword-begun.ensures _)
-    (reads_then (c.name-named.ensures _)
-    (reads_then (c.read_layer-layered.ensures _)
-    (reads_then c.count_names-valued.ensures (c.keyword.ensures _))))
+    line_then c.in_ok-keyword.ensures (
+    line_then c.in_ok-name.ensures (
+    line_then c.in_ok-read_layer.ensures (
+    line_then (c.in_ok-read_counted.ensures _ _ counted_values (record { each = λ r result s met. search rules })) (
+    c.keyword-2.ensures
+    )
+    )
+    )
+    )
