@@ -39,7 +39,7 @@ use sheet_check::check::check_sheet;
 use step::one::step;
 use striking::{eliminate, eliminate_both, eliminate_cheaper, license_plan, minimise};
 use tally::{Order, Tally};
-use translation::translate::{Translated, translate};
+use translation::translate::translate;
 
 // Checks a task: the number and the place of its refusal go to `out`, or 0 and 0.
 #[unsafe(no_mangle)]
@@ -308,9 +308,8 @@ pub extern "C" fn hollchiku_translate(text: &[u8], output: &mut [u32], out: &mut
     ensures { TranslatesLent text.now output.old output.new
         out.old out.new }
 {
-    let given = translate(text, output);
-    match given {
-        Translated::Refused(refusal) => write_counted(out, Verdict::Refused(refusal), 0),
-        Translated::Written(words) => write_counted(out, Verdict::Passed, words),
+    match translate(text, output) {
+        Ok(words) => write_counted(out, Verdict::Passed, words),
+        Err(refusal) => write_counted(out, Verdict::Refused(refusal), 0),
     }
 }

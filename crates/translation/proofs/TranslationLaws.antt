@@ -9,6 +9,7 @@ use lib.ListN.{length, take, drop}
 use lib.Seq.{sets, sets-eq, drop_at}
 use lib.Dec.{ltb}
 use borrow.Author.Tests.{lt-ltb, le-ltb, eq-eqb, ne_eqb}
+use Rattle.std.specs.Prelude.{Result, Some, None, Ok, Err}
 use Rattle.refusal.specs.declared.place.Place.{Place}
 use Rattle.refusal.specs.declared.place.Place.TheVariants.{Nowhere, At}
 use Rattle.refusal.specs.declared.Refusal.TheVariants as refusal
@@ -22,15 +23,14 @@ use Rattle.form.specs.Between.Form.{walked, whole, broken_line, unsupported_line
 use Rattle.form.specs.Between.Reading.{Outcome, barred_at}
 use Rattle.form.specs.Between.Reading.Outcome.{Broken, Whole}
 use Rattle.text_sections.specs.Between.Outcome.{text_outcome, found_in}
-use Rattle.task_sheet.specs.declared.build.Built.{Built}
 use Rattle.meaning.specs.Between.Sections.{meaning}
 use Rattle.meaning.specs.Between.Order.{ordered}
 use Rattle.meaning.specs.Between.Writable.{writable}
 use Rattle.task_sheet.specs.Between.Built.{Builds}
+use Rattle.task_sheet.proofs.PartLaws.{ends_some, ends_none}
 use Rattle.sheet_writer.proofs.SheetLaws.{front_stored}
 use Rattle.meaning.proofs.OrderTheorem.{writable_fits}
-use Rattle.translation.specs.declared.translate.Translated.{Translated}
-use Rattle.translation.specs.declared.translate.Translated.TheVariants.{Refused, Written}
+use Rattle.refusal.specs.declared.Refusal.{Refusal}
 use Rattle.translation.specs.Between.Checks.{task_checks, translation_checks, WritesSheet, LeavesTask, AnswersChecks}
 use Rattle.translation.specs.Between.Written.{WritesTask}
 
@@ -178,41 +178,44 @@ module _ (room : ℕ) (half : most_bytes ≡ 2 * room) (text : List ℕ) where
     told_rest k e = told_passed text k not_long has_form (sym read_barred ∙ e)
 
 -- the ways to a return of the function that writes the sheet
-module _ {x sheet sheet' : List ℕ} {b : Built} (builds : Builds x sheet sheet' b) (before : List ℕ) where
-  pub writes_unfit : b.fits ≡ false → WritesTask x before (Refused refusal.Unwritable) before
-  writes_unfit unfit = record { answers = told_unwritable x (length before) (sym builds.fits ∙ unfit); leaves = refl }
+module _ {x sheet sheet' : List ℕ} (before : List ℕ) where
+  pub writes_unfit : Builds x sheet sheet' None → WritesTask x before (Err refusal.Unwritable) before
+  writes_unfit builds = record { answers = told_unwritable x (length before) (ends_none _ _ builds.words); leaves = refl }
 
-  module _ (fits : b.fits ≡ true) where
+  module _ {n : ℕ} (builds : Builds x sheet sheet' (Some n)) where
     can : writable (meaning x) ≡ true
-    can = sym builds.fits ∙ fits
+    can = (ends_some builds.words).0
 
-    pub writes_short : length before < b.words → WritesTask x before (Refused (refusal.ShortOutput b.words)) before
-    writes_short short =
-        let needed : b.words ≡ words_needed x (length before) = builds.words fits in
-        record { answers = rw needed (told_short x (length before) can (rw needed at short)); leaves = refl }
+    needed : n ≡ words_needed x (length before)
+    needed = (ends_some builds.words).1
 
-    pub writes_sheet : limits.words ≤ length sheet → b.words ≤ length before → (after : List ℕ) → after ≡ sets before 0 (take b.words sheet')
-        → WritesTask x before (Written b.words) after
+    pub writes_short : length before < n → WritesTask x before (Err (refusal.ShortOutput n)) before
+    writes_short short = record { answers = rw needed (told_short x (length before) can (rw needed at short)); leaves = refl }
+
+    pub words_few : n ≤ limits.words
+    words_few = rw needed (writable_fits (meaning x) can).words
+
+    pub writes_sheet : limits.words ≤ length sheet → n ≤ length before → (after : List ℕ) → after ≡ sets before 0 (take n sheet')
+        → WritesTask x before (Ok n) after
     writes_sheet room fit after stored =
-        let needed : b.words ≡ words_needed x (length before) = builds.words fits in
-        let small : b.words ≤ length sheet = omega (arith, (writable_fits (meaning x) can).words) in
-        let words : take b.words sheet' ≡ encode first_edition (ordered (meaning x)) = builds.written fits small in
+        let small : n ≤ length sheet = omega (arith, words_few) in
+        let words : take n sheet' ≡ encode first_edition (ordered (meaning x)) = rw needed (builds.written can (rw needed at small)) in
         record {
           answers = told_none x (length before) can (rw needed at fit);
-          leaves = sheet_written (meaning x) before after b.words needed fit (stored ∙ ap (sets before 0) words);
+          leaves = sheet_written (meaning x) before after n needed fit (stored ∙ ap (sets before 0) words);
         }
 
 -- the ways to a return of the service
 module _ (room : ℕ) (half : most_bytes ≡ 2 * room) (text before : List ℕ) where
-  pub translates_broken : (n : ℕ) → Broken n ≡ found_in room text → AnswersChecks text before (Refused (refusal.Form n)) before
+  pub translates_broken : (n : ℕ) → Broken n ≡ found_in room text → AnswersChecks text before (Err (refusal.Form n)) before
   translates_broken n found = record { answers = told_broken room half text n (length before) found; leaves = refl }
 
   module _ (xs : List ℕ) (barred : ℕ) (found : Whole xs (barred_at barred) ≡ found_in room text) where
-    pub translates_barred : (barred ≡ 0 → ⊥) → AnswersChecks text before (Refused (refusal.Unsupported barred)) before
+    pub translates_barred : (barred ≡ 0 → ⊥) → AnswersChecks text before (Err (refusal.Unsupported barred)) before
     translates_barred some_line =
         record { answers = told_unsupported room half text _ _ found barred (length before) (rw (ne_eqb barred 0 some_line)); leaves = refl }
 
-    pub translates_task : barred ≡ 0 → (r : Translated) (after : List ℕ) → WritesTask xs before r after → AnswersChecks text before r after
+    pub translates_task : barred ≡ 0 → (r : Result ℕ Refusal) (after : List ℕ) → WritesTask xs before r after → AnswersChecks text before r after
     translates_task no_line r after writes =
         let read : xs ≡ numbers_of text = read_numbers room half text _ _ found in
         let rest = told_rest room half text _ _ found (length before) (rw (eq-eqb barred 0 no_line)) in
