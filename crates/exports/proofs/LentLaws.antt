@@ -1,4 +1,5 @@
 -- What a service that strikes nothing has stored into lent words. Assumes nothing.
+use Rattle.std.specs.Prelude.{Result, Err, Ok}
 use Prim.Native.Nat.{ℕ, ◌≤◌}
 use native.Mathlib.Nat.{zero-add}
 use native.Mathlib.Omega.{arith}
@@ -8,10 +9,9 @@ use mathlib.Core.List.{List, [], ◌∷◌, ◌++◌}
 use lib.ListN.{length, take, drop, take-append-drop}
 use lib.Seq.{sets, sets-eq}
 use Rattle.refusal.specs.declared.Refusal.{Refusal}
-use Rattle.refusal.specs.declared.Verdict.{Verdict}
-use Rattle.refusal.specs.declared.Verdict.TheVariants.{Passed, Refused as RefusedVerdict}
+use Rattle.refusal.specs.Refusal.{Verdict}
 use Rattle.refusal.specs.Refusal.{told}
-use Rattle.plan.specs.declared.check.Answer.{Answer}
+use Rattle.plan.specs.Checked.{Answer}
 use Rattle.plan.specs.Checked.{plan_checks, told_answer, told_tally, Checks}
 use Rattle.sheet.specs.Limits.{limits}
 use Rattle.step.specs.Step.{Steps}
@@ -19,7 +19,6 @@ use Rattle.step.proofs.StepTheorem.{step_theorem}
 use Rattle.course.specs.Course.{Courses}
 use Rattle.moves.specs.Moves.{Moves}
 use Rattle.landmark.specs.Marks.{Masks}
-use Rattle.std.specs.Prelude.{Result, Ok, Err}
 use Rattle.translation.specs.Translation.{told_translated, ToldOfBytes}
 use Rattle.translation.specs.Between.Checks.{text_sheet, AnswersChecks}
 use Rattle.translation.proofs.TranslationTheorem.{told_of_bytes}
@@ -79,8 +78,8 @@ told_as : {text output output' : List ℕ} {given : Result ℕ Refusal} → Answ
 told_as {text} {output} checks = subst (λ t. ToldOfBytes text (length output) t (text_sheet text)) (sym checks.answers) (told_of_bytes text (length output))
 
 module _ {text output output' out out' : List ℕ} where
-  pub text_refused : {x : Refusal} → AnswersChecks text output (Err x) output'
-      → out' ≡ sets out 0 (answer_words (told (RefusedVerdict x)) ++ (0 ∷ [])) → TranslatesLent text output output' out out'
+  pub text_refused : {x : Refusal} → AnswersChecks text output (Err x) output' → out' ≡ sets out 0 (answer_words (told (Err x)) ++ (0 ∷ []))
+      → TranslatesLent text output output' out out'
   text_refused {x} refuses written =
       record {
         refusal = told_translated (Err x);
@@ -90,7 +89,7 @@ module _ {text output output' out out' : List ℕ} where
         answered = written;
       }
 
-  pub text_written : {n : ℕ} → AnswersChecks text output (Ok n) output' → out' ≡ sets out 0 (answer_words (told Passed) ++ (n ∷ []))
+  pub text_written : {n : ℕ} → AnswersChecks text output (Ok n) output' → out' ≡ sets out 0 (answer_words (told (Ok tt)) ++ (n ∷ []))
       → TranslatesLent text output output' out out'
   text_written {n} writes written =
       let counted : n ≡ length (text_sheet text) = writes.leaves.counted in

@@ -8,7 +8,7 @@ ghost use Rattle.meaning.specs.Between.Small.{says_variables};
 ghost use Rattle.meaning.specs.Between.Gathered.{far, line_facts};
 
 use crate::lines::{FACT, Lines};
-use access::word;
+use access::get_or;
 use sheet::limits::Sheet;
 use std::marker::Model;
 
@@ -45,7 +45,7 @@ impl<'a> Model for Numbers<'a> {
 fn number(all: &[u32], i: usize) -> usize
     ensures { (result ≡ number_at all.now i) × (result < 2 ^ 32) }
 {
-    word(all, i) as usize
+    get_or(all, i, 0) as usize
 }
 
 // Whether a sheet can say each range and starting value.
@@ -83,7 +83,7 @@ impl<'a> Numbers<'a> {
     pub fn word(&self, i: usize) -> u32
         ensures { result ≡ number_at self.now i }
     {
-        word(self.all, i)
+        get_or(self.all, i, 0)
     }
 
     pub fn number(&self, i: usize) -> usize

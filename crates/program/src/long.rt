@@ -4,7 +4,7 @@ ghost use Rattle.refusal.specs.Refusal.{told_refusal};
 ghost use Rattle.program.specs.Long.{long_refusal};
 
 use plan::limits::Plan;
-use refusal::{Refusal, Verdict};
+use refusal::Refusal;
 use sheet_check::check::check_sheet;
 
 // The task's own checks go first, so that a faulty task is refused as in any other service.
@@ -12,7 +12,7 @@ pub(crate) fn refuse_long(words: &[u32]) -> Refusal
     ensures { told_refusal result ≡ long_refusal words.now }
 {
     let sheet = check_sheet(words);
-    if let Verdict::Refused(refusal) = sheet {
+    if let Err(refusal) = sheet {
         return refusal;
     }
     Refusal::PlanLength(Plan::STEPS)
