@@ -51,10 +51,9 @@ gives_refusal {text} {r = r} out room translates prints short =
     line_as (translated_refusal text r (sym (told_in_room room translates)))
     (record { writing = prints_nothing 0 out 0 (omega arith); saying = prints }, short)
 
-pub gives_sheet : {text before after out out' part : List ℕ} {n end : ℕ} (errors : List ℕ) → length before ≡ limits.words
-    → AnswersChecks text before (Ok n) after → part ≡ take n after → Prints (all_bytes part) 0 out out' end
+pub gives_sheet : {text before after out out' : List ℕ} {n end : ℕ} (errors : List ℕ) → length before ≡ limits.words
+    → AnswersChecks text before (Ok n) after → Prints (all_bytes (take n after)) 0 out out' end
     → GivesLine (translated text) out out' errors errors (record { written = end; said = 0 })
-gives_sheet {text} {out = out} {out' = out'} {part = part} {end = end} errors room translates front prints =
-    let all : part ≡ text_sheet text = front ∙ translates.leaves.sheet in
+gives_sheet {text} {out = out} {out' = out'} {end = end} errors room translates prints =
     line_as (translated_sheet text (sym (told_in_room room translates)))
-    (answers_writing errors (subst (λ l. Prints (all_bytes l) 0 out out' end) all prints), omega arith)
+    (answers_writing errors (subst (λ l. Prints (all_bytes l) 0 out out' end) translates.leaves.sheet prints), omega arith)

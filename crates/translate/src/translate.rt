@@ -8,7 +8,6 @@ ghost use Rattle.translate.specs.Translate.{translated, translated_input, HasTra
 
 use crate::answer::{Answered, refuse};
 use crate::input::{Input, read_input};
-use access::front;
 use program::output::put_refusal;
 use program::pack::pack;
 use sheet::limits::Sheet;
@@ -24,7 +23,7 @@ fn translate_text(text: &[u8], out: &mut [u8], errors: &mut [u8]) -> Answered
     let mut words = [0u32; Sheet::WORDS];
     match translate(text, &mut words) {
         Ok(n) => {
-            let written = pack(front(&words, n), out);
+            let written = pack(&words[..n], out);
             Answered { written, said: 0 }
         }
         Err(refusal) => {

@@ -5,9 +5,9 @@ use native.Mathlib.Omega.{arith}
 use mathlib.Core.Path.{◌≡◌, refl, sym, ◌∙◌, ap, subst}
 use mathlib.Core.Bool.{Bool, true, false}
 use mathlib.Core.Option.{none, some}
-use mathlib.Core.List.{List, []}
+use mathlib.Core.List.{List, [], ◌++◌}
 use lib.ListN.{length, take, drop}
-use lib.Seq.{sets, sets-eq, drop_at}
+use lib.Seq.{take-append_seam, drop_at}
 use lib.Dec.{ltb}
 use borrow.Author.Tests.{lt-ltb, le-ltb, eq-eqb, ne_eqb}
 use Rattle.refusal.specs.Place.{Place}
@@ -27,7 +27,6 @@ use Rattle.meaning.specs.Between.Order.{ordered}
 use Rattle.meaning.specs.Between.Writable.{writable}
 use Rattle.task_sheet.specs.Between.Built.{Builds}
 use Rattle.task_sheet.proofs.PartLaws.{ends_some, ends_none}
-use Rattle.sheet_writer.proofs.SheetLaws.{front_stored}
 use Rattle.meaning.proofs.OrderTheorem.{writable_fits}
 use Rattle.refusal.specs.declared.Refusal.{Refusal}
 use Rattle.translation.specs.Between.Checks.{task_checks, translation_checks, WritesSheet, LeavesTask, AnswersChecks}
@@ -51,22 +50,15 @@ module _ (x : List ℕ) (room : ℕ) where
   told_none fits long = rw (fits, le-ltb room words_needed long)
 
 -- the sheet of a task that can be written, at the front of lent words
-module _ (T : Task) where
-  sheet_written : (before after : List ℕ) (n : ℕ) → n ≡ length (encode first_edition (ordered T)) → n ≤ length before
-      → after ≡ sets before 0 (encode first_edition (ordered T)) → WritesSheet T before n after
-  sheet_written before after n counted room stored =
-      let s : List ℕ = encode first_edition (ordered T) in
-      let long : length s ≤ length before = rw counted at room in
-      let front : take n after ≡ s = ap (take n) stored ∙ ap (λ k. take k (sets before 0 s)) counted ∙ front_stored s before long in
-      let same : 0 + length s ≡ n = omega arith in
-      let behind : drop n after ≡ drop n before =
-      ap (drop n) (stored ∙ sets-eq s before 0 (omega arith)) ∙ drop_at s (drop (0 + length s) before) n (sym counted) ∙ ap (λ k. drop k before) same in
-      record {
-        room = room;
-        sheet = front;
-        counted = counted;
-        rest = behind;
-      }
+sheet_front : (T : Task) (before after : List ℕ) (n : ℕ) → n ≡ length (encode first_edition (ordered T)) → n ≤ length before
+    → after ≡ encode first_edition (ordered T) ++ drop n before → WritesSheet T before n after
+sheet_front T before after n counted room is =
+    record {
+      room = room;
+      sheet = rw (is, counted) (take-append_seam (encode first_edition (ordered T)) (drop (length (encode first_edition (ordered T))) before));
+      counted = counted;
+      rest = ap (drop n) is ∙ drop_at (encode first_edition (ordered T)) (drop n before) n (sym counted);
+    }
 
 -- what an outcome holds
 abbrev is_whole : Outcome → Bool
@@ -191,17 +183,18 @@ module _ {x sheet sheet' : List ℕ} (before : List ℕ) where
     pub writes_short : length before < n → WritesTask x before (Err (refusal.ShortOutput n)) before
     writes_short short = record { answers = rw needed (told_short x (length before) can (rw needed at short)); leaves = refl }
 
-    pub words_few : n ≤ limits.words
-    words_few = rw needed (writable_fits (meaning x) can).words
+    few : n ≤ limits.words
+    few = rw needed (writable_fits (meaning x) can).words
 
-    pub writes_sheet : limits.words ≤ length sheet → n ≤ length before → (after : List ℕ) → after ≡ sets before 0 (take n sheet')
-        → WritesTask x before (Ok n) after
-    writes_sheet room fit after stored =
-        let small : n ≤ length sheet = omega (arith, words_few) in
-        let words : take n sheet' ≡ encode first_edition (ordered (meaning x)) = rw needed (builds.written can (rw needed at small)) in
+    pub words_inside : limits.words ≤ length sheet' → n ≤ length sheet'
+    words_inside room = omega (arith, few)
+
+    pub writes_sheet : length sheet' ≡ length sheet → n ≤ length sheet' → n ≤ length before → (after : List ℕ) → after ≡ take n sheet' ++ drop n before → WritesTask x before (Ok n) after
+    writes_sheet same inside fit after is =
+        let words : take n sheet' ≡ encode first_edition (ordered (meaning x)) = rw needed (builds.written can (rw (same, needed) at inside)) in
         record {
           answers = told_none x (length before) can (rw needed at fit);
-          leaves = sheet_written (meaning x) before after n needed fit (stored ∙ ap (sets before 0) words);
+          leaves = sheet_front (meaning x) before after n needed fit (is ∙ ap (λ l. l ++ drop n before) words);
         }
 
 -- the ways to a return of the service

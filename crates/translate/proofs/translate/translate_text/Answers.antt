@@ -5,7 +5,7 @@ use Rattle.translate.proofs.translate.translate_text.Goals as goal
 
 pub returns-in-Ok : goal.returns-in-Ok
 returns-in-Ok c =
-    let (gives, short) = gives_sheet _ refl c.in-Ok.ensures.checks c.front.ensures c.pack-written.ensures in
+    let (gives, short) = gives_sheet _ refl c.in-Ok.ensures.checks c.pack-written.ensures in
     record { gives = gives; text_len_bound = short }
 
 pub returns-in-Err : goal.returns-in-Err

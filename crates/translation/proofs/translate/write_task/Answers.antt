@@ -1,12 +1,12 @@
 -- `write_task` meets its contract: a law for each way to a return. Assumes nothing.
-use Rattle.std.proofs.Common.{◌≡◌, ◌∙◌, ap, rules, Err}
+use Rattle.std.proofs.Common.{◌≡◌, ◌∙◌, refl, sym, rules, Err}
 use native.Mathlib.Omega.{arith}
-use Prim.Native.Nat.{ℕ}
-use lib.ListN.{length-replicate}
-use lib.Seq.{sets}
+use Prim.Native.Nat.{ℕ, ◌≤◌}
+use lib.ListN.{length, length-replicate}
+use lib.Seq.{length-take-le}
 use Rattle.refusal.specs.declared.Refusal.TheVariants as refusal
 use Rattle.sheet.specs.Limits.{limits}
-use Rattle.translation.proofs.TranslationLaws.{writes_unfit, writes_short, writes_sheet}
+use Rattle.translation.proofs.TranslationLaws.{writes_unfit, writes_short, words_inside, writes_sheet}
 use Rattle.translation.proofs.translate.write_task.Goals as goal
 
 pub returns-in_err-words : goal.returns-in_err-words
@@ -17,7 +17,27 @@ returns-in_err-words c =
 pub returns-then-out-words : goal.returns-then-out-words
 returns-then-out-words c = writes_short _ (rw c.in_ok-words.ensures.ok_part at c.build.ensures) c.if-out-words.true
 
+-- the sheet has room for its words
+inside : (c : goal.After-sheet-3-1) → c.in_ok-words.words ≤ length c.build.new.sheet
+inside c =
+    words_inside c.args.out.now (rw c.in_ok-words.ensures.ok_part at c.build.ensures)
+    (omega (arith, c.build.auto.sheet, length-replicate {A = ℕ} limits.words 0))
+
+pub slice_bounds-sheet-end : goal.slice_bounds-sheet-end
+slice_bounds-sheet-end c =
+    words_inside c.args.out.now (rw c.in_ok-words.ensures.ok_part at c.build.ensures)
+    (omega (arith, c.build.auto.sheet, length-replicate {A = ℕ} limits.words 0))
+
+pub slice_bounds-copy_from_slice-end-3 : goal.slice_bounds-copy_from_slice-end-3
+slice_bounds-copy_from_slice-end-3 c = sym (length-take-le _ _ (inside c))
+
+pub copy_from_slice-requires : goal.copy_from_slice-requires
+copy_from_slice-requires c = length-take-le _ _ c.if-out-words.false ∙ sym (length-take-le _ _ (inside c))
+
 pub returns : goal.returns
 returns c =
-    writes_sheet _ (rw c.in_ok-words.ensures.ok_part at c.build.ensures) (omega (arith, length-replicate {A = ℕ} limits.words 0)) c.if-out-words.false _
-    (c.put_all.ensures ∙ ap (sets _ 0) c.front.ensures)
+    let room =
+    words_inside c.args.out.now (rw c.in_ok-words.ensures.ok_part at c.build.ensures)
+    (omega (arith, c.build.auto.sheet, length-replicate {A = ℕ} limits.words 0)) in
+    writes_sheet _ (rw c.in_ok-words.ensures.ok_part at c.build.ensures) c.build.auto.sheet room c.if-out-words.false _
+    (rw c.copy_from_slice.ensures.after refl)
