@@ -1,19 +1,21 @@
 -- A run of stores of a list into lent words, by the cases of a loop over it: none is left, or one more is; and a run behind another. Assumes nothing.
-use Prim.Native.Nat.{ℕ, suc, ◌+◌, min, ◌≤◌, ◌<◌}
+use Prim.Native.Nat.{ℕ, zero, suc, ◌+◌, ◌-◌, min, ◌≤◌, ◌<◌}
 use native.Mathlib.Nat.{add-zero, add-suc, suc-add, suc-min-suc, min-zero, zero-min}
 use native.Mathlib.Numerals.{add-one}
 use native.Mathlib.Omega.{arith}
-use mathlib.Core.Path.{◌≡◌, refl, ◌∙◌, ap}
-use mathlib.Core.List.{List, [], ◌∷◌, ◌++◌}
+use mathlib.Core.Path.{◌≡◌, refl, sym, ◌∙◌, ap}
+use mathlib.Core.List.{List, [], ◌∷◌, ◌++◌, append-nil}
 use lib.ListN.{length, get_or, set, take, drop, drop_of_length-le}
-use lib.Seq.{sets, set_out, drop-cons}
+use lib.Seq.{sets, set_out, drop-cons, take_all}
+use Rattle.std.proofs.Common.{length-drop}
+use borrow.Rule.Slice.PartMut.{put_mid, post_of}
 
 -- from the end of a list on nothing is stored
 pub rest_over : (l vs : List ℕ) (i : ℕ) → length vs ≤ i → sets l i (drop i vs) ≡ l
 rest_over l vs i h = rw (drop_of_length-le vs h)
 
 -- nothing is stored past the end of the words
-stored_past : {A : Type 0} (l us : List A) (i : ℕ) → length l ≤ i → sets l i us ≡ l
+pub stored_past : {A : Type 0} (l us : List A) (i : ℕ) → length l ≤ i → sets l i us ≡ l
 stored_past l [] i h = refl
 stored_past l (u ∷ us) i h = rw (set_out l i u h) (stored_past l us (suc i) (omega arith))
 
@@ -27,6 +29,19 @@ pub stored_front : {A : Type 0} (l vs : List A) → sets l 0 vs ≡ take (min (l
 stored_front [] vs = stored_past [] vs 0 (omega arith) ∙ rw (zero-min (length vs))
 stored_front (x ∷ l) [] = rw (min-zero (length (x ∷ l)))
 stored_front (x ∷ l) (v ∷ vs) = rw (suc-min-suc (length l) (length vs)) (stores_behind v l vs 0 ∙ ap (λ ws. v ∷ ws) (stored_front l vs))
+
+-- values stored from an index on are stored at the front of what stands there
+pub stored_from : {A : Type 0} (l vs : List A) (at : ℕ) → sets l at vs ≡ take at l ++ sets (drop at l) 0 vs
+stored_from l vs zero = refl
+stored_from [] vs (suc at) = stored_past [] vs (suc at) (omega arith) ∙ rw (stored_past [] vs 0 (omega arith))
+stored_from (x ∷ l) vs (suc at) = stores_behind x l vs at ∙ ap (λ ws. x ∷ ws) (stored_from l vs at)
+
+pub stored_behind : {A : Type 0} (l vs rest : List A) (at : ℕ) → at ≤ length l → rest ≡ sets (take (length l - at) (drop at l)) 0 vs
+    → put_mid at (length l - at) l rest ≡ sets l at vs
+stored_behind l vs rest at low stored =
+    let all : take (length l - at) (drop at l) ≡ drop at l = take_all (length l - at) (drop at l) (omega (arith, length-drop at l)) in
+    let none : post_of at (length l - at) l ≡ [] = drop_of_length-le (drop at l) (omega (arith, length-drop at l)) in
+    rw (stored, all, none, append-nil) (sym (stored_from l vs at))
 
 -- before its end, the value here is stored first
 pub rest_next : (l vs : List ℕ) (i : ℕ) → i < length vs → sets l i (drop i vs) ≡ sets (set l i (get_or vs i 0)) (i + 1) (drop (i + 1) vs)

@@ -45,6 +45,15 @@ pub fn put_all<T: Copy>(elements: &mut [T], values: &[T])
     elements[..n].copy_from_slice(&values[..n]);
 }
 
+// Writes values over the elements from index `at` on. What there is no room for is dropped.
+pub fn put_from<T: Copy>(elements: &mut [T], at: usize, values: &[T])
+    ensures { elements.new ≡ sets elements.old at values.now }
+{
+    if at < elements.len() {
+        put_all(&mut elements[at..], values);
+    }
+}
+
 // Writes the words at the places of the ones in `bits`, whose lowest bit has place `from`, to `out` from index `at` on.
 // Returns the index after them.
 pub fn write_word(bits: u64, from: u32, words: &[u32], out: &mut [u32], at: u32) -> usize

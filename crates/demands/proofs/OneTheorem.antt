@@ -9,6 +9,8 @@ use mathlib.Core.Logic.{◌⊎◌, inl, inr}
 use mathlib.Core.Option.{Option, none, some}
 use mathlib.Core.List.{List, map}
 use lib.ListN.{length, take}
+use Rattle.std.specs.Prelude.{Result, Ok, Err}
+use Rattle.refusal.specs.declared.Refusal.{Refusal}
 use Rattle.refusal.specs.Refusal.{Told}
 use Rattle.refusal.specs.Check.{Check, unless_refused}
 use Rattle.sheet.specs.Causes.{sheet_checks}
@@ -27,8 +29,6 @@ use Rattle.reduced.specs.Reduced.{room_checks, reduction_checks, output_left}
 use Rattle.elimination.specs.declared.single.Elimination.TheVariants.{Plain, Greedy}
 use Rattle.cheaper.specs.Cheaper.{cheaper_part}
 use Rattle.minimal.specs.Minimised.{most_unmarked, unmarked_checks, minimal_checks}
-use Rattle.translation.specs.declared.translate.Translated.{Translated}
-use Rattle.translation.specs.declared.translate.Translated.TheVariants.{Refused, Written}
 use Rattle.translation.specs.Translation.{told_translated, Leaves}
 use Rattle.demands.specs.One.{OutputLent, DemandOne}
 use Rattle.demands.specs.One.{sheet_numbers, step_numbers, read_numbers, list_numbers, greedy_numbers, exact_numbers}
@@ -64,9 +64,9 @@ unfolding minimal_checks unmarked_checks lodged_checks read_checks sheet_checks 
 exact_numbered limit w l room = refl
 
 -- a text that is refused leaves the output
-refused_leaves : (sheet before after : List ℕ) (r : Translated) → Leaves sheet before r after → (t : Told) → told_translated r ≡ some t → after ≡ before
-refused_leaves sheet before after (Refused x) leaves t e = leaves
-refused_leaves sheet before after (Written n) leaves t e = absurd (let no_refusal : 0 ≡ 1 = ap refusals e in omega arith)
+refused_leaves : (sheet before after : List ℕ) (r : Result ℕ Refusal) → Leaves sheet before r after → (t : Told) → told_translated r ≡ some t → after ≡ before
+refused_leaves sheet before after (Err x) leaves t e = leaves
+refused_leaves sheet before after (Ok n) leaves t e = absurd (let no_refusal : 0 ≡ 1 = ap refusals e in omega arith)
   where
     refusals : Option Told → ℕ
     refusals none = 0

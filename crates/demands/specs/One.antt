@@ -1,9 +1,10 @@
 -- Demand 1 as one statement. docs/DEMANDS.md has the demand in full, with numbered clauses, and the comments here name
 -- those that a field says. A field for each service says them of whatever the service's contract allows, for lent words
 -- at any length and with anything in them (1.1). Assumes nothing.
-use Rattle.std.specs.Prelude.{ℕ, min, ◌≤◌, ◌<◌, ◌≡◌, ◌⊎◌, ◌↔◌, length, take, drop, None, Some}
+use Rattle.std.specs.Prelude.{ℕ, min, ◌≤◌, ◌<◌, ◌≡◌, ◌⊎◌, ◌↔◌, Result, length, take, drop, None, Some}
 use Rattle.std.proofs.Math.Option.{Option, none, some}
 use mathlib.Core.List.{List, [], ◌∷◌, ◌++◌, map, Memᴰ}
+use Rattle.refusal.specs.declared.Refusal.{Refusal}
 use Rattle.refusal.specs.Refusal.{Verdict}
 use Rattle.refusal.specs.Refusal.{Told, told}
 use Rattle.refusal.specs.Check.{Check, answer}
@@ -24,7 +25,6 @@ use Rattle.minimal.specs.Minimised.{Shortening}
 use Rattle.minimal.specs.Minimised.{most_unmarked, minimal_checks, Minimises}
 use Rattle.claim.specs.Licensed.{Licensing}
 use Rattle.claim.specs.Licensed.{Licenses}
-use Rattle.translation.specs.declared.translate.Translated.{Translated}
 use Rattle.planner.specs.Text.{Text, most_bytes}
 use Rattle.planner.specs.Meant.{unsayable}
 use Rattle.planner.specs.Broken.{Prints, Breaks}
@@ -153,6 +153,6 @@ pub record DemandOne : Type 0 where
       → RefusesJust greedy_numbers (reduction_checks w l (length before)) (told_answer r.told.answer)
       × OutputLent (told_answer r.told.answer) l licenses.answers.left before after
   -- 1.5 and 1.6: a planner's text read into a sheet
-  pub planner_text : (bytes before : List ℕ) (r : Translated) (after : List ℕ) → Translates bytes before r after
+  pub planner_text : (bytes before : List ℕ) (r : Result ℕ Refusal) (after : List ℕ) → Translates bytes before r after
       → ((t : Told) → told_translated r ≡ some t ↔ TextCause bytes (length before) t)
       × ((t : Told) → told_translated r ≡ some t → after ≡ before)

@@ -1,5 +1,5 @@
 -- What a service that strikes nothing has stored into lent words. Assumes nothing.
-use Rattle.std.specs.Prelude.{Err, Ok}
+use Rattle.std.specs.Prelude.{Result, Err, Ok}
 use Prim.Native.Nat.{ℕ, ◌≤◌}
 use native.Mathlib.Nat.{zero-add}
 use native.Mathlib.Omega.{arith}
@@ -19,8 +19,6 @@ use Rattle.step.proofs.StepTheorem.{step_theorem}
 use Rattle.course.specs.Course.{Courses}
 use Rattle.moves.specs.Moves.{Moves}
 use Rattle.landmark.specs.Marks.{Masks}
-use Rattle.translation.specs.declared.translate.Translated.{Translated}
-use Rattle.translation.specs.declared.translate.Translated.TheVariants.{Refused, Written}
 use Rattle.translation.specs.Translation.{told_translated, ToldOfBytes}
 use Rattle.translation.specs.Between.Checks.{text_sheet, AnswersChecks}
 use Rattle.translation.proofs.TranslationTheorem.{told_of_bytes}
@@ -75,32 +73,32 @@ stored_front s before after room front rest =
     ∙ sym (sets-eq s before 0 (omega arith) ∙ ap (λ k. s ++ drop k before) (zero-add (length s)))
 
 -- what reading a planner's text has stored, by its answer
-module _ (text output output' out out' : List ℕ) (r : Translated) (done : AnswersChecks text output r output') where
-  told_as : (given : Translated) → AnswersChecks text output given output' → ToldOfBytes text (length output) (told_translated given) (text_sheet text)
-  told_as given checks =
-      subst (λ t. ToldOfBytes text (length output) t (text_sheet text)) (sym checks.answers) (told_of_bytes text (length output))
+told_as : {text output output' : List ℕ} {given : Result ℕ Refusal} → AnswersChecks text output given output'
+    → ToldOfBytes text (length output) (told_translated given) (text_sheet text)
+told_as {text} {output} checks = subst (λ t. ToldOfBytes text (length output) t (text_sheet text)) (sym checks.answers) (told_of_bytes text (length output))
 
-  pub text_refused : (x : Refusal) → r ≡ Refused x → out' ≡ sets out 0 (answer_words (told (Err x)) ++ (0 ∷ [])) → TranslatesLent text output output' out out'
-  text_refused x is written =
-      let refuses : AnswersChecks text output (Refused x) output' = rw is at done in
+module _ {text output output' out out' : List ℕ} where
+  pub text_refused : {x : Refusal} → AnswersChecks text output (Err x) output' → out' ≡ sets out 0 (answer_words (told (Err x)) ++ (0 ∷ []))
+      → TranslatesLent text output output' out out'
+  text_refused {x} refuses written =
       record {
-        refusal = told_translated (Refused x);
+        refusal = told_translated (Err x);
         sheet = text_sheet text;
-        told = told_as (Refused x) refuses;
+        told = told_as refuses;
         sheet_left = refuses.leaves;
         answered = written;
       }
 
-  pub text_written : (n : ℕ) → r ≡ Written n → out' ≡ sets out 0 (answer_words (told (Ok tt)) ++ (n ∷ [])) → TranslatesLent text output output' out out'
-  text_written n is written =
-      let writes : AnswersChecks text output (Written n) output' = rw is at done in
+  pub text_written : {n : ℕ} → AnswersChecks text output (Ok n) output' → out' ≡ sets out 0 (answer_words (told (Ok tt)) ++ (n ∷ []))
+      → TranslatesLent text output output' out out'
+  text_written {n} writes written =
       let counted : n ≡ length (text_sheet text) = writes.leaves.counted in
       let left : output' ≡ sets output 0 (text_sheet text) =
       stored_front (text_sheet text) output output' (rw counted at writes.leaves.room) (rw counted at writes.leaves.sheet) (rw counted at writes.leaves.rest) in
       record {
         refusal = none;
         sheet = text_sheet text;
-        told = told_as (Written n) writes;
+        told = told_as writes;
         sheet_left = left;
         answered = rw counted at written;
       }

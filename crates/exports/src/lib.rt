@@ -40,7 +40,7 @@ use step::one::step;
 use striking::{eliminate, eliminate_both, eliminate_cheaper, license_plan, minimise};
 use std::cmp::Ordering;
 use tally::Tally;
-use translation::translate::{Translated, translate};
+use translation::translate::translate;
 
 // Checks a task: the number and the place of its refusal go to `out`, or 0 and 0.
 #[unsafe(no_mangle)]
@@ -309,9 +309,8 @@ pub extern "C" fn hollchiku_translate(text: &[u8], output: &mut [u32], out: &mut
     ensures { TranslatesLent text.now output.old output.new
         out.old out.new }
 {
-    let given = translate(text, output);
-    match given {
-        Translated::Refused(refusal) => write_counted(out, Err(refusal), 0),
-        Translated::Written(words) => write_counted(out, Ok(()), words),
+    match translate(text, output) {
+        Ok(words) => write_counted(out, Ok(()), words),
+        Err(refusal) => write_counted(out, Err(refusal), 0),
     }
 }

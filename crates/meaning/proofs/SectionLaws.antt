@@ -1,20 +1,19 @@
 -- The numbers of a text by the cases and turns of the code: an operator's cost, whether the variables fit, and numbers copied among words. Assumes nothing.
-use Prim.Native.Nat.{ℕ, zero, suc, ◌+◌, ◌-◌, ◌≤◌, ◌<◌}
-use native.Mathlib.Nat.{sub-zero}
+use Prim.Native.Nat.{ℕ, zero, suc, ◌+◌, ◌≤◌, ◌<◌}
 use native.Mathlib.Omega.{arith}
-use mathlib.Core.Path.{◌≡◌, ◌∙◌}
+use mathlib.Core.Path.{◌≡◌, refl, ◌∙◌}
 use mathlib.Core.Bool.{Bool, true, false, ◌&&◌}
 use mathlib.Core.List.{List, [], ◌∷◌}
 use lib.ListN.{length, get_or}
 use lib.Dec.{ltb, leb}
-use borrow.Author.Tests.{lt-ltb, le-ltb, le-leb, lt-leb, leb-true, eq-eqb, ne_eqb}
-use Rattle.refusal.proofs.PlaceLaws.{one_fewer, none_left}
+use Rattle.std.specs.List.{list_all, range_with_len}
+use borrow.Author.Tests.{leb-true, eq-eqb, ne_eqb}
 use Rattle.sas.specs.Task.{State}
 use Rattle.sheet.specs.Limits.{limits}
 use Rattle.sheet.specs.Decode.{table}
 use Rattle.meaning.specs.Between.Sections.{number_at, metric, variables, range_of, ranges, state, cost_at, action_at}
 use Rattle.meaning.specs.Between.Writable.{variables_fit}
-use Rattle.meaning.specs.Between.Gathered.{Small}
+use Rattle.meaning.specs.Between.Small.{Small}
 use Rattle.meaning.proofs.GatherLaws.{and_first, and_second, ranges_length, ranges_at}
 
 module _ (x : List ℕ) (i : ℕ) where
@@ -30,32 +29,22 @@ module _ (x : List ℕ) (i : ℕ) where
 abbrev pub start_of : List ℕ → ℕ → ℕ → ℕ
 start_of x v k = number_at x (2 + v + k)
 
--- whether the variables from variable k of v on fit
-unfoldable pub fits_from : List ℕ → ℕ → ℕ → Bool
-fits_from x v k = variables_fit (table (range_of x) k (v - k)) (table (start_of x v) k (v - k))
+-- whether it fits
+abbrev pub variable_fit : List ℕ → ℕ → ℕ → Bool
+variable_fit x v k = leb (range_of x k) limits.values && ltb (start_of x v k) (range_of x k)
 
-module _ (x : List ℕ) (v : ℕ) where
-  pub fits_whole : v ≡ variables x → fits_from x v 0 ≡ variables_fit (ranges x) (state x)
-  unfolding fits_from ranges state
-  fits_whole e = rw (sub-zero v, e)
+and_assoc : (a b c : Bool) → (a && b) && c ≡ a && (b && c)
+and_assoc true b c = refl
+and_assoc false b c = refl
 
-  pub fits_over : (k : ℕ) → v ≤ k → fits_from x v k ≡ true
-  unfolding fits_from variables_fit table
-  fits_over k past = rw (none_left k v past)
+fit_each : (x : List ℕ) (v k n : ℕ) → list_all (variable_fit x v) (range_with_len k n) ≡ variables_fit (table (range_of x) k n) (table (start_of x v) k n)
+unfolding variables_fit table
+fit_each x v k zero = refl
+fit_each x v k (suc n) = rw (fit_each x v (k + 1) n, and_assoc) refl
 
-  module _ (k : ℕ) (more : k < v) where
-    fits_step : fits_from x v k ≡ leb (range_of x k) limits.values && (ltb (start_of x v k) (range_of x k) && fits_from x v (k + 1))
-    unfolding fits_from variables_fit table
-    fits_step = rw (one_fewer k v more)
-
-    pub fits_wide : limits.values < range_of x k → fits_from x v k ≡ false
-    fits_wide wide = fits_step ∙ rw (lt-leb (range_of x k) limits.values wide)
-
-    pub fits_beyond : range_of x k ≤ limits.values → range_of x k ≤ start_of x v k → fits_from x v k ≡ false
-    fits_beyond low past = fits_step ∙ rw (le-leb (range_of x k) limits.values low, le-ltb (start_of x v k) (range_of x k) past)
-
-    pub fits_next : range_of x k ≤ limits.values → start_of x v k < range_of x k → fits_from x v k ≡ fits_from x v (k + 1)
-    fits_next low inside = fits_step ∙ rw (le-leb (range_of x k) limits.values low, lt-ltb (start_of x v k) (range_of x k) inside)
+pub fit_all : (x : List ℕ) (v : ℕ) → v ≡ variables x → list_all (variable_fit x v) (range_with_len 0 v) ≡ variables_fit (ranges x) (state x)
+unfolding ranges state
+fit_all x v e = fit_each x v 0 v ∙ rw e
 
 range_low : (rs : List ℕ) (s : State) (v : ℕ) → variables_fit rs s ≡ true → v < length rs → get_or rs v 0 ≤ limits.values
 unfolding variables_fit

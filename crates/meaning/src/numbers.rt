@@ -1,119 +1,155 @@
-// Where the numbers of a text stand. Each function is safe for any numbers: one past the last reads as 0. How far an
-// index lies is bounded, since a text may state any counts.
-ghost use Rattle.std.specs.Prelude.{◌≡◌, ◌+◌, ◌<◌, ◌≤◌, ◌^◌};
-ghost use Rattle.meaning.specs.Between.Sections.{number_at, variables as variables_of, goal_at, operators_at};
-ghost use Rattle.meaning.specs.Between.Sections.{effects_at, cost_at, action_at};
-ghost use Rattle.meaning.specs.Between.Gathered.{far, fact_lines, effect_lines, Near};
+// The numbers of a text, and where they stand: one past the last reads as 0.
+ghost use Rattle.std.specs.Prelude.{◌≡◌, ◌+◌, ◌<◌, ◌≤◌, ◌^◌, cond};
+ghost use Rattle.sheet.specs.Limits.{limits};
+ghost use Rattle.meaning.specs.Between.Sections.{number_at, fact_wide, facts_at, variables as variables_of};
+ghost use Rattle.meaning.specs.Between.Sections.{range_of, ranges, state, goal_at, goal, operators_at};
+ghost use Rattle.meaning.specs.Between.Writable.{variables_fit};
+ghost use Rattle.meaning.specs.Between.Small.{says_variables};
+ghost use Rattle.meaning.specs.Between.Gathered.{far, line_facts};
 
-use access::word;
+use crate::lines::{FACT, Lines};
+use access::get_or;
+use sheet::limits::Sheet;
+use std::marker::Model;
 
-// How many numbers a fact has, and how many an effect: its conditions, the variable, the old value and the new one.
-const FACT: usize = 2;
-
-const EFFECT: usize = 4;
-
-// How far behind its variable a value stands: that of a fact, and of an effect the old value and the new one.
+// How far behind its variable a fact's value stands.
 const VALUE: usize = 1;
 
-pub const OLD: usize = 1;
-
-pub const NEW: usize = 2;
-
 // Where the metric stands, the number of variables, and the range of the first.
-const METRIC_AT: usize = 0;
+pub(crate) const METRIC_AT: usize = 0;
 
 const VARIABLES_AT: usize = 1;
 
 pub const RANGES_AT: usize = 2;
 
-// Where facts stand: in `count` lines of `wide` numbers each, the first variable at index `from`, and each value `on`
-// numbers behind its variable.
-#[derive(Clone, Copy)]
-pub struct Lines {
-    pub from: usize,
-    pub wide: usize,
-    pub on: usize,
-    pub count: usize,
+// Numbers whose variables have bits and slots, and whose values fit a fact's word. A text may state any counts, so that
+// an index may lie past the last number.
+#[derive(Drop)]
+pub struct Numbers<'a> {
+    all: &'a [u32],
+}
+
+// To a contract they are the list of them.
+impl<'a> Model for Numbers<'a> {
+    ghost use Rattle.std.specs.Prelude.{List, ℕ};
+    ghost use Rattle.meaning.specs.Between.Small.{Small};
+
+    ghost Value = { List ℕ };
+
+    ghost view = { λ x. x.all.now };
+
+    ghost invariant = { λ x. Small x.all.now };
 }
 
 // The number at index i.
-pub fn number(x: &[u32], i: usize) -> usize
-    ensures { (result ≡ number_at x.now i) × (result < 2 ^ 32) }
+fn number(all: &[u32], i: usize) -> usize
+    ensures { (result ≡ number_at all.now i) × (result < 2 ^ 32) }
 {
-    word(x, i) as usize
+    get_or(all, i, 0) as usize
 }
 
-pub fn variables(x: &[u32]) -> usize
-    ensures { (result ≡ variables_of x.now) × (result < 2 ^ 32) }
+// Whether a sheet can say each range and starting value.
+fn variables_fit(all: &[u32]) -> bool
+    ensures { result ≡ variables_fit (ranges all.now) (state all.now) }
 {
-    number(x, VARIABLES_AT)
+    let v = number(all, VARIABLES_AT);
+    (0..v).all(|k| {
+        let range = number(all, RANGES_AT + k);
+        range <= Sheet::VALUES && number(all, RANGES_AT + v + k) < range
+    })
 }
 
-// Where the number of goal facts stands, and that of operators.
-pub fn goal_at(x: &[u32]) -> usize
-    ensures { (result ≡ goal_at x.now) × (result < 2 ^ 34) }
-{
-    RANGES_AT + 2 * variables(x)
-}
-
-pub fn operators_at(x: &[u32]) -> usize
-    ensures { (result ≡ operators_at x.now) × (result < 2 ^ 35) }
-{
-    let goal = goal_at(x);
-    goal + 1 + FACT * number(x, goal)
-}
-
-// Of the operator whose numbers begin at index i: where the number of its effects stands, and its cost.
-pub fn effects_at(x: &[u32], i: usize) -> usize
-    requires { i ≤ far }
-    ensures { (result ≡ effects_at x.now i) × (result < i + 2 ^ 34) }
-{
-    i + 1 + FACT * number(x, i)
-}
-
-pub fn cost_at(x: &[u32], i: usize) -> usize
-    requires { i ≤ far }
-    ensures { (result ≡ cost_at x.now i) × (result < i + 2 ^ 35) }
-{
-    let effects = effects_at(x, i);
-    effects + 1 + EFFECT * number(x, effects)
-}
-
-// What it costs: with metric 0 every operator costs 1.
-pub fn cost(x: &[u32], i: usize) -> u32
-    requires { i ≤ far }
-    ensures { result ≡ (action_at x.now i).cost }
-{
-    if word(x, METRIC_AT) == 0 {
-        return 1;
+impl<'a> Numbers<'a> {
+    // The numbers, if there are no more variables than a sheet may have, and it can say each.
+    pub fn new(all: &'a [u32]) -> Option<Numbers<'a>>
+        ensures { result ≡ cond (says_variables all.now) (Some all.now) None }
+    {
+        if Sheet::VARIABLES < number(all, VARIABLES_AT) {
+            return None;
+        }
+        if !variables_fit(all) {
+            return None;
+        }
+        Some(Numbers { all })
     }
-    word(x, cost_at(x, i))
-}
 
-// The lines of facts whose number stands at index i: those of the goal, or of the prevail conditions.
-pub fn fact_lines(x: &[u32], i: usize) -> Lines
-    requires { i ≤ far }
-    ensures { (result ≡ fact_lines x.now i) × Near result }
-{
-    Lines {
-        from: i + 1,
-        wide: FACT,
-        on: VALUE,
-        count: number(x, i),
+    pub fn all(&self) -> &[u32]
+        ensures { result.now ≡ self.now }
+    {
+        self.all
     }
-}
 
-// The lines of the effects of the operator whose numbers begin at index i, each with the value `on` numbers behind its
-// variable.
-pub fn effect_lines(x: &[u32], i: usize, on: usize) -> Lines
-    requires { (i ≤ far) × (on ≤ 2) }
-    ensures { (result ≡ effect_lines x.now i on) × Near result }
-{
-    let effects = effects_at(x, i);
-    Lines {
-        from: effects + 2,
-        wide: EFFECT,
-        on,
-        count: number(x, effects),
+    // The number at index i, as a word and as a number.
+    pub fn word(&self, i: usize) -> u32
+        ensures { result ≡ number_at self.now i }
+    {
+        get_or(self.all, i, 0)
+    }
+
+    pub fn number(&self, i: usize) -> usize
+        ensures { (result ≡ number_at self.now i) × (result < 2 ^ 32) }
+    {
+        number(self.all, i)
+    }
+
+    // How many variables there are, and how many values variable v has.
+    pub fn variables(&self) -> usize
+        ensures { (result ≡ variables_of self.now) × (result ≤ limits.variables) }
+    {
+        number(self.all, VARIABLES_AT)
+    }
+
+    pub fn range(&self, v: usize) -> usize
+        requires { v < variables_of self.now }
+        ensures { (result ≡ range_of self.now v) × (result ≤ limits.values) }
+    {
+        number(self.all, RANGES_AT + v)
+    }
+
+    // Where the number of goal facts stands, and that of operators.
+    fn goal_at(&self) -> usize
+        ensures { (result ≡ goal_at self.now) × (result < 2 ^ 34) }
+    {
+        RANGES_AT + 2 * self.variables()
+    }
+
+    fn operators_at(&self) -> usize
+        ensures { (result ≡ operators_at self.now) × (result < 2 ^ 35) }
+    {
+        let goal = self.goal_at();
+        goal + 1 + FACT * self.number(goal)
+    }
+
+    // The lines of facts whose number stands at index i.
+    pub(crate) fn facts(&self, i: usize) -> Lines
+        requires { i ≤ far }
+        ensures { line_facts self.now result ≡ facts_at self.now fact_wide 1 (i + 1) (number_at self.now i) }
+    {
+        Lines {
+            from: i + 1,
+            wide: FACT,
+            on: VALUE,
+            count: self.number(i),
+        }
+    }
+
+    // The lines of the goal.
+    pub fn goal(&self) -> Lines
+        ensures { line_facts self.now result ≡ goal self.now }
+    {
+        self.facts(self.goal_at())
+    }
+
+    // How many operators there are, and where the numbers of the first begin.
+    pub fn operators(&self) -> usize
+        ensures { (result ≡ number_at self.now (operators_at self.now)) × (result < 2 ^ 32) }
+    {
+        self.number(self.operators_at())
+    }
+
+    pub fn first_operator(&self) -> usize
+        ensures { (result ≡ operators_at self.now + 1) × (result ≤ 2 ^ 35) }
+    {
+        self.operators_at() + 1
     }
 }

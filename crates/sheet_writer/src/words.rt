@@ -4,7 +4,7 @@ ghost use Rattle.std.proofs.lemmas.List.Edits.{sets};
 ghost use Rattle.sheet.specs.Layout.{word as word_at};
 ghost use Rattle.sheet.specs.Decode.{table};
 
-use access::{put, word};
+use access::{get_or, put};
 
 // Writes n words, which stand among `words` from index `from` on, from word `at` of the sheet on. What `words` lacks
 // reads as 0.
@@ -13,9 +13,7 @@ pub fn write_words(words: &[u32], from: usize, n: usize, sheet: &mut [u32], at: 
     ensures { sheet.new
         ≡ sets sheet.old at (table (λ k. word_at words.now (from + k)) 0 n) }
 {
-    let mut k = 0;
-    while k < n {
-        put(sheet, at + k, word(words, from + k));
-        k += 1;
+    for k in 0..n {
+        put(sheet, at + k, get_or(words, from + k, 0));
     }
 }

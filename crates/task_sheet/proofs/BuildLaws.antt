@@ -1,39 +1,34 @@
 -- The sheet as a whole, by each way to a return of the function that builds it: a test of the task that fails, or all of them passed and the parts laid out
 -- behind the first four words. Assumes nothing.
 use Prim.Native.Nat.{ℕ, ◌+◌, ◌≤◌, ◌<◌}
-use native.Mathlib.Omega.{arith}
-use mathlib.Core.Path.{◌≡◌, refl, sym, ◌∙◌, ap}
-use mathlib.Core.Bool.{Bool, true, false, ◌&&◌}
+use mathlib.Core.Path.{◌≡◌, refl, sym, ◌∙◌, subst}
+use mathlib.Core.Bool.{Bool, true, false, cond, ◌&&◌, false≢true, and-eq-true_iff}
 use mathlib.Core.List.{List, [], ◌∷◌}
-use lib.ListN.{length, take, length-map}
+use lib.ListN.{length, length-map}
 use lib.Seq.{sets}
 use lib.Dec.{leb}
-use borrow.Author.Tests.{lt-leb, le-leb}
+use Rattle.std.specs.Prelude.{Option, Some, None}
+use borrow.Author.Tests.{lt-leb, le-leb, leb-true, leb-false}
+use Rattle.std.proofs.lemmas.Option.{cond_some, none-some}
 use Rattle.sas.specs.Task.{Task}
 use Rattle.sheet.specs.Limits.{limits}
 use Rattle.sheet.specs.Layout.{first_edition}
 use Rattle.sheet.specs.Between.Encode.{parts, encode}
-use Rattle.task_sheet.specs.declared.build.Built.{Built}
-use Rattle.task_sheet.specs.declared.action.Written.{Written}
 use Rattle.meaning.specs.Between.Sections.{number_at, variables, ranges, state, operators_at, meaning}
 use Rattle.meaning.specs.Between.Order.{ordered_action, ordered}
+use Rattle.meaning.specs.Between.Small.{says_variables}
 use Rattle.meaning.specs.Between.Writable.{variables_fit, group_fits, actions_fit, writable}
 use Rattle.sheet_writer.specs.Between.Laid.{first_word, laid}
 use Rattle.task_sheet.specs.Between.Parts.{facts_fit, Lays}
-use Rattle.task_sheet.specs.Between.Built.{Builds}
+use Rattle.task_sheet.specs.Between.Built.{sheet_words, Builds}
 use Rattle.meaning.proofs.GatherLaws.{and_whole, ranges_length}
-use Rattle.task_sheet.proofs.PartLaws.{and_none}
+use Rattle.task_sheet.proofs.PartLaws.{and_none, ends_some, ends_none}
 use Rattle.sheet_writer.proofs.SheetLaws.{words_end, sheet_written}
 use Rattle.task_sheet.proofs.PartsLaws.{actions_length}
 
 -- nothing is said of the words of a task that no sheet can say
-pub builds_unfit : {x before after : List ℕ} {r : Built} → writable (meaning x) ≡ false → r.fits ≡ false → Builds x before after r
-builds_unfit none unfit =
-    record {
-      fits = unfit ∙ sym none;
-      words = λ fits. absurd (let z : ◌≡◌ {A = ℕ} 0 1 = cc in omega arith);
-      written = λ fits room. absurd (let z : ◌≡◌ {A = ℕ} 0 1 = cc in omega arith);
-    }
+pub builds_unfit : {x before after : List ℕ} → writable (meaning x) ≡ false → Builds x before after None
+builds_unfit none = record { words = rw none; written = λ fits room. absurd (false≢true (sym none ∙ fits)) }
 
 -- the last two of three tests may be taken together
 both_first : (a b c : Bool) → a && b ≡ false → a && (b && c) ≡ false
@@ -86,7 +81,7 @@ module _ (x : List ℕ) where
   unfolding writable
   no_variables none = rw (sized_ranges, lt-leb 1 (variables x) none)
 
-  pub many_variables : limits.variables < variables x → writable (meaning x) ≡ false
+  many_variables : limits.variables < variables x → writable (meaning x) ≡ false
   unfolding writable
   many_variables more =
       let over : few (meaning x) ≡ false = rw sized_ranges (lt-leb (variables x) limits.variables more) in
@@ -98,9 +93,13 @@ module _ (x : List ℕ) where
       let over : short (meaning x) ≡ false = rw many (lt-leb (number_at x (operators_at x)) limits.actions more) in
       rw over (and_none (some (meaning x)) (few (meaning x) && false) (and_none (few (meaning x)) false refl))
 
-  pub variables_unfit : variables_fit (ranges x) (state x) ≡ false → writable (meaning x) ≡ false
+  pub variables_unfit : says_variables x ≡ false → writable (meaning x) ≡ false
   unfolding meaning
-  variables_unfit unfit = behind_three (meaning x) (rw unfit)
+  variables_unfit unfit = by_case (leb (variables x) limits.variables) refl
+    where
+      by_case : (b : Bool) → leb (variables x) limits.variables ≡ b → writable (meaning x) ≡ false
+      by_case true e = behind_three (meaning x) (rw (rw e at unfit))
+      by_case false e = many_variables (leb-false _ _ e)
 
   pub facts_unfit : facts_fit (meaning x) ≡ false → writable (meaning x) ≡ false
   facts_unfit unfit = behind_four (meaning x) (both_first (aimed (meaning x)) (done (meaning x)) (sized (meaning x)) unfit)
@@ -136,33 +135,46 @@ module _ (x : List ℕ) where
   unfolding ordered
   actions_counted = sym (length-map (meaning x).actions ordered_action ∙ many)
 
-  module _ (n : ℕ) (number : n ≡ number_at x (operators_at x)) (before middle : List ℕ) (r : Written)
-      (lays : Lays (facts_fit (meaning x)) 0 (parts first_edition (ordered (meaning x))) before middle (first_word n) r) where
-    counted_actions : n ≡ length (ordered (meaning x)).actions
-    counted_actions = number ∙ actions_counted
+  module _ (before middle : List ℕ) where
+    abbrev LaysAll : Option ℕ → Type 0
+    LaysAll r = Lays (facts_fit (meaning x)) 0 (parts first_edition (ordered (meaning x))) before middle (first_word (number_at x (operators_at x))) r
 
-    pub parts_end : r.fits ≡ true → r.end ≡ length (encode first_edition (ordered (meaning x)))
-    parts_end fits = lays.end fits ∙ rw counted_actions (words_end first_edition (ordered (meaning x)))
+    pub parts_unfit : LaysAll None → writable (meaning x) ≡ false
+    parts_unfit lays = facts_unfit (ends_none _ _ lays.end)
 
-    pub parts_unfit : r.fits ≡ false → writable (meaning x) ≡ false
-    parts_unfit unfit = facts_unfit (sym lays.fits ∙ unfit)
+    module _ {end : ℕ} (lays : LaysAll (Some end)) where
+      parts_end : end ≡ length (sheet_words x)
+      parts_end = (ends_some lays.end).1 ∙ rw actions_counted (words_end first_edition (ordered (meaning x)))
 
-    pub words_over : r.fits ≡ true → limits.words < r.end → writable (meaning x) ≡ false
-    words_over fits more = words_unfit (rw (parts_end fits) at more)
+      pub words_over : limits.words < end → writable (meaning x) ≡ false
+      words_over more = words_unfit (rw parts_end at more)
 
-    -- the first four words before the parts make the sheet
-    pub sheet_built : r.fits ≡ true → (v : ℕ) → v ≡ variables x → (after : List ℕ) → after ≡ sets middle 0 (first_edition ∷ v ∷ n ∷ r.end ∷ [])
-        → 1 ≤ v → v ≤ limits.variables → n ≤ limits.actions → variables_fit (ranges x) (state x) ≡ true → r.end ≤ limits.words
-        → Builds x before after (record { fits = true; words = r.end })
-    sheet_built fits v counted after headed one low brief fit_ranges short_words =
-        let T : Task = ordered (meaning x) in
-        let laying : middle ≡ laid 0 (first_word (length T.actions)) (parts first_edition T) before = lays.written fits ∙ rw (← counted_actions) in
-        let front : after ≡ sets middle 0 (first_edition ∷ length T.domains ∷ length T.actions ∷ length (encode first_edition T) ∷ []) =
-        headed ∙ rw (counted, domains_counted, counted_actions, parts_end fits) in
-        record {
-          fits =
-              sym (all_pass (rw counted at one) (rw counted at low) (rw number at brief) fit_ranges (sym lays.fits ∙ fits) (rw (parts_end fits) at short_words));
-          words = λ _. parts_end fits;
-          written = λ _ room.
-              ap (λ k. take k after) (parts_end fits) ∙ sheet_written first_edition T before middle after laying front (rw (parts_end fits) at room);
-        }
+      -- the first four words before the parts make the sheet
+      pub sheet_built : (v n : ℕ) → v ≡ variables x → n ≡ number_at x (operators_at x) → (after : List ℕ)
+          → after ≡ sets middle 0 (first_edition ∷ v ∷ n ∷ end ∷ []) → 1 ≤ v → v ≤ limits.variables → n ≤ limits.actions
+          → variables_fit (ranges x) (state x) ≡ true → end ≤ limits.words → Builds x before after (Some end)
+      sheet_built v n counted number after headed one low brief fit_ranges short_words =
+          let fits : facts_fit (meaning x) ≡ true = (ends_some lays.end).0 in
+          let T : Task = ordered (meaning x) in
+          let laying : middle ≡ laid 0 (first_word (length T.actions)) (parts first_edition T) before = lays.written fits ∙ rw actions_counted in
+          let front : after ≡ sets middle 0 (first_edition ∷ length T.domains ∷ length T.actions ∷ length (encode first_edition T) ∷ []) =
+          headed ∙ rw (counted ∙ domains_counted, number ∙ actions_counted, parts_end) in
+          let passes : writable (meaning x) ≡ true =
+          all_pass (rw counted at one) (rw counted at low) (rw number at brief) fit_ranges fits (rw parts_end at short_words) in
+          record { words = rw (passes, parts_end); written = λ _ room. sheet_written first_edition T before middle after laying front room }
+
+-- numbers that passed the first test are the numbers
+pub built_of : {x y before after : List ℕ} {r : Option ℕ} → Some y ≡ cond (says_variables x) (Some x) None
+    → (variables y ≤ limits.variables → variables_fit (ranges y) (state y) ≡ true → Builds y before after r) → Builds x before after r
+built_of {x} {y} {before} {after} {r} told builds =
+    let passed = cond_some (says_variables x) x y (sym told) in
+    let is : x ≡ y = passed.1 in
+    let (few, fits) = (and-eq-true_iff (leb (variables y) limits.variables) (variables_fit (ranges y) (state y))).0 (rw is at passed.0) in
+    subst (λ z. Builds z before after r) (sym is) (builds (leb-true _ _ few) fits)
+
+pub none_built : {x before : List ℕ} → None ≡ cond (says_variables x) (Some x) None → Builds x before before None
+none_built {x} told = builds_unfit (variables_unfit x (no_numbers (says_variables x) told))
+  where
+    no_numbers : (b : Bool) → None ≡ cond b (Some x) None → b ≡ false
+    no_numbers true e = absurd (none-some x e)
+    no_numbers false e = refl

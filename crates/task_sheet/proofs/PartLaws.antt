@@ -2,12 +2,14 @@
 -- and of words stored over others. Assumes nothing.
 use Prim.Native.Nat.{ℕ, ◌+◌, ◌-◌, ◌≤◌, ◌<◌}
 use native.Mathlib.Omega.{arith}
-use mathlib.Core.Path.{◌≡◌, refl, sym, ◌∙◌, ap}
-use mathlib.Core.Bool.{Bool, true, false, ◌&&◌}
+use mathlib.Core.Path.{◌≡◌, refl, sym, ◌∙◌}
+use mathlib.Core.Bool.{Bool, true, false, ◌&&◌, false≢true}
 use mathlib.Core.List.{List, [], ◌∷◌, ◌++◌}
 use lib.ListN.{length, length-append, length-map}
 use lib.Seq.{sets}
 use lib.Dec.{leb}
+use Rattle.std.specs.Prelude.{Option, Some, None}
+use Rattle.std.proofs.lemmas.Option.{cond_some, none-some}
 use borrow.Author.Tests.{le-leb, lt-leb}
 use Rattle.sas.specs.Task.{Assignment}
 use Rattle.sas.specs.Plan.{written}
@@ -15,20 +17,14 @@ use Rattle.sas.proofs.EffectLaws.{each_written}
 use Rattle.sheet.specs.Limits.{limits}
 use Rattle.sheet.specs.Layout.{first_edition}
 use Rattle.sheet.specs.Between.Encode.{fact_word, fact_words, effects_part, action_part}
-use Rattle.access.specs.Bits.{word_bits}
 use Rattle.access.proofs.StoreLaws.{stores_joined}
-use Rattle.meaning.specs.declared.numbers.Lines.{Lines}
-use Rattle.meaning.specs.declared.group.Gathered.{Gathered}
-use Rattle.task_sheet.specs.declared.action.Written.{Written}
-use Rattle.meaning.specs.Between.Sections.{ranges, goal_at, goal, prevail, old_values, new_values, action_at}
-use Rattle.meaning.specs.Between.Order.{put_in, ordered_action}
-use Rattle.meaning.specs.Between.Writable.{fit_in, group_fits, action_fits}
-use Rattle.sheet_writer.specs.Between.Held.{Holds, WritesHeld}
-use Rattle.meaning.specs.Between.Gathered.{fact_lines, effect_lines, line_facts, Gathers}
+use Rattle.meaning.specs.Between.Sections.{ranges, prevail, old_values, new_values, action_at}
+use Rattle.meaning.specs.Between.Order.{put_in, in_order, ordered_action}
+use Rattle.meaning.specs.Between.Writable.{group_fits, action_fits}
+use Rattle.meaning.specs.Between.Gathered.{Joins, Puts}
 use Rattle.sheet_writer.specs.Between.Laid.{part_most}
-use Rattle.task_sheet.specs.Between.Parts.{Writes, WritesPut, WritesOnto, WritesGroup}
-use Rattle.sheet_writer.proofs.HeldLaws.{nothing_held}
-use Rattle.meaning.proofs.GatherLaws.{and_whole, put_in_append, fit_in_append}
+use Rattle.task_sheet.specs.Between.Parts.{ends_if, Writes, WritesGroup}
+use Rattle.meaning.proofs.GatherLaws.{and_whole}
 use Rattle.meaning.proofs.OrderLaws.{no_conditions}
 use Rattle.meaning.proofs.OrderTheorem.{ordered_written}
 use Rattle.sheet_writer.proofs.LayLaws.{stores_apart}
@@ -38,67 +34,42 @@ and_none true b none = none
 and_none false b none = refl
 
 -- nothing is said of the words of what does not fit
-pub writes_unfit : {fit : Bool} {part : List ℕ} {most : ℕ} {before after : List ℕ} {at : ℕ} {r : Written} → fit ≡ false → r.fits ≡ false
-    → Writes fit part most before after at r
-writes_unfit none unfit =
-    record {
-      fits = unfit ∙ sym none;
-      few = λ fits. absurd (let z : ◌≡◌ {A = ℕ} 0 1 = cc in omega arith);
-      end = λ fits. absurd (let z : ◌≡◌ {A = ℕ} 0 1 = cc in omega arith);
-      written = λ fits. absurd (let z : ◌≡◌ {A = ℕ} 0 1 = cc in omega arith);
-    }
+pub writes_unfit : {fit : Bool} {part : List ℕ} {most : ℕ} {before after : List ℕ} {at : ℕ} → fit ≡ false → Writes fit part most before after at None
+writes_unfit none =
+    record { end = rw none; few = λ fits. absurd (false≢true (sym none ∙ fits)); written = λ fits. absurd (false≢true (sym none ∙ fits)) }
 
--- a group gathered from slots, and written where it fits
-module _ (ranges : List ℕ) (fs : Assignment) (first : List ℕ) (w₀ : ℕ) (slots : List ℕ) (g : Gathered) (gathers : Gathers ranges fs first w₀ slots g)
-    (before after : List ℕ) (at : ℕ) where
-  pub group_unfit : g.fits ≡ false → (r : Written) → r.fits ≡ false → WritesOnto ranges fs first w₀ before after at r
-  group_unfit none r unfit = record { onto = λ q held. writes_unfit (sym (gathers.fits q held) ∙ none) unfit }
+-- a word that is told is the end of what fits, and where none is told it does not
+pub ends_some : {fit : Bool} {end told : ℕ} → Some told ≡ ends_if fit end → (fit ≡ true) × (told ≡ end)
+ends_some {fit} e = let (fits, same) = cond_some fit _ _ (sym e) in (fits, sym same)
 
-  pub group_written : g.fits ≡ true → (end : ℕ) → WritesHeld slots g.present before after at end
-      → WritesOnto ranges fs first w₀ before after at (record { end = end; fits = true })
-  group_written fits end writes =
-      record {
-        onto = λ q held.
-            let holds : Holds slots g.present (put_in q fs) = gathers.holds fits q held in
-            record {
-              fits = sym fits ∙ gathers.fits q held;
-              few = λ _. writes.few _ holds;
-              end = λ _. writes.ends _ holds;
-              written = λ _. writes.written _ holds;
-            };
-      }
+pub ends_none : (fit : Bool) (end : ℕ) → None ≡ ends_if fit end → fit ≡ false
+ends_none true end e = absurd (none-some end e)
+ends_none false end e = refl
 
--- of a group that begins with nothing
-module _ (x : List ℕ) (lines : Lines) (slots before after : List ℕ) (at : ℕ) (r : Written) where
-  pub goal_written : (i : ℕ) → lines ≡ fact_lines x i → i ≡ goal_at x → WritesOnto (ranges x) (line_facts x lines) slots 0 before after at r
-      → WritesGroup (ranges x) (goal x) before after at r
-  unfolding goal
-  goal_written i told there writes = rw (told, there) at (writes.onto [] (nothing_held slots 0 word_bits))
+-- what is known of a part that was written
+pub record Written (part : List ℕ) (most : ℕ) (before after : List ℕ) (at end : ℕ) : Type 0 where
+  pub ends : end ≡ at + length part
+  pub few : length part ≤ most
+  pub stored : after ≡ sets before at part
 
--- the precondition of the operator that begins at number i
-module _ (x : List ℕ) (i : ℕ) (lines : Lines) (told : lines ≡ fact_lines x i) (first slots : List ℕ) (g : Gathered)
-    (gathers : Gathers (ranges x) (line_facts x lines) first 0 slots g) (before after : List ℕ) (at : ℕ) (r : Written) where
-  prevail_fits : g.fits ≡ group_fits (ranges x) (prevail x i)
-  prevail_fits = rw told at (gathers.fits [] (nothing_held first 0 word_bits))
+pub part_written : {fit : Bool} {part : List ℕ} {most : ℕ} {before after : List ℕ} {at end : ℕ} → Writes fit part most before after at (Some end)
+    → Written part most before after at end
+part_written writes = let (fits, ends) = ends_some writes.end in record { ends = ends; few = writes.few fits; stored = writes.written fits }
 
-  pub prevail_unfit : g.fits ≡ false → r.fits ≡ false → WritesGroup (ranges x) (prevail x i ++ old_values x i) before after at r
-  prevail_unfit none unfit =
-      writes_unfit (fit_in_append (ranges x) [] (prevail x i) (old_values x i)
-      ∙ ap (λ b. b && fit_in (ranges x) (put_in [] (prevail x i)) (old_values x i)) (sym prevail_fits ∙ none)) unfit
+-- a group gathered from nothing, and written where it fits
+module _ {ranges : List ℕ} {fs group : Assignment} {before after : List ℕ} {at : ℕ} where
+  pub group_unfit : Joins ranges fs [] group false → WritesGroup ranges fs before after at None
+  group_unfit joins = writes_unfit (sym joins.fits)
 
-  pub needed_written : g.fits ≡ true → (later : Lines) → later ≡ effect_lines x i 1
-      → WritesOnto (ranges x) (line_facts x later) slots g.present before after at r
-      → WritesGroup (ranges x) (prevail x i ++ old_values x i) before after at r
-  needed_written fits later also writes =
-      let held : Holds slots g.present (put_in [] (prevail x i)) = rw told at (gathers.holds fits [] (nothing_held first 0 word_bits)) in
-      let onto : WritesPut (ranges x) (put_in [] (prevail x i)) (old_values x i) before after at r = rw also at (writes.onto _ held) in
-      rw (put_in_append, fit_in_append, ← prevail_fits, fits) onto
+  pub group_written : Joins ranges fs [] group true → {end : ℕ} → Puts group before after at end → WritesGroup ranges fs before after at (Some end)
+  group_written joins puts =
+      let is : group ≡ in_order fs = joins.joined refl in
+      record { end = rw (← joins.fits, ← is, puts.ends); few = λ _. rw (← is) puts.few; written = λ _. rw (← is) puts.written }
 
--- the part of that operator
-module _ (x : List ℕ) (i : ℕ) (before middle after : List ℕ) (at : ℕ) (n : Written)
-    (needed : WritesGroup (ranges x) (prevail x i ++ old_values x i) before middle (at + 2) n) (r : Written) where
-  abbrev WritesAction : Type 0
-  WritesAction = Writes (action_fits (ranges x) (action_at x i)) (action_part first_edition (ordered_action (action_at x i))) part_most before after at r
+-- the part of the operator that begins at number i
+module _ (x : List ℕ) (i : ℕ) (before : List ℕ) (at : ℕ) where
+  abbrev WritesAction : List ℕ → Option ℕ → Type 0
+  WritesAction after r = Writes (action_fits (ranges x) (action_at x i)) (action_part first_edition (ordered_action (action_at x i))) part_most before after at r
 
   abbrev pre : Assignment
   pre = put_in [] (prevail x i ++ old_values x i)
@@ -121,32 +92,35 @@ module _ (x : List ℕ) (i : ℕ) (before middle after : List ℕ) (at : ℕ) (n
   unfolding action_part effects_part ordered_action action_at
   words = rw (ordered_written (action_at x i), writes_new)
 
-  pub action_unneeded : n.fits ≡ false → r.fits ≡ false → WritesAction
-  action_unneeded none unfit = writes_unfit (tests ∙ rw (← needed.fits, none)) unfit
+  pub action_dear : limits.cost < (action_at x i).cost → (after : List ℕ) → WritesAction after None
+  action_dear dear after = writes_unfit (tests ∙ and_none (group_fits _ _) _ (and_none (group_fits _ _) _ (lt-leb _ _ dear)))
 
-  pub action_dear : limits.cost < (action_at x i).cost → r.fits ≡ false → WritesAction
-  action_dear dear unfit = writes_unfit (tests ∙ and_none (group_fits _ _) _ (and_none (group_fits _ _) _ (lt-leb _ _ dear))) unfit
+  abbrev WritesNeeded : List ℕ → Option ℕ → Type 0
+  WritesNeeded middle n = WritesGroup (ranges x) (prevail x i ++ old_values x i) before middle (at + 2) n
 
-  pub action_written : n.fits ≡ true → (price : ℕ) → price ≡ (action_at x i).cost → price ≤ limits.cost
-      → (headed : List ℕ) → headed ≡ sets middle at (price ∷ (n.end - at - 2) ∷ [])
-      → (lines : Lines) → lines ≡ effect_lines x i 2 → (slots : List ℕ)
-      → WritesOnto (ranges x) (line_facts x lines) slots 0 headed after n.end r → WritesAction
-  action_written fits price priced cheap headed stored lines told slots writes =
+  pub action_unneeded : {middle : List ℕ} → WritesNeeded middle None → WritesAction middle None
+  action_unneeded needed = writes_unfit (tests ∙ rw (ends_none _ _ needed.end))
+
+  pub action_written : {middle : List ℕ} (n : ℕ) → WritesNeeded middle (Some n) → (price : ℕ) → price ≡ (action_at x i).cost → price ≤ limits.cost
+      → (headed : List ℕ) → headed ≡ sets middle at (price ∷ (n - (at + 2)) ∷ []) → (after : List ℕ) (r : Option ℕ)
+      → WritesGroup (ranges x) (new_values x i) headed after n r → WritesAction after r
+  action_written n needed price priced cheap headed stored after r wrote =
+      let fits : group_fits (ranges x) (prevail x i ++ old_values x i) ≡ true = (ends_some needed.end).0 in
+      let ends : n ≡ at + 2 + length (fact_words pre) = (ends_some needed.end).1 in
       let head : List ℕ = price ∷ length pre ∷ [] in
-      let wrote : WritesGroup (ranges x) (new_values x i) headed after n.end r = rw told at (writes.onto [] (nothing_held slots 0 word_bits)) in
-      let ends : n.end ≡ at + 2 + length (fact_words pre) = needed.end fits in
       let many : length (fact_words pre) ≡ length pre = length-map pre fact_word in
-      let count : n.end - at - 2 ≡ length pre = omega arith in
+      let count : n - (at + 2) ≡ length pre = omega arith in
       let long : length (fact_words pre ++ fact_words eff) ≡ length (fact_words pre) + length (fact_words eff) =
       length-append (fact_words pre) (fact_words eff) in
+      let apart : at + length head ≤ at + 2 = omega arith in
       let heads : headed ≡ sets before at (head ++ fact_words pre) =
-      stored
-      ∙ rw (count, needed.written fits)
-      (sym (stores_apart before at head (at + 2) (fact_words pre) (omega arith)) ∙ stores_joined before head (fact_words pre) at) in
-      let behind : n.end ≡ at + length (head ++ fact_words pre) = omega arith in
+      stored ∙ rw (count, needed.written fits) (sym (stores_apart before at head (at + 2) (fact_words pre) apart) ∙ stores_joined before head (fact_words pre) at) in
+      let behind : n ≡ at + length (head ++ fact_words pre) = omega arith in
+      let whole : action_fits (ranges x) (action_at x i) ≡ group_fits (ranges x) (new_values x i) =
+      tests ∙ rw (fits, ← priced, le-leb price limits.cost cheap, and_whole) in
+      let end : n + length (fact_words eff) ≡ at + length ((action_at x i).cost ∷ length pre ∷ (fact_words pre ++ fact_words eff)) = omega arith in
       rw words (record {
-        fits = wrote.fits ∙ rw (tests, ← needed.fits, fits, ← priced, le-leb price limits.cost cheap) (sym (and_whole _));
-        few = λ done. omega (arith, needed.few fits, wrote.few done);
-        end = λ done. wrote.end done ∙ omega arith;
-        written = λ done. wrote.written done ∙ rw (heads, behind, stores_joined before (head ++ fact_words pre) (fact_words eff) at, ← priced);
+        end = rw (whole, ← end) wrote.end;
+        few = λ done. omega (arith, needed.few fits, wrote.few (sym whole ∙ done));
+        written = λ done. wrote.written (sym whole ∙ done) ∙ rw (heads, behind, stores_joined before (head ++ fact_words pre) (fact_words eff) at, ← priced);
       })

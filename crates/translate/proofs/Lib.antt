@@ -1,5 +1,3 @@
--- InputLaws: how far an input was read.
-pub mod InputLaws
 -- SayLaws: an answer put into lent bytes.
 pub mod SayLaws
 -- TranslateLaws: what is answered to a text, by what the service tells of it.

@@ -11,7 +11,7 @@ use mathlib.Core.List.{List}
 use lib.ListN.{length, take}
 use lib.Seq.{take_all, length-take-le}
 use lib.Dec.{ltb}
-use lib.IntN.{ℤ, pos, negsuc}
+use Rattle.std.specs.Prelude.{Option as Maybe, Some, None}
 use borrow.Author.Tests.{lt-ltb, ltb-true, ltb-false}
 use Rattle.refusal.specs.Place.{when}
 use Rattle.refusal.specs.Refusal.{Told}
@@ -67,7 +67,7 @@ cut_translated text n more = by_case (ltb n (length text)) refl
 
 -- so what is answered to the bytes read, into more bytes than a text may have, is what is answered to the whole input
 module _ (whole bytes : List ℕ) (input : Input) (more : most_bytes < length bytes) (read : HasReadText bytes input) (from : TextFrom whole bytes input) where
-  read_suffices : (k : ℕ) → input.last ≡ pos k → translated (take input.count whole) ≡ translated whole
+  read_suffices : (k : ℕ) → input.last ≡ Some k → translated (take input.count whole) ≡ translated whole
   read_suffices k gave = by_room (ltb input.count (length bytes)) refl
     where
       by_room : (b : Bool) → ltb input.count (length bytes) ≡ b → translated (take input.count whole) ≡ translated whole
@@ -77,13 +77,13 @@ module _ (whole bytes : List ℕ) (input : Input) (more : most_bytes < length by
           room = ltb-true input.count (length bytes) e
 
           by_end : (k ≡ 0) ⊎ (input.count ≡ length bytes) → translated (take input.count whole) ≡ translated whole
-          by_end (inl no_byte) = ap translated (take_all input.count whole (from.at_end (gave ∙ ap pos no_byte) room))
+          by_end (inl no_byte) = ap translated (take_all input.count whole (from.at_end (gave ∙ ap Some no_byte) room))
           by_end (inr full) = absurd (omega (arith, room))
       by_room false e = cut_translated whole input.count (omega (arith, ltb-false input.count (length bytes) e))
 
   pub answered_to_all : translated_input input.last (take input.count bytes) ≡ translated_input input.last whole
-  answered_to_all = by_sign input.last refl
+  answered_to_all = by_case input.last refl
     where
-      by_sign : (z : ℤ) → input.last ≡ z → translated_input z (take input.count bytes) ≡ translated_input z whole
-      by_sign (pos k) gave = ap translated from.in_order ∙ read_suffices k gave
-      by_sign (negsuc k) gave = refl
+      by_case : (o : Maybe ℕ) → input.last ≡ o → translated_input o (take input.count bytes) ≡ translated_input o whole
+      by_case (Some k) gave = ap translated from.in_order ∙ read_suffices k gave
+      by_case None gave = refl

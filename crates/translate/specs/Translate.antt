@@ -1,6 +1,6 @@
 -- What the program `translate` answers to a planner's text (document 02, C-11): the words of its sheet, as bytes, or
 -- its refusal. Assumes nothing.
-use Rattle.std.specs.Prelude.{ℕ, List, [], take, ℤ, pos, negsuc}
+use Rattle.std.specs.Prelude.{ℕ, Option, Some, None, List, [], take}
 use Rattle.std.proofs.Math.Option.{none, some}
 use Rattle.ascii.specs.Bytes.{ascii}
 use Rattle.refusal.specs.Refusal.{Told}
@@ -26,11 +26,10 @@ translated text =
       | some t ↦ only_refuses t
     ]
 
--- and to input of which these bytes were read, where the last call of `read` gave this: a negative number says that it
--- failed
-abbrev pub translated_input : ℤ → List ℕ → Answer
-translated_input (pos k) text = translated text
-translated_input (negsuc k) text = only_says (ascii "the text can't be read")
+-- and to input of which these bytes were read, where the last call of `read` gave so many, or failed
+abbrev pub translated_input : Option ℕ → List ℕ → Answer
+translated_input (Some k) text = translated text
+translated_input None text = only_says (ascii "the text can't be read")
 
 -- what the program has done: what it has read, and its answer, which is that to the bytes read and the last call
 pub record HasTranslated (bytes : List ℕ) (done : Translating) (out out' errors errors' : List ℕ) : Type 0 where

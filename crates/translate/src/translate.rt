@@ -8,12 +8,11 @@ ghost use Rattle.translate.specs.Translate.{translated, translated_input, HasTra
 
 use crate::answer::{Answered, refuse};
 use crate::input::{Input, read_input};
-use access::front;
 use program::output::put_refusal;
 use program::pack::pack;
 use sheet::limits::Sheet;
 use std::io::Read;
-use translation::translate::{Translated, translate};
+use translation::translate::translate;
 
 // Translates a text. What is said of it has room in a line.
 fn translate_text(text: &[u8], out: &mut [u8], errors: &mut [u8]) -> Answered
@@ -22,15 +21,14 @@ fn translate_text(text: &[u8], out: &mut [u8], errors: &mut [u8]) -> Answered
     ensures text_len_bound { length (translated text.now).said ≤ line_room }
 {
     let mut words = [0u32; Sheet::WORDS];
-    let sheet = translate(text, &mut words);
-    match sheet {
-        Translated::Refused(refusal) => {
+    match translate(text, &mut words) {
+        Ok(n) => {
+            let written = pack(&words[..n], out);
+            Answered { written, said: 0 }
+        }
+        Err(refusal) => {
             let said = put_refusal(errors, 0, refusal);
             Answered { written: 0, said }
-        }
-        Translated::Written(n) => {
-            let written = pack(front(&words, n), out);
-            Answered { written, said: 0 }
         }
     }
 }
@@ -57,12 +55,14 @@ pub(crate) fn translate_input<R: Read>(
         ≤ line_room }
 {
     let input = read_input(reader, bytes);
-    let read = input.count;
-    let last = input.last;
-    if last < 0 {
-        let answer = refuse(errors, b"the text can't be read");
-        return Translating { input, answer };
+    match input.last {
+        Some(_) => {
+            let answer = translate_text(&bytes[..input.count], out, errors);
+            Translating { input, answer }
+        }
+        None => {
+            let answer = refuse(errors, b"the text can't be read");
+            Translating { input, answer }
+        }
     }
-    let answer = translate_text(&bytes[..read], out, errors);
-    Translating { input, answer }
 }

@@ -1,13 +1,13 @@
 -- What the service answers, by each way to a return: the check that fires, or the sheet that is written. Assumes nothing.
-use Rattle.std.specs.Prelude.{None, Some}
+use Rattle.std.specs.Prelude.{None, Some, Ok, Err, Result}
 use Prim.Native.Nat.{ℕ, ◌+◌, ◌*◌, ◌≤◌, ◌<◌}
 use native.Mathlib.Omega.{arith}
 use mathlib.Core.Path.{◌≡◌, refl, sym, ◌∙◌, ap, subst}
 use mathlib.Core.Bool.{Bool, true, false}
 use mathlib.Core.Option.{none, some}
-use mathlib.Core.List.{List, []}
+use mathlib.Core.List.{List, [], ◌++◌}
 use lib.ListN.{length, take, drop}
-use lib.Seq.{sets, sets-eq, drop_at}
+use lib.Seq.{take-append_seam, drop_at}
 use lib.Dec.{ltb}
 use borrow.Author.Tests.{lt-ltb, le-ltb}
 use Rattle.refusal.specs.Place.{Place}
@@ -22,15 +22,13 @@ use Rattle.form.specs.Between.Form.{walked, whole, broken_line, unsupported_line
 use Rattle.form.specs.Between.Reading.{Outcome}
 use Rattle.form.specs.Between.Reading.Outcome.{Broken, Whole}
 use Rattle.text_sections.specs.Between.Outcome.{text_outcome, found_in}
-use Rattle.task_sheet.specs.declared.build.Built.{Built}
 use Rattle.meaning.specs.Between.Sections.{meaning}
 use Rattle.meaning.specs.Between.Order.{ordered}
 use Rattle.meaning.specs.Between.Writable.{writable}
 use Rattle.task_sheet.specs.Between.Built.{Builds}
-use Rattle.sheet_writer.proofs.SheetLaws.{front_stored}
+use Rattle.task_sheet.proofs.PartLaws.{ends_some, ends_none}
 use Rattle.meaning.proofs.OrderTheorem.{writable_fits}
-use Rattle.translation.specs.declared.translate.Translated.{Translated}
-use Rattle.translation.specs.declared.translate.Translated.TheVariants.{Refused, Written}
+use Rattle.refusal.specs.declared.Refusal.{Refusal}
 use Rattle.translation.specs.Between.Checks.{task_checks, translation_checks, WritesSheet, LeavesTask, AnswersChecks}
 use Rattle.translation.specs.Between.Written.{WritesTask}
 
@@ -52,22 +50,15 @@ module _ (x : List ℕ) (room : ℕ) where
   told_none fits long = rw (fits, le-ltb room words_needed long)
 
 -- the sheet of a task that can be written, at the front of lent words
-module _ (T : Task) where
-  sheet_written : (before after : List ℕ) (n : ℕ) → n ≡ length (encode first_edition (ordered T)) → n ≤ length before
-      → after ≡ sets before 0 (encode first_edition (ordered T)) → WritesSheet T before n after
-  sheet_written before after n counted room stored =
-      let s : List ℕ = encode first_edition (ordered T) in
-      let long : length s ≤ length before = rw counted at room in
-      let front : take n after ≡ s = ap (take n) stored ∙ ap (λ k. take k (sets before 0 s)) counted ∙ front_stored s before long in
-      let same : 0 + length s ≡ n = omega arith in
-      let behind : drop n after ≡ drop n before =
-      ap (drop n) (stored ∙ sets-eq s before 0 (omega arith)) ∙ drop_at s (drop (0 + length s) before) n (sym counted) ∙ ap (λ k. drop k before) same in
-      record {
-        room = room;
-        sheet = front;
-        counted = counted;
-        rest = behind;
-      }
+sheet_front : (T : Task) (before after : List ℕ) (n : ℕ) → n ≡ length (encode first_edition (ordered T)) → n ≤ length before
+    → after ≡ encode first_edition (ordered T) ++ drop n before → WritesSheet T before n after
+sheet_front T before after n counted room is =
+    record {
+      room = room;
+      sheet = rw (is, counted) (take-append_seam (encode first_edition (ordered T)) (drop (length (encode first_edition (ordered T))) before));
+      counted = counted;
+      rest = ap (drop n) is ∙ drop_at (encode first_edition (ordered T)) (drop n before) n (sym counted);
+    }
 
 -- what an outcome holds
 abbrev is_whole : Outcome → Bool
@@ -178,41 +169,45 @@ module _ (room : ℕ) (half : most_bytes ≡ 2 * room) (text : List ℕ) where
     told_rest k e = told_passed text k not_long has_form (sym read_barred ∙ e)
 
 -- the ways to a return of the function that writes the sheet
-module _ {x sheet sheet' : List ℕ} {b : Built} (builds : Builds x sheet sheet' b) (before : List ℕ) where
-  pub writes_unfit : b.fits ≡ false → WritesTask x before (Refused refusal.Unwritable) before
-  writes_unfit unfit = record { answers = told_unwritable x (length before) (sym builds.fits ∙ unfit); leaves = refl }
+module _ {x sheet sheet' : List ℕ} (before : List ℕ) where
+  pub writes_unfit : Builds x sheet sheet' None → WritesTask x before (Err refusal.Unwritable) before
+  writes_unfit builds = record { answers = told_unwritable x (length before) (ends_none _ _ builds.words); leaves = refl }
 
-  module _ (fits : b.fits ≡ true) where
+  module _ {n : ℕ} (builds : Builds x sheet sheet' (Some n)) where
     can : writable (meaning x) ≡ true
-    can = sym builds.fits ∙ fits
+    can = (ends_some builds.words).0
 
-    pub writes_short : length before < b.words → WritesTask x before (Refused (refusal.ShortOutput b.words)) before
-    writes_short short =
-        let needed : b.words ≡ words_needed x (length before) = builds.words fits in
-        record { answers = rw needed (told_short x (length before) can (rw needed at short)); leaves = refl }
+    needed : n ≡ words_needed x (length before)
+    needed = (ends_some builds.words).1
 
-    pub writes_sheet : limits.words ≤ length sheet → b.words ≤ length before → (after : List ℕ) → after ≡ sets before 0 (take b.words sheet')
-        → WritesTask x before (Written b.words) after
-    writes_sheet room fit after stored =
-        let needed : b.words ≡ words_needed x (length before) = builds.words fits in
-        let small : b.words ≤ length sheet = omega (arith, (writable_fits (meaning x) can).words) in
-        let words : take b.words sheet' ≡ encode first_edition (ordered (meaning x)) = builds.written fits small in
+    pub writes_short : length before < n → WritesTask x before (Err (refusal.ShortOutput n)) before
+    writes_short short = record { answers = rw needed (told_short x (length before) can (rw needed at short)); leaves = refl }
+
+    few : n ≤ limits.words
+    few = rw needed (writable_fits (meaning x) can).words
+
+    pub words_inside : limits.words ≤ length sheet' → n ≤ length sheet'
+    words_inside room = omega (arith, few)
+
+    pub writes_sheet : length sheet' ≡ length sheet → n ≤ length sheet' → n ≤ length before → (after : List ℕ) → after ≡ take n sheet' ++ drop n before → WritesTask x before (Ok n) after
+    writes_sheet same inside fit after is =
+        let words : take n sheet' ≡ encode first_edition (ordered (meaning x)) = rw needed (builds.written can (rw (same, needed) at inside)) in
         record {
           answers = told_none x (length before) can (rw needed at fit);
-          leaves = sheet_written (meaning x) before after b.words needed fit (stored ∙ ap (sets before 0) words);
+          leaves = sheet_front (meaning x) before after n needed fit (is ∙ ap (λ l. l ++ drop n before) words);
         }
 
 -- the ways to a return of the service
 module _ (room : ℕ) (half : most_bytes ≡ 2 * room) (text before : List ℕ) where
-  pub translates_broken : (n : ℕ) → Broken n ≡ found_in room text → AnswersChecks text before (Refused (refusal.Form n)) before
+  pub translates_broken : (n : ℕ) → Broken n ≡ found_in room text → AnswersChecks text before (Err (refusal.Form n)) before
   translates_broken n found = record { answers = told_broken room half text n (length before) found; leaves = refl }
 
   module _ (xs : List ℕ) (barred : Place) (found : Whole xs barred ≡ found_in room text) where
-    pub translates_barred : (line : ℕ) → barred ≡ Some line → AnswersChecks text before (Refused (refusal.Unsupported line)) before
+    pub translates_barred : (line : ℕ) → barred ≡ Some line → AnswersChecks text before (Err (refusal.Unsupported line)) before
     translates_barred line some_line =
         record { answers = told_unsupported room half text _ _ found line (length before) some_line; leaves = refl }
 
-    pub translates_task : barred ≡ None → (r : Translated) (after : List ℕ) → WritesTask xs before r after → AnswersChecks text before r after
+    pub translates_task : barred ≡ None → (r : Result ℕ Refusal) (after : List ℕ) → WritesTask xs before r after → AnswersChecks text before r after
     translates_task no_line r after writes =
         let read : xs ≡ numbers_of text = read_numbers room half text _ _ found in
         let rest = told_rest room half text _ _ found (length before) no_line in

@@ -1,6 +1,6 @@
 -- What is answered by the checks of a text is what document 02 asks for; and every text is either a planner's text or has
 -- a line that breaks the form. Assumes nothing.
-use Rattle.std.specs.Prelude.{None, Some}
+use Rattle.std.specs.Prelude.{None, Some, Ok, Err, Result}
 use Prim.Native.Nat.{ℕ, ◌+◌, ◌≤◌, ◌<◌}
 use native.Mathlib.Omega.{arith}
 use mathlib.Core.Path.{◌≡◌, refl, sym, ◌∙◌, ap, subst}
@@ -25,8 +25,7 @@ use Rattle.planner.specs.Printed.{Line, lines}
 use Rattle.planner.specs.Meant.{meant, first_barred, unsayable}
 use Rattle.planner.specs.Broken.{Formed, Prints, Breaks}
 use Rattle.printed_form.proofs.PrintedTheorem.{lines_few, whole_printed, printed_whole, printed_numbers, printed_barred, broken_breaks, breaks_once, no_text_breaks}
-use Rattle.translation.specs.declared.translate.Translated.{Translated}
-use Rattle.translation.specs.declared.translate.Translated.TheVariants.{Refused, Written}
+use Rattle.refusal.specs.declared.Refusal.{Refusal}
 use Rattle.translation.specs.Translation.{SheetOf, ToldOf, ToldOfBytes, Leaves, Translates}
 use Rattle.translation.specs.Between.Checks.{text_sheet, task_checks, translation_checks, AnswersChecks, LeavesTask}
 use Rattle.translation.proofs.TranslationLaws.{told_unwritable, told_short, told_none, told_long, told_form, told_barred, told_passed}
@@ -161,15 +160,15 @@ told_of_bytes bytes room =
             ∙ ap (λ k. some (record { number = 13; place = k })) (breaks_once bytes _ n (broken_breaks bytes few e) broken)
 
 -- so the service answers what it asks for
-leaves_sheet : (T : Task) (before : List ℕ) (r : Translated) (after : List ℕ) → LeavesTask T before r after
+leaves_sheet : (T : Task) (before : List ℕ) (r : Result ℕ Refusal) (after : List ℕ) → LeavesTask T before r after
     → Leaves (encode first_edition (ordered T)) before r after
-leaves_sheet T before (Refused r) after leaves = leaves
-leaves_sheet T before (Written n) after leaves = (
+leaves_sheet T before (Err r) after leaves = leaves
+leaves_sheet T before (Ok n) after leaves = (
   leaves.counted,
   sym (take-append-drop n after) ∙ ap (λ v. v ++ drop n after) leaves.sheet ∙ ap (λ v. encode first_edition (ordered T) ++ v) leaves.rest,
 )
 
-pub checks_translate : (bytes before : List ℕ) (r : Translated) (after : List ℕ) → AnswersChecks bytes before r after → Translates bytes before r after
+pub checks_translate : (bytes before : List ℕ) (r : Result ℕ Refusal) (after : List ℕ) → AnswersChecks bytes before r after → Translates bytes before r after
 checks_translate bytes before r after checks =
     record {
       sheet = text_sheet bytes;

@@ -1,7 +1,7 @@
 -- What is answered to a planner's text, read into a sheet (document 02, C-11). Which of these cases it is, and which
 -- text, line or sheet they speak of, is told by the text alone (`text_or_break`, `prints_once`, `breaks_once`,
 -- `no_text_breaks`, `sheet_once`, `sheet_or_none`). Assumes nothing.
-use Rattle.std.specs.Prelude.{ℕ, ◌+◌, ◌≤◌, ◌<◌, ◌≡◌, Bool, cond, ◌&&◌, List, [], ◌∷◌, ◌++◌, length, drop, eqb, None, Some}
+use Rattle.std.specs.Prelude.{ℕ, ◌+◌, ◌≤◌, ◌<◌, ◌≡◌, Bool, cond, ◌&&◌, List, [], ◌∷◌, ◌++◌, length, drop, eqb, None, Some, Result, Ok, Err}
 use Rattle.std.proofs.Math.Option.{Option, none, some}
 use Rattle.refusal.specs.Refusal.{Told, told_refusal}
 use Rattle.sas.specs.Task.{Fact, Assignment, Effect, Action, Task}
@@ -10,8 +10,7 @@ use Rattle.sheet.specs.Causes.{Accepted}
 use Rattle.planner.specs.Text.{Text, most_bytes}
 use Rattle.planner.specs.Meant.{meant, unsayable}
 use Rattle.planner.specs.Broken.{Prints, Breaks}
-use Rattle.translation.specs.declared.translate.Translated.{Translated}
-use Rattle.translation.specs.declared.translate.Translated.TheVariants.{Refused, Written}
+use Rattle.refusal.specs.declared.Refusal.{Refusal}
 
 -- two facts are the same
 abbrev pub alike : Fact → Fact → Bool
@@ -79,17 +78,17 @@ pub record ToldOfBytes (bytes : List ℕ) (room : ℕ) (refusal : Option Told) (
   pub reads : length bytes ≤ most_bytes → (t : Text) → Prints t bytes → ToldOf t room refusal sheet
 
 -- what the service answers: a refusal, if it is one
-abbrev pub told_translated : Translated → Option Told
-told_translated (Refused r) = some (told_refusal r)
-told_translated (Written n) = none
+abbrev pub told_translated : Result ℕ Refusal → Option Told
+told_translated (Err r) = some (told_refusal r)
+told_translated (Ok n) = none
 
 -- the lent words behind a refusal, and with a sheet at their front
-abbrev pub Leaves : List ℕ → List ℕ → Translated → List ℕ → Type 0
-Leaves sheet before (Refused r) after = after ≡ before
-Leaves sheet before (Written n) after = (n ≡ length sheet) × (after ≡ sheet ++ drop n before)
+abbrev pub Leaves : List ℕ → List ℕ → Result ℕ Refusal → List ℕ → Type 0
+Leaves sheet before (Err r) after = after ≡ before
+Leaves sheet before (Ok n) after = (n ≡ length sheet) × (after ≡ sheet ++ drop n before)
 
 -- the service, for every text and every lent output
-pub record Translates (bytes before : List ℕ) (r : Translated) (after : List ℕ) : Type 0 where
+pub record Translates (bytes before : List ℕ) (r : Result ℕ Refusal) (after : List ℕ) : Type 0 where
   pub sheet : List ℕ
   pub told : ToldOfBytes bytes (length before) (told_translated r) sheet
   pub leaves : Leaves sheet before r after

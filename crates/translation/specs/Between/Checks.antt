@@ -1,6 +1,6 @@
 -- What is answered to a planner's text, as it is computed: by checks of its lines and of its numbers, in the order in
 -- which they run (`told_of_bytes` says that it is what document 02 asks for). Assumes nothing.
-use Rattle.std.specs.Prelude.{ℕ, ◌≤◌, ◌≡◌, not, List, [], ◌∷◌, length, take, drop, ltb}
+use Rattle.std.specs.Prelude.{ℕ, ◌≤◌, ◌≡◌, not, List, [], ◌∷◌, length, take, drop, ltb, Result, Ok, Err}
 use Rattle.refusal.specs.Place.{when}
 use Rattle.refusal.specs.Check.{Check, answer}
 use Rattle.sas.specs.Task.{Task}
@@ -11,8 +11,7 @@ use Rattle.form.specs.Between.Form.{broken_line, unsupported_line, numbers_of}
 use Rattle.meaning.specs.Between.Sections.{meaning}
 use Rattle.meaning.specs.Between.Order.{ordered}
 use Rattle.meaning.specs.Between.Writable.{writable}
-use Rattle.translation.specs.declared.translate.Translated.{Translated}
-use Rattle.translation.specs.declared.translate.Translated.TheVariants.{Refused, Written}
+use Rattle.refusal.specs.declared.Refusal.{Refusal}
 use Rattle.translation.specs.Translation.{told_translated}
 
 -- the task that a text means, and the words of its sheet, each group of facts in rising order
@@ -47,11 +46,11 @@ pub record WritesSheet (T : Task) (before : List ℕ) (n : ℕ) (after : List �
   pub rest : drop n after ≡ drop n before
 
 -- the lent words after it: on a refusal no word changes
-abbrev pub LeavesTask : Task → List ℕ → Translated → List ℕ → Type 0
-LeavesTask T before (Refused r) after = after ≡ before
-LeavesTask T before (Written n) after = WritesSheet T before n after
+abbrev pub LeavesTask : Task → List ℕ → Result ℕ Refusal → List ℕ → Type 0
+LeavesTask T before (Err r) after = after ≡ before
+LeavesTask T before (Ok n) after = WritesSheet T before n after
 
 -- the first check that fires is answered and no word changes, or none fires and the sheet is written
-pub record AnswersChecks (text before : List ℕ) (r : Translated) (after : List ℕ) : Type 0 where
+pub record AnswersChecks (text before : List ℕ) (r : Result ℕ Refusal) (after : List ℕ) : Type 0 where
   pub answers : told_translated r ≡ answer (translation_checks text (length before))
   pub leaves : LeavesTask (text_task text) before r after

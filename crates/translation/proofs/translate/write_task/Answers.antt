@@ -1,20 +1,43 @@
 -- `write_task` meets its contract: a law for each way to a return. Assumes nothing.
+use Rattle.std.proofs.Common.{◌≡◌, ◌∙◌, refl, sym, rules, Err}
 use native.Mathlib.Omega.{arith}
-use Prim.Native.Nat.{ℕ}
+use Prim.Native.Nat.{ℕ, ◌≤◌}
+use lib.ListN.{length, length-replicate}
+use lib.Seq.{length-take-le}
+use Rattle.refusal.specs.declared.Refusal.TheVariants as refusal
 use Rattle.sheet.specs.Limits.{limits}
-use mathlib.Core.Path.{◌∙◌, ap}
-use lib.ListN.{length-replicate}
-use lib.Seq.{sets}
-use Rattle.translation.proofs.TranslationLaws.{writes_unfit, writes_short, writes_sheet}
+use Rattle.translation.proofs.TranslationLaws.{writes_unfit, writes_short, words_inside, writes_sheet}
 use Rattle.translation.proofs.translate.write_task.Goals as goal
 
-pub returns-then-out-words : goal.returns-then-out-words
-returns-then-out-words c = writes_short c.build-built.ensures _ c.if-built.true c.if-out-words.true
+pub returns-in_err-words : goal.returns-in_err-words
+returns-in_err-words c =
+    let told : c.from_residual.result ≡ Err refusal.Unwritable = search rules in
+    rw told (writes_unfit _ (rw c.in_err-words.ensures.ok_part at c.build.ensures))
 
-pub returns-then-built : goal.returns-then-built
-returns-then-built c =
-    writes_sheet c.build-built.ensures _ c.if-built.true (omega (arith, length-replicate {A = ℕ} limits.words 0))
-    c.if-out-words.false _ (c.put_all.ensures ∙ ap (sets _ 0) c.front.ensures)
+pub returns-then-out-words : goal.returns-then-out-words
+returns-then-out-words c = writes_short _ (rw c.in_ok-words.ensures.ok_part at c.build.ensures) c.if-out-words.true
+
+-- the sheet has room for its words
+inside : (c : goal.After-sheet-3-1) → c.in_ok-words.words ≤ length c.build.new.sheet
+inside c =
+    words_inside c.args.out.now (rw c.in_ok-words.ensures.ok_part at c.build.ensures)
+    (omega (arith, c.build.auto.sheet, length-replicate {A = ℕ} limits.words 0))
+
+pub slice_bounds-sheet-end : goal.slice_bounds-sheet-end
+slice_bounds-sheet-end c =
+    words_inside c.args.out.now (rw c.in_ok-words.ensures.ok_part at c.build.ensures)
+    (omega (arith, c.build.auto.sheet, length-replicate {A = ℕ} limits.words 0))
+
+pub slice_bounds-copy_from_slice-end-3 : goal.slice_bounds-copy_from_slice-end-3
+slice_bounds-copy_from_slice-end-3 c = sym (length-take-le _ _ (inside c))
+
+pub copy_from_slice-requires : goal.copy_from_slice-requires
+copy_from_slice-requires c = length-take-le _ _ c.if-out-words.false ∙ sym (length-take-le _ _ (inside c))
 
 pub returns : goal.returns
-returns c = writes_unfit c.build-built.ensures _ c.if-built.false
+returns c =
+    let room =
+    words_inside c.args.out.now (rw c.in_ok-words.ensures.ok_part at c.build.ensures)
+    (omega (arith, c.build.auto.sheet, length-replicate {A = ℕ} limits.words 0)) in
+    writes_sheet _ (rw c.in_ok-words.ensures.ok_part at c.build.ensures) c.build.auto.sheet room c.if-out-words.false _
+    (rw c.copy_from_slice.ensures.after refl)
