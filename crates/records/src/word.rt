@@ -15,6 +15,10 @@ pub fn word_at(bytes: &[u8], i: usize) -> u32
     ensures { (result ≡ word_at bytes.now i) × (result < 2 ^ 32) }
 {
     let at = WORD * i;
-    let high = byte(bytes, at + 2) as u32 + BYTE * byte(bytes, at + 3) as u32;
-    byte(bytes, at) as u32 + BYTE * (byte(bytes, at + 1) as u32 + BYTE * high)
+    u32::from_le_bytes([
+        byte(bytes, at),
+        byte(bytes, at + 1),
+        byte(bytes, at + 2),
+        byte(bytes, at + 3),
+    ])
 }
