@@ -1,52 +1,48 @@
 // Reads and writes that are safe at any index: past the end a read finds 0, and a write does nothing.
 #![tactic(auto)]
 
-ghost use Rattle.std.specs.Prelude.{◌≡◌, true, false, min, ◌+◌, ◌<◌, ◌^◌, length, get_or, set, take};
+ghost use Rattle.std.specs.Prelude.{◌≡◌, true, false, ◌+◌, ◌<◌, ◌^◌, length, get_or, set, take};
 ghost use Rattle.std.proofs.lemmas.List.Edits.{sets};
 ghost use Rattle.access.specs.Bits.{word_bits};
 ghost use Rattle.access.specs.Between.Places.{ones_at, at_places};
 
-// The word at index i.
-pub fn word(words: &[u32], i: usize) -> u32
-    ensures { (result ≡ get_or words.now i 0) × (result < 2 ^ 32) }
+// The element at index i, or `absent` past the end.
+pub fn get_or<T: Copy>(elements: &[T], i: usize, absent: T) -> T
+    ensures { result ≡ get_or elements.now i absent }
 {
-    if i < words.len() { words[i] } else { 0 }
+    if i < elements.len() {
+        elements[i]
+    } else {
+        absent
+    }
 }
 
-// The first n words, or all where there are fewer.
-pub fn front(words: &[u32], n: usize) -> &[u32]
-    ensures { result.now ≡ take n words.now }
+// The first n elements, or all where there are fewer.
+pub fn front<T>(elements: &[T], n: usize) -> &[T]
+    ensures { result.now ≡ take n elements.now }
 {
-    if n < words.len() { &words[..n] } else { words }
+    if n < elements.len() {
+        &elements[..n]
+    } else {
+        elements
+    }
 }
 
 // Writes x at index i.
-pub fn put(words: &mut [u32], i: usize, x: u32)
-    ensures { words.new ≡ set words.old i x }
+pub fn put<T: Copy>(elements: &mut [T], i: usize, x: T)
+    ensures { elements.new ≡ set elements.old i x }
 {
-    if i < words.len() {
-        words[i] = x;
+    if i < elements.len() {
+        elements[i] = x;
     }
 }
 
-// The smaller of two lengths.
-fn smaller(a: usize, b: usize) -> usize
-    ensures { result ≡ min a b }
+// Writes values over the first elements. What there is no room for is dropped.
+pub fn put_all<T: Copy>(elements: &mut [T], values: &[T])
+    ensures { elements.new ≡ sets elements.old 0 values.now }
 {
-    if a < b { a } else { b }
-}
-
-// Writes words over the first ones. What there is no room for is dropped. How many there are to write is settled
-// before the first is written, so that the loop is a copy.
-pub fn put_all(words: &mut [u32], values: &[u32])
-    ensures { words.new ≡ sets words.old 0 values.now }
-{
-    let n = smaller(words.len(), values.len());
-    let mut v = 0;
-    while v < n {
-        words[v] = values[v];
-        v += 1;
-    }
+    let n = elements.len().min(values.len());
+    elements[..n].copy_from_slice(&values[..n]);
 }
 
 // Writes the words at the places of the ones in `bits`, whose lowest bit has place `from`, to `out` from index `at` on.
@@ -60,11 +56,18 @@ pub fn write_word(bits: u64, from: u32, words: &[u32], out: &mut [u32], at: u32)
     let mut to = at as usize;
     while rest != 0 {
         let lowest = u64::trailing_zeros(rest);
-        put(out, to, word(words, from as usize + lowest as usize));
+        put(out, to, get_or(words, from as usize + lowest as usize, 0));
         rest -= 1 << lowest;
         to += 1;
     }
     to
+}
+
+// The word at index i.
+pub fn word(words: &[u32], i: usize) -> u32
+    ensures { (result ≡ get_or words.now i 0) × (result < 2 ^ 32) }
+{
+    if i < words.len() { words[i] } else { 0 }
 }
 
 // The wide word at index i.

@@ -4,8 +4,8 @@ use mathlib.Core.Path.{◌≡◌, refl, sym, ◌∙◌, ap, subst}
 use mathlib.Core.Bool.{true}
 use mathlib.Core.List.{List}
 use Rattle.tally.specs.declared.Tally.{Tally}
-use Rattle.tally.specs.declared.Order.{Order}
-use Rattle.tally.specs.declared.Order.TheVariants.{Less, Equal, Greater}
+use Rattle.std.specs.declared.cmp.Ordering.{Ordering}
+use Rattle.std.specs.declared.cmp.Ordering.TheVariants.{Less, Equal, Greater}
 use Rattle.tally.specs.Tally.{comparison}
 use Rattle.sheet.specs.Decode.{initial, goal}
 use Rattle.plan.specs.Valid.{steps}
@@ -18,25 +18,25 @@ use Rattle.elimination.specs.declared.single.Elimination.{Elimination}
 use Rattle.elimination.specs.declared.single.Elimination.TheVariants.{Plain, Greedy}
 use Rattle.elimination.specs.Between.Left.{left_by}
 use Rattle.elimination.proofs.LeavesLaws.{rule_leaves, left_valid, left_leaves, counted_left}
-use Rattle.plan.specs.declared.check.Answer.{Answer}
+use Rattle.plan.specs.Checked.{Answer}
 use Rattle.reduced.proofs.LodgedLaws.{lodged_valid}
 use Rattle.cheaper.specs.Cheaper.{LeftByCheaper, ReducesCheaper}
 use Rattle.cheaper.specs.Between.Computed.{cheaper_of}
 
 module _ (w l : List ℕ) (readable : Readable w l) (valid_list : valid (initial w) (goal w) (steps w l) ≡ true) where
   -- the cheaper, by the order of both tallies
-  abbrev pub cheaper_by : Order → Elimination
+  abbrev pub cheaper_by : Ordering → Elimination
   cheaper_by Less = Greedy
   cheaper_by Equal = Plain
   cheaper_by Greater = Plain
 
-  pub cheaper_taken : (o : Order) → comparison (tally_left w l (left_by Greedy w l)) (tally_left w l (left_by Plain w l)) ≡ o → cheaper_of w l ≡ left_by (cheaper_by o) w l
+  pub cheaper_taken : (o : Ordering) → comparison (tally_left w l (left_by Greedy w l)) (tally_left w l (left_by Plain w l)) ≡ o → cheaper_of w l ≡ left_by (cheaper_by o) w l
   unfolding cheaper_of
   cheaper_taken Less is = rw (cheaper_of, is)
   cheaper_taken Equal is = rw (cheaper_of, is)
   cheaper_taken Greater is = rw (cheaper_of, is)
 
-  pub cheaper_flags : (first second : Reduction) (t u : Tally) (o order : Order) (flags : Reduction)
+  pub cheaper_flags : (first second : Reduction) (t u : Tally) (o order : Ordering) (flags : Reduction)
       → first ≡ flags_of l (left_by Plain w l) → second ≡ flags_of l (left_by Greedy w l) → t ≡ tallied w l (mask l first) → u ≡ tallied w l (mask l second)
       → order ≡ comparison u t → order ≡ o → flags ≡ flags_of l (left_by (cheaper_by o) w l) → flags ≡ flags_of l (cheaper_of w l)
   cheaper_flags first second t u o order flags is_first is_second counted counted' compared is flagged =
@@ -48,7 +48,7 @@ module _ (w l : List ℕ) (readable : Readable w l) (valid_list : valid (initial
   pub cheaper_is : (by : Elimination) × (cheaper_of w l ≡ left_by by w l)
   cheaper_is = (cheaper_by order, cheaper_taken order refl)
     where
-      order : Order
+      order : Ordering
       order = comparison (tally_left w l (left_by Greedy w l)) (tally_left w l (left_by Plain w l))
 
   pub cheaper_leaves : (flags : Reduction) → flags ≡ flags_of l (cheaper_of w l) → Leaves l (cheaper_of w l) flags

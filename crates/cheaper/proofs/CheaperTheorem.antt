@@ -1,6 +1,7 @@
 -- What the second service shows of the outputs and tallies that the cheaper-of-both service returns: the whole list that the lower elimination leaves, and
 -- elimination's where both are equal; after a refusal nothing. The lower tally is that of the lower list, and an output begins with the list left. Nothing
 -- here is about the code: its contracts cite the same definitions. Assumes nothing.
+use Rattle.std.specs.Prelude.{Err, Ok}
 use Prim.Native.Nat.{ℕ, min, ◌≤◌}
 use native.Mathlib.Nat.{min-le_left, min-le_right}
 use native.Mathlib.Omega.{arith}
@@ -12,11 +13,10 @@ use mathlib.Core.List.{List, []}
 use lib.ListN.{length, take, length-map}
 use lib.Seq.{sets-eq, take_at}
 use Rattle.refusal.specs.declared.Refusal.{Refusal}
-use Rattle.refusal.specs.declared.Verdict.{Verdict}
-use Rattle.refusal.specs.declared.Verdict.TheVariants.{Passed, Refused}
+use Rattle.refusal.specs.Refusal.{Verdict}
 use Rattle.tally.specs.declared.Tally.{Tally}
-use Rattle.tally.specs.declared.Order.{Order}
-use Rattle.tally.specs.declared.Order.TheVariants.{Less, Equal, Greater}
+use Rattle.std.specs.declared.cmp.Ordering.{Ordering}
+use Rattle.std.specs.declared.cmp.Ordering.TheVariants.{Less, Equal, Greater}
 use Rattle.tally.specs.Tally.{comparison}
 use Rattle.sas.specs.Plan.{cost}
 use Rattle.sheet.specs.Decode.{initial, goal, action}
@@ -78,7 +78,7 @@ module _ (w l : List ℕ) (readable : Readable w l) (valid_list : valid (initial
       less h Plain = ⊎_elim (λ cheaper. omega arith) (λ same. omega (arith, same.0)) (lower_true (kept (left_by Greedy w l) (steps w l)) (kept (left_by Plain w l) (steps w l)) h)
       less h Greedy = omega arith
 
-      by_order : (o : Order) → comparison (tally_left w l (left_by Greedy w l)) (tally_left w l (left_by Plain w l)) ≡ o
+      by_order : (o : Ordering) → comparison (tally_left w l (left_by Greedy w l)) (tally_left w l (left_by Plain w l)) ≡ o
           → (by : Elimination) → cost (kept (cheaper_of w l) (steps w l)) ≤ cost (kept (left_by by w l) (steps w l))
       by_order Less e by = rw (cheaper_taken w l readable valid_list Less e) (less (sym both_less ∙ ap is_less e) by)
       by_order Equal e by = rw (cheaper_taken w l readable valid_list Equal e) (not_less (sym both_less ∙ ap is_less e) by)
@@ -89,7 +89,7 @@ shown_second : (first second : List ℕ) (t u : Tally) → is_less (comparison u
 unfolding cheaper_part
 shown_second first second t u less = by_case (comparison u t) refl
   where
-    by_case : (o : Order) → comparison u t ≡ o → cheaper_part first second t u ≡ take u.steps second
+    by_case : (o : Ordering) → comparison u t ≡ o → cheaper_part first second t u ≡ take u.steps second
     by_case Less e = rw (e, cheaper_part)
     by_case Equal e = absurd (false≢true (rw e at less))
     by_case Greater e = absurd (false≢true (rw e at less))
@@ -98,7 +98,7 @@ shown_first : (first second : List ℕ) (t u : Tally) → is_less (comparison u 
 unfolding cheaper_part
 shown_first first second t u not_less = by_case (comparison u t) refl
   where
-    by_case : (o : Order) → comparison u t ≡ o → cheaper_part first second t u ≡ take t.steps first
+    by_case : (o : Ordering) → comparison u t ≡ o → cheaper_part first second t u ≡ take t.steps first
     by_case Less e = absurd (true≢false (rw e at not_less))
     by_case Equal e = rw (e, cheaper_part)
     by_case Greater e = rw (e, cheaper_part)
@@ -108,7 +108,7 @@ module _ (w l before before' : List ℕ) (v : Verdict) (first second : Tally) (a
   both = both_of w l before before' v first second after after' answered
 
   -- the list that is shown where nothing is refused
-  module _ (passed : v ≡ Passed) where
+  module _ (passed : v ≡ Ok tt) where
     nothing_refused : answer (reduction_checks w l (min (length before) (length before'))) ≡ none
     nothing_refused = sym both.refusal ∙ ap told passed
 
@@ -145,6 +145,6 @@ module _ (w l before before' : List ℕ) (v : Verdict) (first second : Tally) (a
         ∙ rw (told_first, output) (front_left l (elimination_of w l) before fits_first (omega (arith, room, min-le_left (length before) (length before'))))
 
   -- "Refusals carry zero tallies, so the part shown after one is empty."
-  pub nothing_shown : (r : Refusal) → v ≡ Refused r → cheaper_part after after' first second ≡ []
+  pub nothing_shown : (r : Refusal) → v ≡ Err r → cheaper_part after after' first second ≡ []
   unfolding cheaper_part comparison
   nothing_shown r refused = rw (both.first_tally, both.second_tally, refused)

@@ -2,13 +2,13 @@
 -- shown of it. Assumes nothing.
 use Rattle.std.specs.Prelude.{ℕ, min, ◌≡◌, List, length, take}
 use Rattle.std.proofs.Math.Option.{Option}
-use Rattle.refusal.specs.declared.Verdict.{Verdict}
+use Rattle.refusal.specs.Refusal.{Verdict}
 use Rattle.refusal.specs.Refusal.{Told, told}
 use Rattle.refusal.specs.Check.{answer, unless_refused}
-use Rattle.plan.specs.declared.check.Answer.{Answer}
+use Rattle.plan.specs.Checked.{Answer}
 use Rattle.tally.specs.declared.Tally.{Tally}
-use Rattle.tally.specs.declared.Order.{Order}
-use Rattle.tally.specs.declared.Order.TheVariants.{Less, Equal, Greater}
+use Rattle.std.specs.declared.cmp.Ordering.{Ordering}
+use Rattle.std.specs.declared.cmp.Ordering.TheVariants.{Less, Equal, Greater}
 use Rattle.tally.specs.Tally.{nothing, comparison}
 use Rattle.reduction.specs.Reduction.{Reduction}
 use Rattle.reduced.specs.Reduced.{reduction_checks, tally_left, output_left, TellsLeft, Reduces}
@@ -18,7 +18,7 @@ use Rattle.elimination.specs.Eliminations.{LeftByRule}
 
 -- "lower price, then fewer steps, then elimination's": of elimination's and greedy elimination's, by how the second
 -- tally compares with the first
-abbrev pub cheaper_one : {A : Type 0} → Order → A → A → A
+abbrev pub cheaper_one : {A : Type 0} → Ordering → A → A → A
 cheaper_one Less first second = second
 cheaper_one Equal first second = first
 cheaper_one Greater first second = first

@@ -10,18 +10,19 @@ ghost use Rattle.cheaper.specs.Between.Computed.{cheaper_of};
 
 use access::front;
 use elimination::single::{Elimination, flags_left};
-use plan::check::{Answer, check_lodged};
+use plan::check::check_lodged;
 use plan::limits::Plan;
 use reduced::finish::finish;
 use reduced::room::{check_room, shorter};
 use reduced::tallied::tally_of;
-use refusal::Verdict;
-use tally::{Order, Tally};
+use refusal::Refusal;
+use std::cmp::Ordering;
+use tally::Tally;
 
 // Both tallies, elimination's first, or a refusal, with its tallies zero.
 #[derive(Clone, Copy)]
 pub struct Both {
-    pub verdict: Verdict,
+    pub verdict: Result<(), Refusal>,
     pub first: Tally,
     pub second: Tally,
 }
@@ -34,9 +35,9 @@ pub fn cheaper(words: &[u32], plan: &[u32], first: &mut [u32], second: &mut [u32
     let room = shorter(first.len(), second.len());
     let checked = check_lodged(words, plan, Plan::STEPS, check_room(plan.len(), room));
     let answer = checked.answer;
-    if let Answer::Refused(refusal) = answer {
+    if let Err(refusal) = answer {
         return Both {
-            verdict: Verdict::Refused(refusal),
+            verdict: Err(refusal),
             first: Tally::new(),
             second: Tally::new(),
         };
@@ -49,7 +50,7 @@ pub fn cheaper(words: &[u32], plan: &[u32], first: &mut [u32], second: &mut [u32
     let of_first = by_elimination.tally;
     let of_second = by_greed.tally;
     Both {
-        verdict: Verdict::Passed,
+        verdict: Ok(()),
         first: of_first,
         second: of_second,
     }
@@ -68,9 +69,9 @@ pub fn flags_of_cheaper(words: &[u32], plan: &[u32]) -> [bool; Plan::STEPS]
     let other = tally_of(words, plan, &greedily[..n]);
     let order = other.compare(tally);
     match order {
-        Order::Less => greedily,
-        Order::Equal => eliminated,
-        Order::Greater => eliminated,
+        Ordering::Less => greedily,
+        Ordering::Equal => eliminated,
+        Ordering::Greater => eliminated,
     }
 }
 
@@ -81,8 +82,8 @@ pub fn kept_part<'a>(first: &'a [u32], second: &'a [u32], tally: Tally, other: T
 {
     let order = other.compare(tally);
     match order {
-        Order::Less => front(second, other.steps as usize),
-        Order::Equal => front(first, tally.steps as usize),
-        Order::Greater => front(first, tally.steps as usize),
+        Ordering::Less => front(second, other.steps as usize),
+        Ordering::Equal => front(first, tally.steps as usize),
+        Ordering::Greater => front(first, tally.steps as usize),
     }
 }

@@ -2,7 +2,7 @@
 ghost use Rattle.cheaper.specs.Cheaper.{ReducesCheaper};
 
 use crate::both::flags_of_cheaper;
-use plan::check::{Answer, check_lodged};
+use plan::check::check_lodged;
 use plan::limits::Plan;
 use reduced::answer::Reduced;
 use reduced::finish::finish;
@@ -15,7 +15,7 @@ pub fn cheaper_left(words: &[u32], plan: &[u32], out: &mut [u32]) -> Reduced
 {
     let checked = check_lodged(words, plan, Plan::STEPS, check_room(plan.len(), out.len()));
     let answer = checked.answer;
-    if let Answer::Refused(refusal) = answer {
+    if let Err(refusal) = answer {
         return Reduced::refused(refusal);
     }
     let flags = flags_of_cheaper(words, plan);

@@ -1,5 +1,6 @@
 -- What `license` answers of a list that goes further than the minimal reduction: what the cheaper elimination leaves can be read and is a plan, so that only the number of
 -- its unmarked steps decides which of the two claims is left. What the code calls is a variable here, with what is known of it as a premise. Assumes nothing.
+use Rattle.std.specs.Prelude.{Err, Ok}
 use Prim.Native.Nat.{ℕ, ◌-◌, ◌≤◌, ◌<◌, ◌^◌}
 use native.Mathlib.Omega.{arith}
 use mathlib.Core.Path.{◌≡◌, refl, sym, ◌∙◌, ap, subst}
@@ -25,7 +26,6 @@ use Rattle.sheet.specs.Decode.{goal, initial, action, task}
 use Rattle.plan.specs.Limits.{most_steps}
 use Rattle.plan.specs.Valid.{steps}
 use Rattle.plan.specs.Readable.{Readable}
-use Rattle.plan.specs.declared.check.Answer.TheVariants.{Valid, Refused}
 use Rattle.plan.specs.Checked.{told_answer}
 use Rattle.plan.proofs.PlanLaws.{passed_readable}
 use Rattle.reduced.specs.Reduced.{tally_left}
@@ -76,10 +76,10 @@ module _ (w l before : List ℕ) (lodged : Tally) (others : ℕ) (further : Goes
 
   -- the claim and all that is told of its reduction
   licenses : (claim : Claim) (tally : Tally) (m : Mask) (after : List ℕ) → claim_of w l ≡ claim → Keeps w l (claimed_by claim w l) before tally m.words after
-      → LicensesOf w l before (record { claim = claim; told = record { answer = Valid tally; mask = m; lodged = lodged; marked = length l - others } }) after
+      → LicensesOf w l before (record { claim = claim; told = record { answer = Ok tally; mask = m; lodged = lodged; marked = length l - others } }) after
   licenses claim tally m after is keeps =
       record {
-        answers = answers_kept _ w l _ before (Valid lodged) (sym further.passes) lodged (claimed_by claim w l) after m.words tally refl (ap (λ c. claimed_by c w l) (sym is)) keeps;
+        answers = answers_kept _ w l _ before (Ok lodged) (sym further.passes) lodged (claimed_by claim w l) after m.words tally refl (ap (λ c. claimed_by c w l) (sym is)) keeps;
         claims = rw further.passes (sym is);
         lodged = rw further.passes further.tally;
         marks = rw further.passes others_marked;
@@ -149,9 +149,9 @@ module _ (w l before : List ℕ) (lodged : Tally) (others : ℕ) (further : Goes
         there = subst (λ k. MinimisesOf most_unmarked w k before r after) front_is (minimises_of most_unmarked w (take tally.steps list) before r after minimises)
 
         -- the minimal reduction answers
-        pub licenses_irreducible : (least : Tally) (m : Mask) → r.answer ≡ Valid least
+        pub licenses_irreducible : (least : Tally) (m : Mask) → r.answer ≡ Ok least
             → ((n : Reduction) → r.mask.words ≡ mask_words n → length n ≤ mask_bits → m.words ≡ mask_words (compose (mask l flags) n))
-            → (given : Licensed) → given ≡ record { claim = Irreducible; told = record { answer = Valid least; mask = m; lodged = lodged; marked = length l - others } }
+            → (given : Licensed) → given ≡ record { claim = Irreducible; told = record { answer = Ok least; mask = m; lodged = lodged; marked = length l - others } }
             → LicensesOf w l before given after
         licenses_irreducible least m is through given granted =
             let passes : answer (minimal_checks most_unmarked w (cheaper_list w l) (length before)) ≡ none = sym there.answers.refusal ∙ ap told_answer is in
@@ -167,9 +167,9 @@ module _ (w l before : List ℕ) (lodged : Tally) (others : ℕ) (further : Goes
             }))
 
         -- or too many steps are unmarked there too
-        pub licenses_open : (refusal : Refusal) (n : ℕ) (m : Mask) (after' : List ℕ) → r.answer ≡ Refused refusal → n ≡ (told_refusal refusal).place → m.words ≡ words
+        pub licenses_open : (refusal : Refusal) (n : ℕ) (m : Mask) (after' : List ℕ) → r.answer ≡ Err refusal → n ≡ (told_refusal refusal).place → m.words ≡ words
             → after' ≡ sets after 0 (take tally.steps list)
-            → (given : Licensed) → given ≡ record { claim = Open n; told = record { answer = Valid tally; mask = m; lodged = lodged; marked = length l - others } }
+            → (given : Licensed) → given ≡ record { claim = Open n; told = record { answer = Ok tally; mask = m; lodged = lodged; marked = length l - others } }
             → LicensesOf w l before given after'
         licenses_open refusal n m after' is counted told_by written given granted =
             let refuses : answer (minimal_checks most_unmarked w (cheaper_list w l) (length before)) ≡ some (told_refusal refusal) =

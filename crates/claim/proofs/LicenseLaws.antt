@@ -1,4 +1,5 @@
 -- What `license` answers on each of its ways. What the code calls is a variable here, with what is known of it as a premise. Assumes nothing.
+use Rattle.std.specs.Prelude.{Err, Ok}
 use Prim.Native.Nat.{ℕ, ◌≤◌, ◌<◌}
 use mathlib.Core.Path.{◌≡◌, refl, sym, ◌∙◌, ap, subst}
 use mathlib.Core.Option.{none, some, some-injective}
@@ -6,7 +7,7 @@ use mathlib.Core.List.{List}
 use lib.ListN.{length}
 use borrow.Author.Tests.{le-leb}
 use Rattle.refusal.specs.declared.Refusal.{Refusal}
-use Rattle.refusal.specs.declared.Verdict.{Verdict}
+use Rattle.refusal.specs.Refusal.{Verdict}
 use Rattle.refusal.specs.Refusal.{told_refusal, told}
 use Rattle.refusal.specs.Check.{answer}
 use Rattle.refusal.proofs.CheckLaws.{first_none}
@@ -16,8 +17,7 @@ use Rattle.sheet.specs.Decode.{task}
 use Rattle.plan.specs.Limits.{most_steps}
 use Rattle.plan.specs.Valid.{steps}
 use Rattle.plan.specs.Readable.{Readable}
-use Rattle.plan.specs.declared.check.Answer.{Answer}
-use Rattle.plan.specs.declared.check.Answer.TheVariants.{Valid, Refused}
+use Rattle.plan.specs.Checked.{Answer}
 use Rattle.plan.specs.Checked.{told_answer, lodged_tally}
 use Rattle.plan.specs.Between.Lodged.{ChecksLodged}
 use Rattle.plan.proofs.PlanLaws.{passed_readable}
@@ -44,7 +44,7 @@ pub refuses_all : (w l before : List ℕ) (refusal : Refusal) (r : Licensed) →
     → LicensesOf w l before r before
 refuses_all w l before refusal r fires refuses =
     record {
-      answers = rw (refuses.told.answer, refuses.told.mask) (answers_refused _ w l (licensed_of w l) before (Refused refusal) (sym fires) refusal refl);
+      answers = rw (refuses.told.answer, refuses.told.mask) (answers_refused _ w l (licensed_of w l) before (Err refusal) (sym fires) refusal refl);
       claims = rw fires refuses.claim;
       lodged = rw fires refuses.told.lodged;
       marks = rw fires refuses.told.marked;
@@ -62,7 +62,7 @@ module _ (w l before : List ℕ) (passed : licence_refusal w l before ≡ none) 
   room = roomy w l (length before) passed
 
   -- the minimal reduction answers
-  pub licenses_least : (r : Shortened) (tally : Tally) (after : List ℕ) → MinimisesOf most_unmarked w l before r after → r.answer ≡ Valid tally
+  pub licenses_least : (r : Shortened) (tally : Tally) (after : List ℕ) → MinimisesOf most_unmarked w l before r after → r.answer ≡ Ok tally
       → LicensesOf w l before (record { claim = Least; told = r }) after
   licenses_least r tally after minimises valid =
       let passes : answer (minimal_checks most_unmarked w l (length before)) ≡ none = sym minimises.answers.refusal ∙ ap told_answer valid in
@@ -104,10 +104,10 @@ may_be_lodged w l before r after licenses readable plan roomy =
 -- what the check of a list answers where its room is asked besides
 module _ (w l before : List ℕ) (v : Verdict) (given : Answer) (state : List ℕ) (asked : told v ≡ answer (room_checks (length l) (length before)))
     (checks : ChecksLodged most_steps w l v given state) where
-  pub lodged_refuses : (refusal : Refusal) (r : Licensed) → given ≡ Refused refusal → RefusesLicence refusal r → LicensesOf w l before r before
+  pub lodged_refuses : (refusal : Refusal) (r : Licensed) → given ≡ Err refusal → RefusesLicence refusal r → LicensesOf w l before r before
   lodged_refuses refusal r is = refuses_all w l before refusal r (sym (room_checked w l (length before) v given state asked checks) ∙ ap told_answer is)
 
-  pub lodged_further : (lodged : Tally) (refusal : Refusal) (others : ℕ) → given ≡ Valid lodged → minimal_refusal most_unmarked w l before ≡ some (told_refusal refusal)
+  pub lodged_further : (lodged : Tally) (refusal : Refusal) (others : ℕ) → given ≡ Ok lodged → minimal_refusal most_unmarked w l before ≡ some (told_refusal refusal)
       → others ≡ (told_refusal refusal).place → GoesFurther w l before lodged others
   lodged_further lodged refusal others is refuses counted =
       let passed : licence_refusal w l before ≡ none = nothing_refused w l (length before) v given state asked checks lodged is in
@@ -118,14 +118,14 @@ module _ (w l before : List ℕ) (r : Shortened) (after : List ℕ) (answered : 
   minimises : MinimisesOf most_unmarked w l before r after
   minimises = minimises_of most_unmarked w l before r after answered
 
-  pub answers_least : (tally : Tally) → r.answer ≡ Valid tally → LicensesOf w l before (record { claim = Least; told = r }) after
+  pub answers_least : (tally : Tally) → r.answer ≡ Ok tally → LicensesOf w l before (record { claim = Least; told = r }) after
   unfolding minimal_checks
   answers_least tally valid =
       let passes : answer (minimal_checks most_unmarked w l (length before)) ≡ none = sym minimises.answers.refusal ∙ ap told_answer valid in
       let passed : licence_refusal w l before ≡ none = first_none (reduction_checks w l (length before)) (unmarked_checks most_unmarked w l) _ passes refl in
       licenses_least w l before passed r tally after minimises valid
 
-  module _ (refusal : Refusal) (is : r.answer ≡ Refused refusal) where
+  module _ (refusal : Refusal) (is : r.answer ≡ Err refusal) where
     refuses : minimal_refusal most_unmarked w l before ≡ some (told_refusal refusal)
     refuses = sym minimises.answers.refusal ∙ ap told_answer is
 

@@ -1,11 +1,9 @@
 // What the licence of a list answers.
 ghost use Rattle.std.specs.Prelude.{◌≡◌};
-ghost use Rattle.plan.specs.declared.check.Answer.TheVariants.{Valid};
 ghost use Rattle.claim.specs.Between.Refused.{RefusesLicence};
 
 use mask::Mask;
 use minimal::within::Shortened;
-use plan::check::Answer;
 use refusal::Refusal;
 use tally::Tally;
 
@@ -46,7 +44,7 @@ pub(crate) fn grant(claim: Claim, tally: Tally, mask: Mask, lodged: Tally, marke
     Licensed {
         claim,
         told: Shortened {
-            answer: Answer::Valid(tally),
+            answer: Ok(tally),
             mask,
             lodged,
             marked,

@@ -7,7 +7,6 @@ use crate::answer::{Claim, Licensed, grant};
 use access::put_all;
 use cheaper::both::flags_of_cheaper;
 use minimal::reduce::minimal_reduction;
-use plan::check::Answer;
 use plan::limits::Plan;
 use reduced::finish::finish;
 use reduced::through::mask_through;
@@ -36,11 +35,11 @@ pub(crate) fn license_further(
     let answer = exact.answer;
     let second = exact.mask;
     match answer {
-        Answer::Valid(least) => {
+        Ok(least) => {
             let through = mask_through(&flags[..n], second);
             grant(Claim::Irreducible, least, through, lodged, marked)
         }
-        Answer::Refused(refusal) => {
+        Err(refusal) => {
             put_all(out, &list[..left]);
             let others = refusal.place();
             grant(Claim::Open(others), tally, mask, lodged, marked)

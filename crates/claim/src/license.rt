@@ -10,7 +10,7 @@ ghost use Rattle.claim.specs.Statement.{MayBeLodged};
 use crate::answer::{Claim, Licensed, refuse};
 use crate::further::license_further;
 use minimal::reduce::minimal_reduction;
-use plan::check::{Answer, check_lodged};
+use plan::check::check_lodged;
 use plan::limits::Plan;
 use reduced::room::check_room;
 use refusal::Refusal;
@@ -23,8 +23,8 @@ fn license_refused(words: &[u32], plan: &[u32], out: &mut [u32], refusal: Refusa
     let checked = check_lodged(words, plan, Plan::STEPS, check_room(plan.len(), out.len()));
     let answer = checked.answer;
     match answer {
-        Answer::Refused(earlier) => refuse(earlier),
-        Answer::Valid(lodged) => license_further(words, plan, out, lodged, refusal.place()),
+        Err(earlier) => refuse(earlier),
+        Ok(lodged) => license_further(words, plan, out, lodged, refusal.place()),
     }
 }
 
@@ -37,10 +37,10 @@ pub fn license(words: &[u32], plan: &[u32], out: &mut [u32]) -> Licensed
     let exact = minimal_reduction(words, plan, out);
     let answer = exact.answer;
     match answer {
-        Answer::Valid(_) => Licensed {
+        Ok(_) => Licensed {
             claim: Claim::Least,
             told: exact,
         },
-        Answer::Refused(refusal) => license_refused(words, plan, out, refusal),
+        Err(refusal) => license_refused(words, plan, out, refusal),
     }
 }

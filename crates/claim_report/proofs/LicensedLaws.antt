@@ -1,4 +1,5 @@
 -- What the service tells of a list is what the program prints for it: the claim and the report of the reduction, or the line of the refusal. Assumes nothing.
+use Rattle.std.specs.Prelude.{Err, Ok}
 use Prim.Native.Nat.{ℕ, ◌+◌, ◌≤◌}
 use native.Mathlib.Omega.{arith}
 use mathlib.Core.Path.{◌≡◌, sym, ◌∙◌, ap, subst}
@@ -14,7 +15,6 @@ use Rattle.tally.specs.declared.Tally.{Tally}
 use Rattle.sheet.specs.Decode.{action}
 use Rattle.plan.specs.Limits.{most_steps}
 use Rattle.plan.specs.Readable.{Readable}
-use Rattle.plan.specs.declared.check.Answer.TheVariants.{Valid, Refused}
 use Rattle.plan.specs.Checked.{told_answer}
 use Rattle.plan.proofs.PlanLaws.{passed_readable}
 use Rattle.reduced.specs.Reduced.{room_checks, reduction_checks}
@@ -44,7 +44,7 @@ module _ (w l before : List ℕ) (r : Licensed) (after : List ℕ) (room : lengt
   licenses = licenses_of w l before r after answered
 
   -- the list is licensed
-  module _ (kept : Tally) (is : r.told.answer ≡ Valid kept) where
+  module _ (kept : Tally) (is : r.told.answer ≡ Ok kept) where
     passes : answer (reduction_checks w l (length before)) ≡ none
     passes = nothing_fires _ w l _ before r.told after licenses.answers kept is
 
@@ -69,7 +69,7 @@ module _ (w l before : List ℕ) (r : Licensed) (after : List ℕ) (room : lengt
         rw (licensed, here) (prints_both claims.prints rest.prints, fits)
 
   -- or refused
-  pub licensed_refusal : (refusal : Refusal) → r.told.answer ≡ Refused refusal → {out out' : List ℕ} {end : ℕ}
+  pub licensed_refusal : (refusal : Refusal) → r.told.answer ≡ Err refusal → {out out' : List ℕ} {end : ℕ}
       → Prints (refusal_line (told_refusal refusal)) 0 out out' end → length (refusal_line (told_refusal refusal)) ≤ line_room
       → TextPut licence_room out out' end (licensed w l)
   unfolding licensed

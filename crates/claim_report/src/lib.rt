@@ -9,7 +9,6 @@ ghost use Rattle.claim_report.specs.Between.LicenceRoom.{licence_room};
 
 use claim::answer::Claim;
 use claim::license::license;
-use plan::check::Answer;
 use plan::limits::Plan;
 use program::output::{put_alone, put_one, put_refusal};
 use report::reported::put_report;
@@ -36,10 +35,10 @@ pub fn put_licensed(words: &[u32], plan: &[u32], out: &mut [u8]) -> usize
     let told = licence.told;
     let answer = told.answer;
     match answer {
-        Answer::Valid(kept) => {
+        Ok(kept) => {
             let at = put_claim(claim, out);
             put_report(words, plan, told, kept, out, at)
         }
-        Answer::Refused(refusal) => put_refusal(out, 0, refusal),
+        Err(refusal) => put_refusal(out, 0, refusal),
     }
 }

@@ -1,5 +1,6 @@
 -- In a sheet that meets none of the causes before it, the first action in which effects clash is the place of cause 16, and effects without conditions have none:
 -- what those checks have passed are assignments that a table can hold, and effects in the order of their facts. Assumes nothing.
+use Rattle.std.specs.Prelude.{None}
 use Prim.Native.Nat.{ℕ, zero, suc, ◌+◌, ◌≤◌, ◌<◌}
 use native.Mathlib.Omega.{arith}
 use mathlib.Core.Path.{◌≡◌, refl, sym, ◌∙◌}
@@ -8,8 +9,7 @@ use mathlib.Core.List.Memᴰ
 use mathlib.Core.List.{List, Memᴰ}
 use lib.Dec.{ltb}
 use borrow.Author.Tests.{ltb-true, ltb-false}
-use Rattle.refusal.specs.declared.place.Place.{Place}
-use Rattle.refusal.specs.declared.place.Place.TheVariants.{Nowhere}
+use Rattle.refusal.specs.Place.{Place}
 use Rattle.refusal.specs.Place.{first}
 use Rattle.refusal.proofs.PlaceLaws.{first_over, first_here, first_more, no_first}
 use Rattle.sas.specs.Task.{Fact}
@@ -49,7 +49,7 @@ facts_small : (w : List ℕ) (i end : ℕ) (f : Fact) → Memᴰ f (facts w i en
 unfolding facts
 facts_small w i end f m = let (k, low, high, same) = table_member_at (λ j. fact_of (word w j)) i _ m in rw same (word_small (word w k))
 
-module _ (w : List ℕ) (clear : fact_place w ≡ Nowhere) (few : variables w ≤ limits.variables) where
+module _ (w : List ℕ) (clear : fact_place w ≡ None) (few : variables w ≤ limits.variables) where
   -- a table can hold facts that rise
   facts_holdable : (i end : ℕ) → Rising (domains w) 0 (facts w i end) → Holdable (facts w i end)
   facts_holdable i end rising =
@@ -81,7 +81,7 @@ module _ (w : List ℕ) (clear : fact_place w ≡ Nowhere) (few : variables w �
     unfolding clash_place conflict_place
     found_second = first_alike (clash_in w) (λ a. conflicting (action w a)) (actions w) 0 (actions w) (omega arith) clash_right
 
-  found_first : has_conditions w ≡ false → Nowhere ≡ conflict_place w
+  found_first : has_conditions w ≡ false → None ≡ conflict_place w
   unfolding conflict_place
   found_first first_edition = sym (no_first (λ a. conflicting (action w a)) (actions w) (λ a h. agreeing_consistent (action w a) (plain_agrees (action_plain w clear first_edition a h))))
 
@@ -89,5 +89,5 @@ module _ (w : List ℕ) (clear : fact_place w ≡ Nowhere) (few : variables w �
 pub finds_second : (w : List ℕ) (p : Place) → has_conditions w ≡ true → p ≡ clash_place w → Finds w p
 finds_second w p second found = record { told = λ clear few. found ∙ found_second w clear few second }
 
-pub finds_first : (w : List ℕ) → has_conditions w ≡ false → Finds w Nowhere
+pub finds_first : (w : List ℕ) → has_conditions w ≡ false → Finds w None
 finds_first w first_edition = record { told = λ clear few. found_first w clear few first_edition }

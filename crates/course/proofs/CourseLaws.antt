@@ -1,5 +1,6 @@
 -- The states along a sequence of actions, by its first action: by shifting the table of its beginnings by one. And what a walk along a list has written of them, by
 -- the cases of its loop: from each position on it writes what the whole walk writes. Assumes nothing.
+use Rattle.std.specs.Prelude.{Err, Ok}
 use Prim.Native.Nat.{ℕ, zero, suc, ◌+◌, ◌*◌, ◌≤◌, ◌<◌}
 use native.Mathlib.Omega.{arith}
 use native.Mathlib.Numerals.{add-one}
@@ -10,8 +11,7 @@ use mathlib.Core.List.{List, [], ◌∷◌, append-nil, flatten}
 use lib.ListN.{length, get_or, take, drop, drop_of_length-le}
 use lib.Seq.{sets}
 use Rattle.access.proofs.StoreLaws.{stores_joined}
-use Rattle.refusal.specs.declared.Verdict.{Verdict}
-use Rattle.refusal.specs.declared.Verdict.TheVariants.{Passed, Refused}
+use Rattle.refusal.specs.Refusal.{Verdict}
 use Rattle.refusal.specs.declared.Refusal.{Refusal}
 use Rattle.refusal.specs.Refusal.{told}
 use Rattle.refusal.specs.Check.{answer}
@@ -128,13 +128,13 @@ module _ (w l s before state states states' : List ℕ) (at i : ℕ) (going : Go
 
 -- the service refuses what is read
 module _ (w l : List ℕ) (v : Verdict) (read : told v ≡ answer (course_checks w l)) (before : List ℕ) where
-  pub course_refused : (r : Refusal) → v ≡ Refused r → Courses w l (Refused r) 0 before before
+  pub course_refused : (r : Refusal) → v ≡ Err r → Courses w l (Err r) 0 before before
   course_refused r e =
-      let fires : answer (course_checks w l) ≡ told (Refused r) = sym read ∙ ap told e in
+      let fires : answer (course_checks w l) ≡ told (Err r) = sym read ∙ ap told e in
       record { refusal = sym fires; counted = rw fires; states = rw fires }
 
   -- or follows it from the starting values, at the front of an array
-  module _ (passed : v ≡ Passed) where
+  module _ (passed : v ≡ Ok tt) where
     passes : answer (course_checks w l) ≡ none
     passes = sym read ∙ ap told passed
 
@@ -142,7 +142,7 @@ module _ (w l : List ℕ) (v : Verdict) (read : told v ≡ answer (course_checks
     course_readable = read_readable most_steps w l passes
 
     pub course_followed : (values start after : List ℕ) (count : ℕ) → values ≡ in_array (initial w) → start ≡ front w values → Follows w l start before count after
-        → Courses w l Passed count before after
+        → Courses w l (Ok tt) count before after
     course_followed values start after count starts lent follows =
         let begins : start ≡ initial w = lent ∙ rw starts (front_initial w course_readable.accepted) in
         let done : Follows w l (initial w) before count after = rw begins at follows in

@@ -11,14 +11,14 @@ ghost use Rattle.course.specs.Between.Follows.{Follows};
 use access::{put, word};
 use plan::limits::Plan;
 use plan::list::check_read;
-use refusal::Verdict;
+use refusal::Refusal;
 use step::advance::advance;
 use step::state::{initial, size};
 
 // What is answered: a refusal, or how many states were written.
 #[derive(Clone, Copy)]
 pub struct Reached {
-    pub verdict: Verdict,
+    pub verdict: Result<(), Refusal>,
     pub count: usize,
 }
 
@@ -65,9 +65,9 @@ pub fn plan_course(words: &[u32], plan: &[u32], states: &mut [u32]) -> Reached
         states.old states.new }
 {
     let read = check_read(words, plan, Plan::STEPS);
-    if let Verdict::Refused(refusal) = read {
+    if let Err(refusal) = read {
         return Reached {
-            verdict: Verdict::Refused(refusal),
+            verdict: Err(refusal),
             count: 0,
         };
     }
@@ -75,7 +75,7 @@ pub fn plan_course(words: &[u32], plan: &[u32], states: &mut [u32]) -> Reached
     let n = size(words);
     let count = follow(words, plan, &mut values[..n], states);
     Reached {
-        verdict: Verdict::Passed,
+        verdict: Ok(()),
         count,
     }
 }

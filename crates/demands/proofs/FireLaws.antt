@@ -1,12 +1,12 @@
 -- A list of checks answers t just where the first of them that fires tells t, and nothing just where none fires. By list
 -- induction. Assumes nothing.
+use Rattle.std.specs.Prelude.{None, Some}
 use Prim.Native.Nat.{ℕ}
 use mathlib.Core.Path.{◌≡◌, refl, sym, ◌∙◌, ap}
 use mathlib.Core.Option.{Option, none, some, some-ne-none, some-injective}
 use mathlib.Core.List.Memᴰ
 use mathlib.Core.List.{List, [], ◌∷◌, map}
-use Rattle.refusal.specs.declared.place.Place.{Place}
-use Rattle.refusal.specs.declared.place.Place.TheVariants.{Nowhere, At}
+use Rattle.refusal.specs.Place.{Place}
 use Rattle.refusal.specs.Refusal.{Told}
 use Rattle.refusal.specs.Check.{Check, answer}
 use Rattle.refusal.proofs.CheckLaws.{told_parts, answer_fires, answer_passes, answer_nothing, none_fires, answer_second}
@@ -33,7 +33,7 @@ answers_first [] t h = absurd (some-ne-none t (sym h ∙ answer_nothing))
 answers_first (c ∷ cs) t h = by_case (answers_first cs t) c.fires refl
   where
     by_case : (answer cs ≡ some t → FirstToFire cs t) → (p : Place) → c.fires ≡ p → FirstToFire (c ∷ cs) t
-    by_case rest Nowhere e =
+    by_case rest None e =
         let f : FirstToFire cs t = rest (sym (answer_passes c cs e) ∙ h) in
         record {
           earlier = c ∷ f.earlier;
@@ -48,7 +48,7 @@ answers_first (c ∷ cs) t h = by_case (answers_first cs t) c.fires refl
         passed_too : (ds : List Check) → NoneFires ds → NoneFires (c ∷ ds)
         passed_too ds silent d (Memᴰ.head same) = rw same e
         passed_too ds silent d (Memᴰ.tail m) = silent d m
-    by_case rest (At k) e =
+    by_case rest (Some k) e =
         let same : ◌≡◌ {A = Told} (record { number = c.number; place = k }) t = some-injective _ _ (sym (answer_fires c cs k e) ∙ h) in
         record {
           earlier = [];
@@ -56,7 +56,7 @@ answers_first (c ∷ cs) t h = by_case (answers_first cs t) c.fires refl
           later = cs;
           parts = refl;
           number = ap (λ u. u.number) same;
-          fires = e ∙ ap (λ u. At u.place) same;
+          fires = e ∙ ap (λ u. Some u.place) same;
           before_it = λ d m. absurd (Memᴰ.not-nil m);
         }
 

@@ -16,8 +16,8 @@ use Rattle.step.specs.Step.{own_checks, step_checks}
 use Rattle.step.proofs.StepTheorem.{step_theorem}
 use Rattle.plan.specs.Checked.{list_checks, read_checks, valid_checks, lodged_checks, plan_checks}
 use Rattle.tally.specs.declared.Tally.{Tally}
-use Rattle.tally.specs.declared.Order.{Order}
-use Rattle.tally.specs.declared.Order.TheVariants.{Less, Equal, Greater}
+use Rattle.std.specs.declared.cmp.Ordering.{Ordering}
+use Rattle.std.specs.declared.cmp.Ordering.TheVariants.{Less, Equal, Greater}
 use Rattle.tally.specs.Tally.{comparison}
 use Rattle.reduction.specs.Reduction.{Reduction, count}
 use Rattle.reduction.proofs.ReductionLaws.{kept_length, left_length}
@@ -88,7 +88,7 @@ output_lent refusal l m before after is known =
         let (room, enough, each) = known h in
         omega (arith, kept_length m l each.fits, left_length m l each.fits, each.roomy)
 
-part_shown : (first second : List ℕ) (t u : Tally) (o : Order) → comparison u t ≡ o
+part_shown : (first second : List ℕ) (t u : Tally) (o : Ordering) → comparison u t ≡ o
     → (cheaper_part first second t u ≡ take t.steps first) ⊎ (cheaper_part first second t u ≡ take u.steps second)
 unfolding cheaper_part
 part_shown first second t u Less e = inr (rw (e, cheaper_part))

@@ -7,20 +7,20 @@ use mathlib.Core.Bool.{Bool, true, false, cond}
 use lib.Dec.{ltb}
 use borrow.Author.Tests.{ltb-true, ltb-false}
 use Rattle.tally.specs.declared.Tally.{Tally}
-use Rattle.tally.specs.declared.Order.{Order}
-use Rattle.tally.specs.declared.Order.TheVariants.{Less, Equal, Greater}
+use Rattle.std.specs.declared.cmp.Ordering.{Ordering}
+use Rattle.std.specs.declared.cmp.Ordering.TheVariants.{Less, Equal, Greater}
 use Rattle.tally.specs.Tally.{comparison}
 use Rattle.tally.proofs.TallyLaws.{same_tally}
 use Rattle.demands.specs.Two.{TallyLower, ComparedTruly}
 
 -- which of three orders is told, by what holds of the two tallies
-data Ordered (t u : Tally) : Order → Type 0 where
+data Ordered (t u : Tally) : Ordering → Type 0 where
   as_less : TallyLower t u → Ordered t u Less
   as_equal : t ≡ u → Ordered t u Equal
   as_greater : TallyLower u t → Ordered t u Greater
 
 -- the orders apart
-abbrev rank : Order → ℕ
+abbrev rank : Ordering → ℕ
 rank Less = 0
 rank Equal = 1
 rank Greater = 2
@@ -53,7 +53,7 @@ compared_truly t u = by_case (comparison t u) (ordered t u)
     never same (inr (inl a)) = omega (arith, ap (λ k. k.cost) same)
     never same (inr (inr a)) = omega (arith, ap (λ k. k.steps) same)
 
-    by_case : (r : Order) → Ordered t u r → ComparedTruly t u r
+    by_case : (r : Ordering) → Ordered t u r → ComparedTruly t u r
     by_case Less (as_less h) =
         record { less = (λ e. h, λ e. refl); equal = (λ e. absurd (omega (arith, ap rank e)), λ same. absurd (never same (inl h))); greater = (λ e. absurd (omega (arith, ap rank e)), λ k. absurd (once h k)) }
     by_case Equal (as_equal h) =

@@ -1,5 +1,6 @@
 -- A planner's text is refused with t just where t has its cause: the causes are all, and each has its refusal. Assumes
 -- nothing.
+use Rattle.std.specs.Prelude.{None, Some}
 use Prim.Native.Nat.{ℕ, ◌≤◌}
 use mathlib.Core.Path.{◌≡◌, refl, sym, ◌∙◌, ap, subst}
 use mathlib.Core.Logic.{◌⊎◌, inl, inr, ◌↔◌}
@@ -9,8 +10,7 @@ use mathlib.Core.List.{List}
 use lib.ListN.{length}
 use lib.Dec.{ltb}
 use borrow.Author.Tests.{ltb-true, ltb-false}
-use Rattle.refusal.specs.declared.place.Place.{Place}
-use Rattle.refusal.specs.declared.place.Place.TheVariants.{Nowhere, At}
+use Rattle.refusal.specs.Place.{Place}
 use Rattle.refusal.specs.Refusal.{Told}
 use Rattle.planner.specs.Text.{Text, most_bytes}
 use Rattle.planner.specs.Meant.{unsayable}
@@ -40,17 +40,17 @@ module _ (bytes : List ℕ) (room : ℕ) (refusal : Option Told) (sheet : List �
     text_caused : length bytes ≤ most_bytes → (u : Text) → Prints u bytes → TextCause bytes room t
     text_caused few u prints = by_line (unsayable u) refl
       where
-        by_room : unsayable u ≡ Nowhere → (w : List ℕ) → SheetOf u w → (b : Bool) → ltb room (length w) ≡ b → TextCause bytes room t
+        by_room : unsayable u ≡ None → (w : List ℕ) → SheetOf u w → (b : Bool) → ltb room (length w) ≡ b → TextCause bytes room t
         by_room says w means true e = by_cause _ (no_room few prints says means (ltb-true room (length w) e))
         by_room says w means false e = absurd (some-ne-none t (sym refused ∙ ((answers.reads few u prints).answered says w means (ltb-false room (length w) e)).0))
 
-        by_sheet : unsayable u ≡ Nowhere → ((w : List ℕ) × SheetOf u w) ⊎ ((w : List ℕ) → SheetOf u w → ⊥) → TextCause bytes room t
+        by_sheet : unsayable u ≡ None → ((w : List ℕ) × SheetOf u w) ⊎ ((w : List ℕ) → SheetOf u w → ⊥) → TextCause bytes room t
         by_sheet says (inl (w, means)) = by_room says w means (ltb room (length w)) refl
         by_sheet says (inr none_means) = by_cause _ (no_sheet few prints says none_means)
 
         by_line : (p : Place) → unsayable u ≡ p → TextCause bytes room t
-        by_line (At n) bars = by_cause _ (unsaid few prints bars)
-        by_line Nowhere says = by_sheet says (sheet_or_none u prints.formed)
+        by_line (Some n) bars = by_cause _ (unsaid few prints bars)
+        by_line None says = by_sheet says (sheet_or_none u prints.formed)
 
     refusal_caused : TextCause bytes room t
     refusal_caused = by_length (ltb most_bytes (length bytes)) refl

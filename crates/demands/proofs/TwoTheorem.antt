@@ -1,5 +1,6 @@
 -- Demand 2 holds of all services: each contract gives what is told by a definition, and the theorems of `plan`, `landmark`, `reduction`, `elimination`, `mask`
 -- and `tally` say that the definition is the rule. Nothing here is about the code: its contracts cite the same definitions. Assumes nothing.
+use Rattle.std.specs.Prelude.{Err, Ok}
 use Prim.Native.Nat.{ℕ, ◌+◌, ◌≤◌}
 use native.Mathlib.Omega.{arith}
 use mathlib.Core.Path.{◌≡◌, refl, sym, ◌∙◌, ap, subst}
@@ -8,8 +9,7 @@ use mathlib.Core.Option.{Option, none, some, some-ne-none}
 use mathlib.Core.List.{List}
 use lib.ListN.{length, length-map}
 use Rattle.refusal.specs.declared.Refusal.{Refusal}
-use Rattle.refusal.specs.declared.Verdict.{Verdict}
-use Rattle.refusal.specs.declared.Verdict.TheVariants.{Passed, Refused}
+use Rattle.refusal.specs.Refusal.{Verdict}
 use Rattle.refusal.specs.Refusal.{Told, told}
 use Rattle.refusal.specs.Check.{answer, unless_refused}
 use Rattle.reduction.specs.Reduction.{Reduction, kept, count, whole}
@@ -22,7 +22,7 @@ use Rattle.tally.specs.declared.Tally.{Tally}
 use Rattle.tally.specs.Tally.{nothing}
 use Rattle.tally.proofs.TallyLaws.{full_of_steps, full_of_cost, counted}
 use Rattle.sheet.specs.Decode.{initial, action, task}
-use Rattle.plan.specs.declared.check.Answer.{Answer}
+use Rattle.plan.specs.Checked.{Answer}
 use Rattle.plan.specs.Valid.{steps}
 use Rattle.plan.specs.Between.Fault.{final}
 use Rattle.plan.specs.Checked.{plan_checks, told_answer, told_tally, lodged_tally, Checks}
@@ -49,13 +49,13 @@ use Rattle.demands.proofs.OrderLaws.{compared_truly}
 use Rattle.demands.proofs.FitLaws.{FlagsEach, left_computed, elimination_flags, computed_flags, minimal_flags, licensed_flags}
 
 -- a verdict that tells nothing passes, and one that tells something refuses
-none_passed : (v : Verdict) → told v ≡ none → v ≡ Passed
-none_passed Passed h = refl
-none_passed (Refused r) h = absurd (some-ne-none _ h)
+none_passed : (v : Verdict) → told v ≡ none → v ≡ Ok tt
+none_passed (Ok tt) h = refl
+none_passed (Err r) h = absurd (some-ne-none _ h)
 
-some_refused : (v : Verdict) (t : Told) → told v ≡ some t → (r : Refusal) × (v ≡ Refused r)
-some_refused Passed t h = absurd (some-ne-none t (sym h))
-some_refused (Refused r) t h = (r, refl)
+some_refused : (v : Verdict) (t : Told) → told v ≡ some t → (r : Refusal) × (v ≡ Err r)
+some_refused (Ok tt) t h = absurd (some-ne-none t (sym h))
+some_refused (Err r) t h = (r, refl)
 
 module _ (w l : List ℕ) where
   -- a tally that is given by a definition

@@ -1,18 +1,17 @@
 -- Demand 1 as one statement. docs/DEMANDS.md has the demand in full, with numbered clauses, and the comments here name
 -- those that a field says. A field for each service says them of whatever the service's contract allows, for lent words
 -- at any length and with anything in them (1.1). Assumes nothing.
-use Rattle.std.specs.Prelude.{ℕ, min, ◌≤◌, ◌<◌, ◌≡◌, ◌⊎◌, ◌↔◌, length, take, drop}
+use Rattle.std.specs.Prelude.{ℕ, min, ◌≤◌, ◌<◌, ◌≡◌, ◌⊎◌, ◌↔◌, length, take, drop, None, Some}
 use Rattle.std.proofs.Math.Option.{Option, none, some}
 use mathlib.Core.List.{List, [], ◌∷◌, ◌++◌, map, Memᴰ}
-use Rattle.refusal.specs.declared.Verdict.{Verdict}
-use Rattle.refusal.specs.declared.place.Place.TheVariants.{Nowhere, At}
+use Rattle.refusal.specs.Refusal.{Verdict}
 use Rattle.refusal.specs.Refusal.{Told, told}
 use Rattle.refusal.specs.Check.{Check, answer}
 use Rattle.reduction.specs.Reduction.{Reduction, kept, count}
 use Rattle.tally.specs.declared.Tally.{Tally}
 use Rattle.sheet.specs.Causes.{sheet_checks}
 use Rattle.step.specs.Step.{step_checks, Steps, After}
-use Rattle.plan.specs.declared.check.Answer.{Answer}
+use Rattle.plan.specs.Checked.{Answer}
 use Rattle.plan.specs.Checked.{plan_checks, told_answer, Checks}
 use Rattle.course.specs.Course.{course_checks, Courses}
 use Rattle.reduced.specs.Reduced.{reduction_checks}
@@ -33,7 +32,7 @@ use Rattle.translation.specs.Translation.{SheetOf, told_translated, Translates}
 
 -- none of these checks fires
 abbrev pub NoneFires : List Check → Type 0
-NoneFires checks = (c : Check) → Memᴰ c checks → c.fires ≡ Nowhere
+NoneFires checks = (c : Check) → Memᴰ c checks → c.fires ≡ None
 
 -- of these checks the one with the refusal's number fires, at the refusal's place, and none before it fires
 pub record FirstToFire (checks : List Check) (t : Told) : Type 0 where
@@ -42,7 +41,7 @@ pub record FirstToFire (checks : List Check) (t : Told) : Type 0 where
   pub later : List Check
   pub parts : checks ≡ earlier ++ (here ∷ later)
   pub number : here.number ≡ t.number
-  pub fires : here.fires ≡ At t.place
+  pub fires : here.fires ≡ Some t.place
   pub before_it : NoneFires earlier
 
 -- each refusal comes under its condition and no other (1.5), of a service whose conditions are these checks
@@ -80,11 +79,11 @@ pub data TextCause (bytes : List ℕ) (room : ℕ) : Told → Type 0 where
   too_long : most_bytes < length bytes → TextCause bytes room (record { number = 13; place = 0 })
   broken : {n : ℕ} → length bytes ≤ most_bytes → Breaks bytes n
       → TextCause bytes room (record { number = 13; place = n })
-  unsaid : {t : Text} {n : ℕ} → length bytes ≤ most_bytes → Prints t bytes → unsayable t ≡ At n
+  unsaid : {t : Text} {n : ℕ} → length bytes ≤ most_bytes → Prints t bytes → unsayable t ≡ Some n
       → TextCause bytes room (record { number = 14; place = n })
-  no_sheet : {t : Text} → length bytes ≤ most_bytes → Prints t bytes → unsayable t ≡ Nowhere
+  no_sheet : {t : Text} → length bytes ≤ most_bytes → Prints t bytes → unsayable t ≡ None
       → ((w : List ℕ) → SheetOf t w → ⊥) → TextCause bytes room (record { number = 15; place = 0 })
-  no_room : {t : Text} {w : List ℕ} → length bytes ≤ most_bytes → Prints t bytes → unsayable t ≡ Nowhere
+  no_room : {t : Text} {w : List ℕ} → length bytes ≤ most_bytes → Prints t bytes → unsayable t ≡ None
       → SheetOf t w → room < length w → TextCause bytes room (record { number = 10; place = length w })
 
 -- a lent list output, over which a service writes what the reduction m leaves of the list l

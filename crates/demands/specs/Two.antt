@@ -5,20 +5,20 @@ use Rattle.std.specs.Prelude.{ℕ, ◌+◌, ◌-◌, ◌≤◌, ◌<◌, ◌≡�
 use Rattle.std.proofs.Math.Option.{Option, none, some}
 use mathlib.Core.List.{List, [], ◌++◌, flatten}
 use Rattle.std.proofs.lemmas.List.Edits.{sets}
-use Rattle.refusal.specs.declared.Verdict.{Verdict}
+use Rattle.refusal.specs.Refusal.{Verdict}
 use Rattle.refusal.specs.Refusal.{Told, told}
 use Rattle.sas.specs.Task.{State}
 use Rattle.sas.specs.Plan.{run, cost, Plan, Stuck}
 use Rattle.reduction.specs.Reduction.{Reduction, keeps, kept, count, whole}
 use Rattle.mask.specs.Mask.{mask_length, ones_of, bit_up}
 use Rattle.tally.specs.declared.Tally.{Tally}
-use Rattle.tally.specs.declared.Order.{Order}
-use Rattle.tally.specs.declared.Order.TheVariants.{Less, Equal, Greater}
+use Rattle.std.specs.declared.cmp.Ordering.{Ordering}
+use Rattle.std.specs.declared.cmp.Ordering.TheVariants.{Less, Equal, Greater}
 use Rattle.tally.specs.Tally.{bounds, nothing, one_more, comparison}
 use Rattle.sheet.specs.Limits.{limits}
 use Rattle.sheet.specs.Layout.{variables}
 use Rattle.sheet.specs.Decode.{initial, task}
-use Rattle.plan.specs.declared.check.Answer.{Answer}
+use Rattle.plan.specs.Checked.{Answer}
 use Rattle.plan.specs.Readable.{Readable}
 use Rattle.plan.specs.Valid.{steps}
 use Rattle.plan.specs.Checked.{plan_checks, told_answer, told_tally, no_state, Checks}
@@ -126,7 +126,7 @@ pub record AddedTruly (t : Tally) (price : ℕ) (r : Tally) : Type 0 where
   pub dear : bounds.cost < t.cost + price → r ≡ t
 
 -- two tallies compared (2.6)
-pub record ComparedTruly (t u : Tally) (r : Order) : Type 0 where
+pub record ComparedTruly (t u : Tally) (r : Ordering) : Type 0 where
   pub less : r ≡ Less ↔ TallyLower t u
   pub equal : r ≡ Equal ↔ t ≡ u
   pub greater : r ≡ Greater ↔ TallyLower u t
@@ -167,4 +167,4 @@ pub record DemandTwo : Type 0 where
       → ShortenedTruly w l licenses.answers.left r.told
   -- 2.6: a tally with one step more, and which of two tallies is the lower
   pub tally_add : (t : Tally) (price : ℕ) (r : Tally) → r ≡ one_more t price → AddedTruly t price r
-  pub tally_compare : (t u : Tally) (r : Order) → r ≡ comparison t u → ComparedTruly t u r
+  pub tally_compare : (t u : Tally) (r : Ordering) → r ≡ comparison t u → ComparedTruly t u r

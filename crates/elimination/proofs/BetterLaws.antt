@@ -1,8 +1,8 @@
 -- The better of the best so far and a trial, by cases. Assumes nothing.
 use mathlib.Core.Path.{◌≡◌}
 use mathlib.Core.Bool.{true, false}
-use Rattle.tally.specs.declared.Order.{Order}
-use Rattle.tally.specs.declared.Order.TheVariants.{Less}
+use Rattle.std.specs.declared.cmp.Ordering.{Ordering}
+use Rattle.std.specs.declared.cmp.Ordering.TheVariants.{Less}
 use Rattle.tally.specs.Tally.{comparison}
 use Rattle.reduced.specs.Between.Tallied.{is_less}
 use Rattle.elimination.specs.declared.greedy.Best.{Best}
@@ -20,7 +20,7 @@ module _ (so_far : Best) (tried : Tried) where
     first_success e = rw (succeeds, e)
 
     -- of two successes, by the order of what they strike
-    module _ (order : Order) (found : so_far.found ≡ true) (compared : order ≡ comparison so_far.struck tried.struck) where
+    module _ (order : Ordering) (found : so_far.found ≡ true) (compared : order ≡ comparison so_far.struck tried.struck) where
       pub more_success : order ≡ Less → record { found = true; flags = tried.flags; struck = tried.struck } ≡ better_of so_far tried
       unfolding better_of replaces
       more_success less = let is : comparison so_far.struck tried.struck ≡ Less = cc in rw (succeeds, found, is)

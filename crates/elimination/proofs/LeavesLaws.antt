@@ -9,7 +9,7 @@ use Rattle.tally.specs.declared.Tally.{Tally}
 use Rattle.sheet.specs.Decode.{initial, goal, action}
 use Rattle.plan.specs.Valid.{steps}
 use Rattle.plan.specs.Readable.{Readable}
-use Rattle.plan.specs.declared.check.Answer.{Answer}
+use Rattle.plan.specs.Checked.{Answer}
 use Rattle.reduction.specs.Reduction.{Reduction, valid, ValidReduction}
 use Rattle.reduction.proofs.ReductionLaws.{kept_length}
 use Rattle.reduction.proofs.trials.EliminationTheorem.{eliminate_shortens, greedy_shortens, elimination_in_words, greedy_in_words}

@@ -2,7 +2,7 @@
 use Rattle.std.specs.Prelude.{ℕ, ◌≡◌, ◌↔◌, List, length}
 use Rattle.refusal.specs.Check.{answer}
 use Rattle.sheet.specs.Decode.{goal, initial}
-use Rattle.plan.specs.declared.check.Answer.{Answer}
+use Rattle.plan.specs.Checked.{Answer}
 use Rattle.plan.specs.Valid.{steps}
 use Rattle.reduction.specs.Reduction.{Reduction, whole}
 use Rattle.reduction.specs.Trials.{EliminationLeaves, GreedyLeaves}

@@ -13,7 +13,8 @@ use plan::limits::Plan;
 use reduced::held::all_kept;
 use step::advance::advance_in;
 use step::state::initial;
-use tally::{Order, Tally};
+use std::cmp::Ordering;
+use tally::Tally;
 use trial::{Tried, trial};
 
 // The best success of a round so far, if there is one, with the tally of what it strikes.
@@ -35,13 +36,13 @@ fn better(best: Best, tried: Tried) -> Best
         if best.found {
             let order = best.struck.compare(struck);
             return match order {
-                Order::Less => Best {
+                Ordering::Less => Best {
                     found: true,
                     flags,
                     struck,
                 },
-                Order::Equal => best,
-                Order::Greater => best,
+                Ordering::Equal => best,
+                Ordering::Greater => best,
             };
         }
         return Best {

@@ -10,7 +10,7 @@ ghost use Rattle.elimination.specs.Between.Left.{left_by};
 
 use crate::eliminate::eliminate;
 use crate::greedy::greedy;
-use plan::check::{Answer, check_lodged};
+use plan::check::check_lodged;
 use plan::limits::Plan;
 use reduced::answer::Reduced;
 use reduced::finish::finish;
@@ -42,7 +42,7 @@ pub fn eliminate_plan(words: &[u32], plan: &[u32], out: &mut [u32], by: Eliminat
 {
     let checked = check_lodged(words, plan, Plan::STEPS, check_room(plan.len(), out.len()));
     let answer = checked.answer;
-    if let Answer::Refused(refusal) = answer {
+    if let Err(refusal) = answer {
         return Reduced::refused(refusal);
     }
     let flags = flags_left(words, plan, by);

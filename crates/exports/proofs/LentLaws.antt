@@ -1,4 +1,5 @@
 -- What a service that strikes nothing has stored into lent words. Assumes nothing.
+use Rattle.std.specs.Prelude.{Err, Ok}
 use Prim.Native.Nat.{ℕ, ◌≤◌}
 use native.Mathlib.Nat.{zero-add}
 use native.Mathlib.Omega.{arith}
@@ -8,10 +9,9 @@ use mathlib.Core.List.{List, [], ◌∷◌, ◌++◌}
 use lib.ListN.{length, take, drop, take-append-drop}
 use lib.Seq.{sets, sets-eq}
 use Rattle.refusal.specs.declared.Refusal.{Refusal}
-use Rattle.refusal.specs.declared.Verdict.{Verdict}
-use Rattle.refusal.specs.declared.Verdict.TheVariants.{Passed, Refused as RefusedVerdict}
+use Rattle.refusal.specs.Refusal.{Verdict}
 use Rattle.refusal.specs.Refusal.{told}
-use Rattle.plan.specs.declared.check.Answer.{Answer}
+use Rattle.plan.specs.Checked.{Answer}
 use Rattle.plan.specs.Checked.{plan_checks, told_answer, told_tally, Checks}
 use Rattle.sheet.specs.Limits.{limits}
 use Rattle.step.specs.Step.{Steps}
@@ -80,7 +80,7 @@ module _ (text output output' out out' : List ℕ) (r : Translated) (done : Answ
   told_as given checks =
       subst (λ t. ToldOfBytes text (length output) t (text_sheet text)) (sym checks.answers) (told_of_bytes text (length output))
 
-  pub text_refused : (x : Refusal) → r ≡ Refused x → out' ≡ sets out 0 (answer_words (told (RefusedVerdict x)) ++ (0 ∷ [])) → TranslatesLent text output output' out out'
+  pub text_refused : (x : Refusal) → r ≡ Refused x → out' ≡ sets out 0 (answer_words (told (Err x)) ++ (0 ∷ [])) → TranslatesLent text output output' out out'
   text_refused x is written =
       let refuses : AnswersChecks text output (Refused x) output' = rw is at done in
       record {
@@ -91,7 +91,7 @@ module _ (text output output' out out' : List ℕ) (r : Translated) (done : Answ
         answered = written;
       }
 
-  pub text_written : (n : ℕ) → r ≡ Written n → out' ≡ sets out 0 (answer_words (told Passed) ++ (n ∷ [])) → TranslatesLent text output output' out out'
+  pub text_written : (n : ℕ) → r ≡ Written n → out' ≡ sets out 0 (answer_words (told (Ok tt)) ++ (n ∷ [])) → TranslatesLent text output output' out out'
   text_written n is written =
       let writes : AnswersChecks text output (Written n) output' = rw is at done in
       let counted : n ≡ length (text_sheet text) = writes.leaves.counted in

@@ -34,11 +34,12 @@ use lent::{
 };
 use moves::rows::plan_moves;
 use plan::check::check_plan;
-use refusal::Verdict;
+use refusal::Refusal;
 use sheet_check::check::check_sheet;
 use step::one::step;
 use striking::{eliminate, eliminate_both, eliminate_cheaper, license_plan, minimise};
-use tally::{Order, Tally};
+use std::cmp::Ordering;
+use tally::Tally;
 use translation::translate::{Translated, translate};
 
 // Checks a task: the number and the place of its refusal go to `out`, or 0 and 0.
@@ -79,9 +80,9 @@ pub extern "C" fn hollchiku_tally_compare(
         steps: steps_b,
     };
     match first.compare(second) {
-        Order::Less => 0,
-        Order::Equal => 1,
-        Order::Greater => 2,
+        Ordering::Less => 0,
+        Ordering::Equal => 1,
+        Ordering::Greater => 2,
     }
 }
 
@@ -310,7 +311,7 @@ pub extern "C" fn hollchiku_translate(text: &[u8], output: &mut [u32], out: &mut
 {
     let given = translate(text, output);
     match given {
-        Translated::Refused(refusal) => write_counted(out, Verdict::Refused(refusal), 0),
-        Translated::Written(words) => write_counted(out, Verdict::Passed, words),
+        Translated::Refused(refusal) => write_counted(out, Err(refusal), 0),
+        Translated::Written(words) => write_counted(out, Ok(()), words),
     }
 }

@@ -1,5 +1,6 @@
 -- How a line takes a reader on: where it is what it must be, going on behind it finds what going on before it did; where it is not, or there is none, going
 -- on finds that line broken. Assumes nothing.
+use Rattle.std.specs.Prelude.{None, Some}
 use Prim.Native.Nat.{ℕ, ◌+◌}
 use native.Mathlib.Omega.{arith}
 use mathlib.Core.Path.{◌≡◌, refl, sym, ◌∙◌, ap}
@@ -7,8 +8,7 @@ use mathlib.Core.Bool.{Bool, true, false, cond}
 use mathlib.Core.List.{List, [], ◌∷◌, ◌++◌, append_assoc}
 use lib.ListN.{take, drop}
 use borrow.Author.Tests.{ne_eqb}
-use Rattle.refusal.specs.declared.place.Place.{Place}
-use Rattle.refusal.specs.declared.place.Place.TheVariants.{Nowhere, At}
+use Rattle.refusal.specs.Place.{Place}
 use Rattle.refusal.specs.Place.{when, or_else}
 use Rattle.ascii.specs.Bytes.{Split, runs}
 use Rattle.fields.specs.Between.Fields.{lines_of}
@@ -18,10 +18,10 @@ use Rattle.form.specs.Between.Reading.{outcome, barred_at, going_on}
 use Rattle.form.specs.Between.Reading.Outcome.{Broken, Whole}
 
 -- the first place of three
-first_of_three : (met p : Place) (b : Bool) (k : ℕ) → or_else (or_else met (when b k)) p ≡ or_else met (elim b [ true ↦ At k | false ↦ p ])
-first_of_three Nowhere p true k = refl
-first_of_three Nowhere p false k = refl
-first_of_three (At n) p b k = refl
+first_of_three : (met p : Place) (b : Bool) (k : ℕ) → or_else (or_else met (when b k)) p ≡ or_else met (elim b [ true ↦ Some k | false ↦ p ])
+first_of_three None p true k = refl
+first_of_three None p false k = refl
+first_of_three (Some n) p b k = refl
 
 -- whole or broken, each the same
 pub same_either : (b : Bool) {xs ys : List ℕ} {p q : Place} {n m : ℕ} → xs ≡ ys → p ≡ q → n ≡ m

@@ -1,12 +1,12 @@
 -- A reader that stops before a line that is not what it must be, or has stopped; and what one that goes on has met and kept. Assumes nothing.
+use Rattle.std.specs.Prelude.{None, Some}
 use Prim.Native.Nat.{ℕ, ◌+◌, ◌≤◌}
 use native.Mathlib.Omega.{arith}
 use mathlib.Core.Path.{◌≡◌, refl, sym, ◌∙◌}
 use mathlib.Core.Bool.{Bool, true, false, cond}
 use mathlib.Core.List.{List, [], ◌∷◌}
 use borrow.Author.Tests.{ne_eqb}
-use Rattle.refusal.specs.declared.place.Place.{Place}
-use Rattle.refusal.specs.declared.place.Place.TheVariants.{Nowhere, At}
+use Rattle.refusal.specs.Place.{Place}
 use Rattle.refusal.specs.Place.{when, or_else}
 use Rattle.form.specs.declared.reader.Reader.{Reader}
 use Rattle.form.specs.Between.Form.{Row, Due, numbers}
@@ -14,9 +14,9 @@ use Rattle.form.specs.Between.Reading.{barred_at, going_on, Within, Reads, Reads
 use Rattle.form.specs.Between.Reading.Outcome.{Broken}
 use Rattle.form.proofs.GoingLaws.{going_stopped}
 
-pub first_or_none : (p : Place) → p ≡ or_else p Nowhere
-first_or_none Nowhere = refl
-first_or_none (At n) = refl
+pub first_or_none : (p : Place) → p ≡ or_else p None
+first_or_none None = refl
+first_or_none (Some n) = refl
 
 -- a reader that has stopped before the next line
 abbrev pub stopped_reader : Reader → Reader

@@ -1,7 +1,7 @@
 -- The marks of a list (document 02, C-12), and what the service answers (document 01, "Marks"). That they are those of
 -- the rule is `marks_theorem` of proofs/MarkTheorem. Assumes nothing.
 use Rattle.std.specs.Prelude.{ℕ, ◌-◌, ◌≡◌, List, length, replicate}
-use Rattle.refusal.specs.declared.Verdict.{Verdict}
+use Rattle.refusal.specs.Refusal.{Verdict}
 use Rattle.refusal.specs.Refusal.{told}
 use Rattle.refusal.specs.Check.{answer, unless_refused}
 use Rattle.reduction.specs.Reduction.{Reduction, count}

@@ -5,33 +5,33 @@ ghost use Rattle.landmark.specs.Between.Flagged.{MarksLodged};
 
 use crate::flags::landmarks;
 use mask::{Mask, mask_of};
-use plan::check::{Answer, check_lodged};
+use plan::check::check_lodged;
 use plan::limits::Plan;
-use refusal::Verdict;
+use refusal::Refusal;
 
 // What the check of a plan answers, and the marks: a flag for each step, none past the last, and none at all on a
 // refusal.
 #[derive(Clone, Copy)]
 pub struct Marked {
-    pub answer: Answer,
+    pub answer: Result<Tally, Refusal>,
     pub flags: [bool; Plan::STEPS],
 }
 
 // Checks a plan of a task and marks its landmarks. `besides` is the verdict on what a service asks besides.
-pub fn mark_lodged(words: &[u32], plan: &[u32], besides: Verdict) -> Marked
+pub fn mark_lodged(words: &[u32], plan: &[u32], besides: Result<(), Refusal>) -> Marked
     ensures { MarksLodged words.now plan.now besides result.answer result.flags }
 {
     let checked = check_lodged(words, plan, Plan::STEPS, besides);
     let answer = checked.answer;
     match answer {
-        Answer::Refused(refusal) => Marked {
-            answer: Answer::Refused(refusal),
+        Err(refusal) => Marked {
+            answer: Err(refusal),
             flags: [false; Plan::STEPS],
         },
-        Answer::Valid(tally) => {
+        Ok(tally) => {
             let flags = landmarks(words, plan);
             Marked {
-                answer: Answer::Valid(tally),
+                answer: Ok(tally),
                 flags,
             }
         }
@@ -41,7 +41,7 @@ pub fn mark_lodged(words: &[u32], plan: &[u32], besides: Verdict) -> Marked
 // The verdict, and the mask of the marks: zero on a refusal.
 #[derive(Clone, Copy)]
 pub struct Masked {
-    pub verdict: Verdict,
+    pub verdict: Result<(), Refusal>,
     pub mask: Mask,
 }
 
@@ -49,20 +49,20 @@ pub struct Masked {
 pub fn marks_mask(words: &[u32], plan: &[u32]) -> Masked
     ensures { Masks words.now plan.now result.verdict result.mask.words }
 {
-    let marked = mark_lodged(words, plan, Verdict::Passed);
+    let marked = mark_lodged(words, plan, Ok(()));
     let answer = marked.answer;
     let flags = marked.flags;
     match answer {
-        Answer::Refused(refusal) => Masked {
-            verdict: Verdict::Refused(refusal),
+        Err(refusal) => Masked {
+            verdict: Err(refusal),
             mask: Mask {
                 words: [0u64; Mask::WORDS],
             },
         },
-        Answer::Valid(_) => {
+        Ok(_) => {
             let n = plan.len();
             Masked {
-                verdict: Verdict::Passed,
+                verdict: Ok(()),
                 mask: mask_of(&flags[..n]),
             }
         }

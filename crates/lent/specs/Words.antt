@@ -4,9 +4,9 @@ use Rattle.std.proofs.Math.Option.{Option, none, some}
 use Rattle.std.proofs.lemmas.List.Edits.{sets}
 use Rattle.refusal.specs.Refusal.{Told}
 use Rattle.tally.specs.declared.Tally.{Tally}
-use Rattle.tally.specs.declared.Order.{Order}
-use Rattle.tally.specs.declared.Order.TheVariants.{Less, Equal, Greater}
-use Rattle.plan.specs.declared.check.Answer.{Answer}
+use Rattle.std.specs.declared.cmp.Ordering.{Ordering}
+use Rattle.std.specs.declared.cmp.Ordering.TheVariants.{Less, Equal, Greater}
+use Rattle.plan.specs.Checked.{Answer}
 use Rattle.plan.specs.Checked.{told_answer, told_tally}
 use Rattle.sheet.specs.Limits.{limits}
 use Rattle.sheet.specs.Layout.{word}
@@ -25,7 +25,7 @@ abbrev pub tally_words : Tally → List ℕ
 tally_words t = t.cost ∷ t.steps ∷ []
 
 -- which of two tallies is the lower, as a number
-abbrev pub order_number : Order → ℕ
+abbrev pub order_number : Ordering → ℕ
 order_number Less = 0
 order_number Equal = 1
 order_number Greater = 2

@@ -9,8 +9,7 @@ ghost use Rattle.lent.specs.Words.{answer_words, tally_words, lent_state, Writes
 
 use access::{put_all, put64, word};
 use mask::Mask;
-use plan::check::Answer;
-use refusal::Verdict;
+use refusal::Refusal;
 use sheet::limits::Sheet;
 use step::state::State;
 use tally::Tally;
@@ -34,12 +33,12 @@ pub fn write_pair(out: &mut [u64], at: usize, first: u64, second: u64)
 }
 
 // Writes the number and the place of a refusal, or 0 and 0.
-pub fn write_verdict(out: &mut [u64], verdict: Verdict)
+pub fn write_verdict(out: &mut [u64], verdict: Result<(), Refusal>)
     ensures { out.new ≡ sets out.old 0 (answer_words (told verdict)) }
 {
     match verdict {
-        Verdict::Passed => write_pair(out, 0, 0, 0),
-        Verdict::Refused(refusal) => write_pair(
+        Ok(()) => write_pair(out, 0, 0, 0),
+        Err(refusal) => write_pair(
             out,
             0,
             refusal.number() as u64,
@@ -49,16 +48,16 @@ pub fn write_verdict(out: &mut [u64], verdict: Verdict)
 }
 
 // Writes the answer to a plan: the number and the place of a refusal, or 0 and 0, then the cost and the steps.
-pub fn write_answer(out: &mut [u64], given: Answer)
+pub fn write_answer(out: &mut [u64], given: Result<Tally, Refusal>)
     ensures { out.new
         ≡ sets out.old 0 (answer_words (told_answer given) ++ tally_words (told_tally given)) }
 {
     match given {
-        Answer::Valid(tally) => {
+        Ok(tally) => {
             write_pair(out, 0, 0, 0);
             write_pair(out, TALLY_AT, tally.cost as u64, tally.steps as u64);
         }
-        Answer::Refused(refusal) => {
+        Err(refusal) => {
             write_pair(out, 0, refusal.number() as u64, refusal.place() as u64);
             write_pair(out, TALLY_AT, 0, 0);
         }
@@ -66,7 +65,7 @@ pub fn write_answer(out: &mut [u64], given: Answer)
 }
 
 // Writes an answer that counts something: the number and the place of a refusal, or 0 and 0, then how many.
-pub fn write_counted(out: &mut [u64], verdict: Verdict, count: usize)
+pub fn write_counted(out: &mut [u64], verdict: Result<(), Refusal>, count: usize)
     ensures { out.new ≡ sets out.old 0 (answer_words (told verdict) ++ (count ∷ [])) }
 {
     write_verdict(out, verdict);
@@ -74,7 +73,7 @@ pub fn write_counted(out: &mut [u64], verdict: Verdict, count: usize)
 }
 
 // Writes what a service that strikes answers: the four words of its mask, and its answer.
-pub fn write_reduced(mask: &mut [u64], out: &mut [u64], kept: Mask, given: Answer)
+pub fn write_reduced(mask: &mut [u64], out: &mut [u64], kept: Mask, given: Result<Tally, Refusal>)
     ensures { WritesReduced kept.words given
         mask.old mask.new out.old out.new }
 {
@@ -84,7 +83,7 @@ pub fn write_reduced(mask: &mut [u64], out: &mut [u64], kept: Mask, given: Answe
 }
 
 // Writes the answer of both eliminations: the number and the place of a refusal, or 0 and 0, then the two tallies.
-pub fn write_both(out: &mut [u64], verdict: Verdict, first: Tally, second: Tally)
+pub fn write_both(out: &mut [u64], verdict: Result<(), Refusal>, first: Tally, second: Tally)
     ensures { out.new
         ≡ sets out.old 0 (answer_words (told verdict) ++ (tally_words first ++ tally_words second)) }
 {

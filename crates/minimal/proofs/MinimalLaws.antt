@@ -1,5 +1,6 @@
 -- What the service of the minimal reduction answers on each of its ways: the flags are the marks, which every valid reduction keeps, so that the search finds
 -- the minimal reduction. What the code calls is a variable here, with what is known of it as a premise. Assumes nothing.
+use Rattle.std.specs.Prelude.{Err, Ok}
 use Prim.Native.Nat.{ℕ, ◌-◌, ◌≤◌, ◌<◌}
 use native.Mathlib.Omega.{arith}
 use mathlib.Core.Path.{◌≡◌, refl, sym, ◌∙◌, ap}
@@ -11,7 +12,7 @@ use lib.Seq.{length-take-le}
 use borrow.Author.Tests.{lt-ltb, le-ltb}
 use Rattle.refusal.specs.declared.Refusal.{Refusal}
 use Rattle.refusal.specs.declared.Refusal.TheVariants.{Unmarked}
-use Rattle.refusal.specs.declared.Verdict.{Verdict}
+use Rattle.refusal.specs.Refusal.{Verdict}
 use Rattle.refusal.specs.Refusal.{told_refusal, told}
 use Rattle.refusal.specs.Check.{answer}
 use Rattle.refusal.proofs.CheckLaws.{answer_fires, answer_passes, answer_nothing, answer_first, answer_second}
@@ -25,8 +26,7 @@ use Rattle.tally.proofs.TallyLaws.{same_tally}
 use Rattle.mask.specs.Mask.{mask_bits, mask_words, ones_of}
 use Rattle.mask.proofs.MaskTheorem.{ones_are_kept}
 use Rattle.sheet.specs.Decode.{goal, initial}
-use Rattle.plan.specs.declared.check.Answer.{Answer}
-use Rattle.plan.specs.declared.check.Answer.TheVariants.{Valid, Refused}
+use Rattle.plan.specs.Checked.{Answer}
 use Rattle.plan.specs.Valid.{steps}
 use Rattle.plan.specs.Readable.{Readable}
 use Rattle.plan.specs.Checked.{lodged_tally, told_answer}
@@ -58,7 +58,7 @@ refuses_all : (limit : ℕ) (w l before : List ℕ) (refusal : Refusal) (r : Sho
     → Refuses refusal r → MinimisesOf limit w l before r before
 refuses_all limit w l before refusal r fires refuses =
     record {
-      answers = rw (refuses.answer, refuses.mask) (answers_refused _ w l (minimal_of w l) before (Refused refusal) (sym fires) refusal refl);
+      answers = rw (refuses.answer, refuses.mask) (answers_refused _ w l (minimal_of w l) before (Err refusal) (sym fires) refusal refl);
       lodged = rw fires refuses.lodged;
       marks = rw fires refuses.marked;
     }
@@ -69,13 +69,13 @@ module _ (limit : ℕ) (w l before : List ℕ) (v : Verdict) (given : Answer) (f
   checked = lodges.checked (room_checks (length l) (length before)) asked
 
   -- one of the checks 1 to 11 refuses
-  pub first_refuses : (refusal : Refusal) (r : Shortened) → given ≡ Refused refusal → Refuses refusal r → MinimisesOf limit w l before r before
+  pub first_refuses : (refusal : Refusal) (r : Shortened) → given ≡ Err refusal → Refuses refusal r → MinimisesOf limit w l before r before
   unfolding minimal_checks
   first_refuses refusal r is refuses =
       refuses_all limit w l before refusal r (answer_first (reduction_checks w l (length before)) _ (sym checked.refusal ∙ ap told_answer is)) refuses
 
   -- none does
-  module _ (lodged : Tally) (valid : given ≡ Valid lodged) where
+  module _ (lodged : Tally) (valid : given ≡ Ok lodged) where
     passed : answer (reduction_checks w l (length before)) ≡ none
     passed = sym checked.refusal ∙ ap told_answer valid
 
@@ -142,14 +142,14 @@ module _ (limit : ℕ) (w l before : List ℕ) (v : Verdict) (given : Answer) (f
             (lodged_is ∙ whole_tally)
 
         pub minimises : (left : Kept) (after : List ℕ) → Finishes w l (mask l kept) before left.tally left.mask.words after
-            → MinimisesOf limit w l before (record { answer = Valid left.tally; mask = left.mask; lodged = lodged; marked = ones }) after
+            → MinimisesOf limit w l before (record { answer = Ok left.tally; mask = left.mask; lodged = lodged; marked = ones }) after
         unfolding unmarked_checks
         minimises left after finishes =
             let passes : answer (minimal_checks limit w l (length before)) ≡ none =
             only_unmarked ∙ answer_passes _ [] (rw (← others, le-ltb limit (length l - ones) h)) ∙ answer_nothing in
             record {
               answers =
-                  answers_kept _ w l (minimal_of w l) before (Valid lodged) (sym passes) lodged (mask l kept) after left.mask.words left.tally refl
+                  answers_kept _ w l (minimal_of w l) before (Ok lodged) (sym passes) lodged (mask l kept) after left.mask.words left.tally refl
                   kept_left.same (keeps w l (mask l kept) before after left.mask.words left.tally readable kept_left.fits finishes);
               lodged = rw passes lodged_is;
               marks = rw passes ones_marked;

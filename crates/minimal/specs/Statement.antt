@@ -8,7 +8,7 @@ use Rattle.reduction.specs.Reduction.{Reduction, keeps, kept, ValidReduction}
 use Rattle.reduction.specs.Landmark.{Landmark}
 use Rattle.reduction.specs.Minimal.{MinimalReduction}
 use Rattle.sheet.specs.Decode.{goal, initial, task}
-use Rattle.plan.specs.declared.check.Answer.{Answer}
+use Rattle.plan.specs.Checked.{Answer}
 use Rattle.plan.specs.Valid.{steps}
 use Rattle.reduced.specs.Reduced.{Answers}
 use Rattle.landmark.specs.Marks.{marks, unmarked}

@@ -6,7 +6,6 @@ ghost use Rattle.minimal.specs.Between.Refused.{Refuses};
 
 use landmark::marks::mark_lodged;
 use mask::{Mask, mask_of};
-use plan::check::Answer;
 use reduced::finish::finish;
 use reduced::room::check_room;
 use refusal::Refusal;
@@ -17,7 +16,7 @@ use tally::Tally;
 // of its marked steps: all zero on a refusal.
 #[derive(Clone, Copy)]
 pub struct Shortened {
-    pub answer: Answer,
+    pub answer: Result<Tally, Refusal>,
     pub mask: Mask,
     pub lodged: Tally,
     pub marked: u32,
@@ -29,7 +28,7 @@ impl Shortened {
         ensures { Refuses refusal result }
     {
         Shortened {
-            answer: Answer::Refused(refusal),
+            answer: Err(refusal),
             mask: Mask {
                 words: [0u64; Mask::WORDS],
             },
@@ -50,8 +49,8 @@ pub(crate) fn reduce_within(words: &[u32], plan: &[u32], out: &mut [u32], limit:
     let answer = checked.answer;
     let flags = checked.flags;
     match answer {
-        Answer::Refused(refusal) => Shortened::refused(refusal),
-        Answer::Valid(lodged) => {
+        Err(refusal) => Shortened::refused(refusal),
+        Ok(lodged) => {
             let n = plan.len();
             let marked = mask_of(&flags[..n]).count();
             let unmarked = n - marked as usize;
@@ -63,7 +62,7 @@ pub(crate) fn reduce_within(words: &[u32], plan: &[u32], out: &mut [u32], limit:
             let tally = left.tally;
             let mask = left.mask;
             Shortened {
-                answer: Answer::Valid(tally),
+                answer: Ok(tally),
                 mask,
                 lodged,
                 marked,

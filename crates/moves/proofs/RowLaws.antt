@@ -1,4 +1,5 @@
 -- The words of a row as they are stored one after the other, the rows so far, and with them what the service answers. Assumes nothing.
+use Rattle.std.specs.Prelude.{Err, Ok}
 use Prim.Native.Nat.{ℕ, suc, ◌+◌, ◌-◌, ◌*◌, ◌≤◌, ◌<◌}
 use native.Mathlib.Omega.{arith}
 use mathlib.Core.Path.{◌≡◌, refl, sym, ◌∙◌, ap}
@@ -8,8 +9,7 @@ use mathlib.Core.List.{List, ◌∷◌, ◌++◌, flatten}
 use lib.ListN.{length, get_or, set}
 use lib.Seq.{sets, take_all}
 use Rattle.access.proofs.StoreLaws.{stores_joined}
-use Rattle.refusal.specs.declared.Verdict.{Verdict}
-use Rattle.refusal.specs.declared.Verdict.TheVariants.{Passed, Refused as RefusedVerdict}
+use Rattle.refusal.specs.Refusal.{Verdict}
 use Rattle.refusal.specs.declared.Refusal.{Refusal}
 use Rattle.refusal.specs.Refusal.{told}
 use Rattle.refusal.specs.Check.{answer}
@@ -18,7 +18,6 @@ use Rattle.sheet.specs.Layout.{cost_word}
 use Rattle.sheet.specs.Decode.{action, table}
 use Rattle.sheet.proofs.TableLaws.{table_length, table_at, table_more}
 use Rattle.plan.specs.Limits.{most_steps}
-use Rattle.plan.specs.declared.check.Answer.TheVariants.{Valid, Refused}
 use Rattle.plan.specs.Checked.{lodged_tally}
 use Rattle.plan.specs.Readable.{Readable}
 use Rattle.plan.proofs.PlanLaws.{read_readable}
@@ -111,18 +110,18 @@ module _ (w l mask marks before : List ℕ) where
 
 -- the service refuses what is read
 module _ (w l mask marks : List ℕ) (v : Verdict) (read : told v ≡ answer (moves_checks w l)) (before : List ℕ) where
-  pub moves_refused : (r : Refusal) → v ≡ RefusedVerdict r → Moves w l mask marks (Refused r) before before
+  pub moves_refused : (r : Refusal) → v ≡ Err r → Moves w l mask marks (Err r) before before
   moves_refused r e =
-      let fires : answer (moves_checks w l) ≡ told (RefusedVerdict r) = sym read ∙ ap told e in
+      let fires : answer (moves_checks w l) ≡ told (Err r) = sym read ∙ ap told e in
       record { refusal = sym fires; tally = rw fires; rows = rw fires }
 
   -- or writes its rows
-  module _ (passed : v ≡ Passed) where
+  module _ (passed : v ≡ Ok tt) where
     passes : answer (moves_checks w l) ≡ none
     passes = sym read ∙ ap told passed
 
     pub moves_readable : Readable w l
     moves_readable = read_readable most_steps w l passes
 
-    pub moves_written : (t : Tally) (after : List ℕ) → WritesRows w l mask marks t before after → Moves w l mask marks (Valid t) before after
+    pub moves_written : (t : Tally) (after : List ℕ) → WritesRows w l mask marks t before after → Moves w l mask marks (Ok t) before after
     moves_written t after writes = record { refusal = sym passes; tally = rw passes writes.tally; rows = rw passes writes.rows }

@@ -8,7 +8,7 @@ use Rattle.tally.specs.declared.Tally.{Tally}
 use Rattle.tally.specs.Tally.{nothing}
 use Rattle.sheet.specs.Decode.{action, table}
 use Rattle.plan.specs.Limits.{most_steps}
-use Rattle.plan.specs.declared.check.Answer.{Answer}
+use Rattle.plan.specs.Checked.{Answer}
 use Rattle.plan.specs.Checked.{read_checks, told_answer, told_tally, lodged_tally}
 use Rattle.reduction.specs.Reduction.{Reduction, kept}
 use Rattle.mask.specs.Mask.{digit, bit_up}

@@ -5,10 +5,9 @@ ghost use Rattle.moves.specs.Between.Tallied.{WritesRows};
 
 use crate::row::{bit, put_row};
 use crate::tallies::Tallies;
-use plan::check::Answer;
 use plan::limits::Plan;
 use plan::list::check_read;
-use refusal::Verdict;
+use refusal::Refusal;
 use sheet::layout::cost;
 use tally::Tally;
 
@@ -41,13 +40,13 @@ pub fn plan_moves(
     kept: &[u64],
     marked: &[u64],
     rows: &mut [u32],
-) -> Answer
+) -> Result<Tally, Refusal>
     ensures { Moves words.now plan.now kept.now marked.now result
         rows.old rows.new }
 {
     let read = check_read(words, plan, Plan::STEPS);
-    if let Verdict::Refused(refusal) = read {
-        return Answer::Refused(refusal);
+    if let Err(refusal) = read {
+        return Err(refusal);
     }
-    Answer::Valid(write_rows(words, plan, kept, marked, rows))
+    Ok(write_rows(words, plan, kept, marked, rows))
 }

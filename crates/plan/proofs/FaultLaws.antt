@@ -1,6 +1,7 @@
 -- Where a sequence of actions fails to be valid and the state that it ends in: by the cases of the sequence; by those of a loop over a list of
 -- action numbers; and against SAS+, where a sequence without fault is one that runs to a state that satisfies the goal, and a fault is the position
 -- at which it is stuck, or the one past its end. By list induction, along the actions that can be applied. Assumes nothing.
+use Rattle.std.specs.Prelude.{None, Some}
 use Prim.Native.Nat.{ℕ, zero, suc, ◌+◌, ◌≤◌, ◌<◌}
 use native.Mathlib.Omega.{arith}
 use native.Mathlib.Numerals.{add-one}
@@ -11,7 +12,6 @@ use mathlib.Core.Option.{Option, none, some}
 use mathlib.Core.List.{List, [], ◌∷◌, ◌++◌, map, append-nil}
 use lib.ListN.{length, get_or, drop, drop_of_length-le}
 use lib.Seq.{drop-cons}
-use Rattle.refusal.specs.declared.place.Place.TheVariants.{Nowhere, At}
 use Rattle.refusal.specs.Place.{when}
 use Rattle.sas.specs.Task.{Assignment, State, Action}
 use Rattle.sas.specs.Plan.{satisfies, applicable, apply, run, Stuck, Unmet}
@@ -36,14 +36,14 @@ pub fault_end : (goal : Assignment) (s : State) (i : ℕ) → fault goal s i [] 
 unfolding fault
 fault_end goal s i = refl
 
-pub fault_met : (goal : Assignment) (s : State) (i : ℕ) → satisfies s goal ≡ true → fault goal s i [] ≡ Nowhere
+pub fault_met : (goal : Assignment) (s : State) (i : ℕ) → satisfies s goal ≡ true → fault goal s i [] ≡ None
 fault_met goal s i h = fault_end goal s i ∙ rw h
 
-pub fault_unmet : (goal : Assignment) (s : State) (i : ℕ) → satisfies s goal ≡ false → fault goal s i [] ≡ At i
+pub fault_unmet : (goal : Assignment) (s : State) (i : ℕ) → satisfies s goal ≡ false → fault goal s i [] ≡ Some i
 fault_unmet goal s i h = fault_end goal s i ∙ rw h
 
 -- the first action can't be applied
-pub fault_stuck : (goal : Assignment) (s : State) (i : ℕ) (a : Action) (p : List Action) → applicable s a ≡ false → fault goal s i (a ∷ p) ≡ At i
+pub fault_stuck : (goal : Assignment) (s : State) (i : ℕ) (a : Action) (p : List Action) → applicable s a ≡ false → fault goal s i (a ∷ p) ≡ Some i
 unfolding fault
 fault_stuck goal s i a p h = rw (h, fault)
 
@@ -82,7 +82,7 @@ drop_next l i h = rw (add-one i) (drop-cons l i 0 h)
 module _ (w l : List ℕ) where
   -- the step can't be done
   pub fault_here : (goal : Assignment) (s : State) (i : ℕ) → i < length l → applicable s (action w (get_or l i 0)) ≡ false
-      → fault goal s (i + 1) (steps w (drop i l)) ≡ At (i + 1)
+      → fault goal s (i + 1) (steps w (drop i l)) ≡ Some (i + 1)
   fault_here goal s i h e = rw (drop_next l i h) (fault_stuck goal s (i + 1) (action w (get_or l i 0)) (steps w (drop (i + 1) l)) e)
 
   -- the step is done
@@ -146,25 +146,25 @@ module _ (goal : Assignment) (s : State) (i : ℕ) (p : List Action) where
   whole h = rw append-nil at (fault_after goal s i p [] h)
 
   -- a sequence that runs to a state that satisfies the goal has no fault
-  pub runs_faultless : {t : State} → run s p ≡ some t → satisfies t goal ≡ true → fault goal s i p ≡ Nowhere
+  pub runs_faultless : {t : State} → run s p ≡ some t → satisfies t goal ≡ true → fault goal s i p ≡ None
   runs_faultless {t} h e = whole h ∙ fault_met goal t (i + length p) e
 
   -- one that runs to another state has it past its end
-  pub unmet_fault : Unmet goal s p → fault goal s i p ≡ At (i + length p)
+  pub unmet_fault : Unmet goal s p → fault goal s i p ≡ Some (i + length p)
   unmet_fault u = whole u.reached ∙ fault_unmet goal u.end (i + length p) u.goal_fails
 
   -- one that is stuck has it there
-  pub stuck_fault : {j : ℕ} (k : Stuck s p j) → fault goal s i p ≡ At (i + length k.earlier)
+  pub stuck_fault : {j : ℕ} (k : Stuck s p j) → fault goal s i p ≡ Some (i + length k.earlier)
   stuck_fault k =
       rw k.parts
       (fault_after goal s i k.earlier (k.here ∷ k.later) k.reached
       ∙ fault_stuck goal k.before (i + length k.earlier) k.here k.later k.not_applicable)
 
   -- a sequence without fault runs to its final state, which satisfies the goal
-  pub faultless_runs : fault goal s i p ≡ Nowhere → (run s p ≡ some (final s p)) × (satisfies (final s p) goal ≡ true)
+  pub faultless_runs : fault goal s i p ≡ None → (run s p ≡ some (final s p)) × (satisfies (final s p) goal ≡ true)
   faultless_runs h = by_case (outcome goal s p)
     where
-      never : {k : ℕ} → fault goal s i p ≡ At k → ⊥
+      never : {k : ℕ} → fault goal s i p ≡ Some k → ⊥
       never e = let impossible : ◌≡◌ {A = ℕ} 0 1 = cc in omega arith
 
       by_case : Outcome goal s p → (run s p ≡ some (final s p)) × (satisfies (final s p) goal ≡ true)
@@ -173,10 +173,10 @@ module _ (goal : Assignment) (s : State) (i : ℕ) (p : List Action) where
       by_case (met reached e) = rw (← run_final s p reached) (reached, e)
 
 -- the fault of a sequence whose first action is at position 1 is the position at which it is stuck, or the one past its end
-pub fault_told : (goal : Assignment) (s : State) (p : List Action) (k : ℕ) → fault goal s 1 p ≡ At k → Stuck s p k ⊎ ((k ≡ length p + 1) × Unmet goal s p)
+pub fault_told : (goal : Assignment) (s : State) (p : List Action) (k : ℕ) → fault goal s 1 p ≡ Some k → Stuck s p k ⊎ ((k ≡ length p + 1) × Unmet goal s p)
 fault_told goal s p k h = by_case (outcome goal s p)
   where
-    same : {j : ℕ} → fault goal s 1 p ≡ At j → j ≡ k
+    same : {j : ℕ} → fault goal s 1 p ≡ Some j → j ≡ k
     same e = cc
 
     by_case : Outcome goal s p → Stuck s p k ⊎ ((k ≡ length p + 1) × Unmet goal s p)

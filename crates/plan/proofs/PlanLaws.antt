@@ -1,5 +1,6 @@
 -- What the checks of a list answer, part by part; and of a list that can be read, that its steps are actions of the task and that its tally never meets its
 -- bounds. Assumes nothing.
+use Rattle.std.specs.Prelude.{None, Some}
 use Prim.Native.Nat.{ℕ, zero, suc, ◌+◌, ◌≤◌, ◌<◌}
 use native.Mathlib.Omega.{arith}
 use mathlib.Core.Path.{◌≡◌, refl, sym, ◌∙◌, ap}
@@ -8,7 +9,6 @@ use mathlib.Core.List.Memᴰ
 use mathlib.Core.List.{List, [], ◌∷◌, ◌++◌, map, Memᴰ}
 use lib.ListN.{length, get_or, length-map, drop}
 use borrow.Author.Tests.{ltb-false, leb-false, le-ltb, lt-leb}
-use Rattle.refusal.specs.declared.place.Place.TheVariants.{Nowhere, At}
 use Rattle.refusal.specs.declared.Refusal.TheVariants.{NotAPlan}
 use Rattle.refusal.specs.Refusal.{Told, told_refusal}
 use Rattle.refusal.specs.Check.{Check, answer}
@@ -49,11 +49,11 @@ known_at w (b ∷ l) known zero h = known b (Memᴰ.head refl)
 known_at w (b ∷ l) known (suc i) h = known_at w l (λ a m. known a (Memᴰ.tail m)) i (omega arith)
 
 -- no unknown action is found in a list just where each of its entries is known
-pub nowhere_known : (w l : List ℕ) → unknown_place w l ≡ Nowhere → EntriesKnown w l
+pub nowhere_known : (w l : List ℕ) → unknown_place w l ≡ None → EntriesKnown w l
 unfolding unknown_place
 nowhere_known w l h = at_known w l (λ i below. leb-false _ _ (when_nowhere _ (i + 1) (first_of_nowhere _ 0 (length l) h i (omega arith) below)))
 
-pub known_nowhere : (w l : List ℕ) → EntriesKnown w l → unknown_place w l ≡ Nowhere
+pub known_nowhere : (w l : List ℕ) → EntriesKnown w l → unknown_place w l ≡ None
 unfolding unknown_place
 known_nowhere w l known = first_of_none _ (length l) (λ i below. rw (lt-leb (actions w) (get_or l i 0) (known_at w l known i below)))
 
@@ -150,15 +150,15 @@ module _ (limit : ℕ) (besides : List Check) (w l : List ℕ) where
       only_valid : answer (lodged_checks limit besides w l) ≡ answer (valid_checks w l)
       only_valid = rest_answers ∙ answer_second besides (valid_checks w l) passed
 
-      pub fault_answers : (k : ℕ) → fault (goal w) (initial w) 1 (steps w l) ≡ At k → answer (lodged_checks limit besides w l) ≡ some (told_refusal (NotAPlan k))
+      pub fault_answers : (k : ℕ) → fault (goal w) (initial w) 1 (steps w l) ≡ Some k → answer (lodged_checks limit besides w l) ≡ some (told_refusal (NotAPlan k))
       unfolding valid_checks
       fault_answers k e = only_valid ∙ answer_fires _ _ k e
 
-      pub passes_faultless : answer (lodged_checks limit besides w l) ≡ none → fault (goal w) (initial w) 1 (steps w l) ≡ Nowhere
+      pub passes_faultless : answer (lodged_checks limit besides w l) ≡ none → fault (goal w) (initial w) 1 (steps w l) ≡ None
       unfolding valid_checks
       passes_faultless h = (none_fires _ _ (sym only_valid ∙ h)).0
 
-      pub faultless_passes : fault (goal w) (initial w) 1 (steps w l) ≡ Nowhere → answer (lodged_checks limit besides w l) ≡ none
+      pub faultless_passes : fault (goal w) (initial w) 1 (steps w l) ≡ None → answer (lodged_checks limit besides w l) ≡ none
       unfolding valid_checks
       faultless_passes e = only_valid ∙ answer_passes _ _ e ∙ answer_nothing
 

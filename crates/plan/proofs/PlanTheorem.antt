@@ -1,6 +1,7 @@
 -- The check of a list passes just the plans of SAS+, and what it tells of a list is true of it: the first step that can't be done or the unmet goal,
 -- the end state and the tally. A list that can be read leaves only the fault to the check, and the laws of the fault tell what SAS+'s γ does with the
 -- list's actions. Nothing here is about the code: its contract cites the same definitions. Assumes nothing.
+use Rattle.std.specs.Prelude.{None, Some}
 use Prim.Native.Nat.{ℕ, ◌+◌, ◌-◌, ◌≤◌}
 use native.Mathlib.Omega.{arith}
 use mathlib.Core.Path.{◌≡◌, refl, sym, ◌∙◌, ap}
@@ -8,8 +9,7 @@ use mathlib.Core.Logic.{inl, inr, ◌↔◌}
 use mathlib.Core.Option.{none, some, some-ne-none, some-injective}
 use mathlib.Core.List.{List, [], ◌++◌}
 use lib.ListN.{length, replicate, length-map}
-use Rattle.refusal.specs.declared.place.Place.{Place}
-use Rattle.refusal.specs.declared.place.Place.TheVariants.{Nowhere, At}
+use Rattle.refusal.specs.Place.{Place}
 use Rattle.refusal.specs.declared.Refusal.TheVariants.{NotAPlan}
 use Rattle.refusal.specs.Refusal.{Told, told_refusal}
 use Rattle.refusal.specs.Check.{answer}
@@ -29,7 +29,7 @@ use Rattle.plan.proofs.PlanLaws.{steps_known, passed_readable, fault_answers, fa
 use Rattle.plan.specs.Readable.{Readable}
 
 module _ (w l : List ℕ) (readable : Readable w l) where
-  no_fault : answer (plan_checks w l) ≡ none → fault (goal w) (initial w) 1 (steps w l) ≡ Nowhere
+  no_fault : answer (plan_checks w l) ≡ none → fault (goal w) (initial w) 1 (steps w l) ≡ None
   no_fault h = passes_faultless _ [] w l readable answer_nothing h
 
   passed_is_plan : answer (plan_checks w l) ≡ none → Plan (task w) (steps w l)
@@ -44,12 +44,12 @@ module _ (w l : List ℕ) (readable : Readable w l) where
 
   refused_where : (t : Told) → answer (plan_checks w l) ≡ some t → (p : Place) → fault (goal w) (initial w) 1 (steps w l) ≡ p
       → (t.number ≡ 11) × FailsAt w l t.place
-  refused_where t h Nowhere e = absurd (some-ne-none t (sym h ∙ faultless_passes _ [] w l readable answer_nothing e))
-  refused_where t h (At k) e =
+  refused_where t h None e = absurd (some-ne-none t (sym h ∙ faultless_passes _ [] w l readable answer_nothing e))
+  refused_where t h (Some k) e =
       let same : told_refusal (NotAPlan k) ≡ t = some-injective _ _ (sym (fault_answers _ [] w l readable answer_nothing k e) ∙ h) in
       rw (← same) (refl, rw (← length-map l (action w)) (fault_told (goal w) (initial w) (steps w l) k e))
 
-  failing_fault : (k : ℕ) → FailsAt w l k → fault (goal w) (initial w) 1 (steps w l) ≡ At k
+  failing_fault : (k : ℕ) → FailsAt w l k → fault (goal w) (initial w) 1 (steps w l) ≡ Some k
   failing_fault k (inl stuck) =
       let here : 1 + length stuck.earlier ≡ k = omega (arith, stuck.position) in
       rw here at (stuck_fault (goal w) (initial w) 1 (steps w l) stuck)

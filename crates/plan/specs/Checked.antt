@@ -1,9 +1,10 @@
 -- What the check of a plan (document 01: list) answers, and the checks that every service of a list has. Assumes
 -- nothing.
-use Rattle.std.specs.Prelude.{ℕ, ◌+◌, ◌≡◌, List, [], ◌∷◌, ◌++◌, length, get_or, replicate, ltb, leb}
+use Rattle.std.specs.Prelude.{ℕ, ◌+◌, ◌≡◌, List, [], ◌∷◌, ◌++◌, length, get_or, replicate, ltb, leb, Result, Ok, Err}
 use Rattle.std.proofs.Math.Option.{Option, none, some}
-use Rattle.refusal.specs.declared.place.Place.{Place}
+use Rattle.refusal.specs.Place.{Place}
 use Rattle.refusal.specs.Place.{when, first_of}
+use Rattle.refusal.specs.declared.Refusal.{Refusal}
 use Rattle.refusal.specs.Refusal.{Told, told_refusal}
 use Rattle.refusal.specs.Check.{Check, answer, unless_refused}
 use Rattle.sas.specs.Task.{State}
@@ -15,8 +16,6 @@ use Rattle.sheet.specs.Layout.{actions}
 use Rattle.sheet.specs.Decode.{goal, initial}
 use Rattle.sheet.specs.Causes.{sheet_checks}
 use Rattle.step.specs.State.{in_array}
-use Rattle.plan.specs.declared.check.Answer.{Answer}
-use Rattle.plan.specs.declared.check.Answer.TheVariants.{Valid, Refused}
 use Rattle.plan.specs.Limits.{most_steps}
 use Rattle.plan.specs.Valid.{steps}
 use Rattle.plan.specs.Between.Fault.{fault, final}
@@ -49,15 +48,19 @@ lodged_checks limit besides w l = read_checks limit w l ++ (besides ++ valid_che
 abbrev pub plan_checks : List ℕ → List ℕ → List Check
 plan_checks w l = lodged_checks most_steps [] w l
 
+-- what the check of a plan answers: the tally of a valid one, or the first cause of refusal
+abbrev pub Answer : Type 0
+Answer = Result Tally Refusal
+
 -- the refusal in an answer, if it is one
 abbrev pub told_answer : Answer → Option Told
-told_answer (Valid t) = none
-told_answer (Refused r) = some (told_refusal r)
+told_answer (Ok t) = none
+told_answer (Err r) = some (told_refusal r)
 
 -- the tally in an answer: zero in a refusal
 abbrev pub told_tally : Answer → Tally
-told_tally (Valid t) = t
-told_tally (Refused r) = nothing
+told_tally (Ok t) = t
+told_tally (Err r) = nothing
 
 -- the tally of a list: the sum of its prices and the number of its steps
 abbrev pub lodged_tally : List ℕ → List ℕ → Tally

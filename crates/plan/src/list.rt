@@ -5,47 +5,46 @@ ghost use Rattle.refusal.specs.Refusal.{told};
 ghost use Rattle.refusal.specs.Check.{answer};
 ghost use Rattle.plan.specs.Checked.{unknown_place, list_checks, read_checks};
 
-use refusal::place::Place;
-use refusal::{Refusal, Verdict};
+use refusal::Refusal;
 use sheet::layout::actions;
 use sheet_check::check::check_sheet;
 
 // The position of the first unknown action.
-fn unknown_action(words: &[u32], plan: &[u32]) -> Place
+fn unknown_action(words: &[u32], plan: &[u32]) -> Option<usize>
     ensures { result ≡ unknown_place words.now plan.now }
 {
     let known = actions(words);
     let mut i = 0;
     while i < plan.len() {
         if known <= plan[i] as usize {
-            return Place::At(i + 1);
+            return Some(i + 1);
         }
         i += 1;
     }
-    Place::Nowhere
+    None
 }
 
 // Refusals 8, more steps than the limit, and 9.
-fn check_list(words: &[u32], plan: &[u32], limit: usize) -> Verdict
+fn check_list(words: &[u32], plan: &[u32], limit: usize) -> Result<(), Refusal>
     ensures { told result ≡ answer (list_checks limit words.now plan.now) }
 {
     if limit < plan.len() {
-        return Verdict::Refused(Refusal::PlanLength(limit));
+        return Err(Refusal::PlanLength(limit));
     }
     let unknown = unknown_action(words, plan);
-    if let Place::At(i) = unknown {
-        return Verdict::Refused(Refusal::UnknownAction(i));
+    if let Some(i) = unknown {
+        return Err(Refusal::UnknownAction(i));
     }
-    Verdict::Passed
+    Ok(())
 }
 
 // The sheet's checks, then the list's.
-pub fn check_read(words: &[u32], plan: &[u32], limit: usize) -> Verdict
+pub fn check_read(words: &[u32], plan: &[u32], limit: usize) -> Result<(), Refusal>
     ensures { told result ≡ answer (read_checks limit words.now plan.now) }
 {
     let sheet = check_sheet(words);
     match sheet {
-        Verdict::Refused(refusal) => Verdict::Refused(refusal),
-        Verdict::Passed => check_list(words, plan, limit),
+        Err(refusal) => Err(refusal),
+        Ok(()) => check_list(words, plan, limit),
     }
 }

@@ -3,7 +3,6 @@ ghost use Rattle.std.specs.Prelude.{◌≤◌, length};
 ghost use Rattle.sheet.specs.Limits.{limits};
 ghost use Rattle.plan.specs.Between.Walk.{Walks};
 
-use refusal::place::Place;
 use sheet::layout::cost;
 use step::advance::{advance, goal_holds};
 use tally::Tally;
@@ -11,7 +10,7 @@ use tally::Tally;
 // Where a plan fails to be valid, and, where it does not, its tally.
 #[derive(Clone, Copy)]
 pub(crate) struct Walked {
-    pub fault: Place,
+    pub fault: Option<usize>,
     pub tally: Tally,
 }
 
@@ -29,19 +28,19 @@ pub(crate) fn walk(words: &[u32], plan: &[u32], state: &mut [u32]) -> Walked
             i += 1;
         } else {
             return Walked {
-                fault: Place::At(i + 1),
+                fault: Some(i + 1),
                 tally,
             };
         }
     }
     if goal_holds(words, state) {
         return Walked {
-            fault: Place::Nowhere,
+            fault: None,
             tally,
         };
     }
     Walked {
-        fault: Place::At(plan.len() + 1),
+        fault: Some(plan.len() + 1),
         tally,
     }
 }

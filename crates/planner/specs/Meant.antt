@@ -1,9 +1,8 @@
 -- What a planner's text means (document 02, C-11): the SAS+ task, and which line no sheet can say. Assumes nothing.
-use Rattle.std.specs.Prelude.{ℕ, ◌+◌, Bool, cond, length}
+use Rattle.std.specs.Prelude.{ℕ, ◌+◌, Bool, cond, length, None, Some}
 use Rattle.std.proofs.Math.Option.{none, some}
 use mathlib.Core.List.{List, [], ◌∷◌, ◌++◌, map, flatten}
-use Rattle.refusal.specs.declared.place.Place.{Place}
-use Rattle.refusal.specs.declared.place.Place.TheVariants.{Nowhere, At}
+use Rattle.refusal.specs.Place.{Place}
 use Rattle.sas.specs.Task.{Fact, Assignment, Action, Task}
 use Rattle.sas.specs.Task as sas
 use Rattle.planner.specs.Text.{Change, Effect, Operator, Text}
@@ -40,8 +39,8 @@ meant t =
 
 -- 14: the first line that no sheet can say; the first of these lines is line n
 unfoldable pub first_barred : ℕ → List Line → Place
-first_barred n [] = Nowhere
-first_barred n (l ∷ ls) = cond l.barred (At n) (first_barred (n + 1) ls)
+first_barred n [] = None
+first_barred n (l ∷ ls) = cond l.barred (Some n) (first_barred (n + 1) ls)
 
 abbrev pub unsayable : Text → Place
 unsayable t = first_barred 1 (lines t)

@@ -1,5 +1,6 @@
 -- Reading line by line finds lines that are what they must be by their data: where numbers above every limit are read as
 -- one, what is due is the same as far as there are lines. Assumes nothing.
+use Rattle.std.specs.Prelude.{Some}
 use Prim.Native.Nat.{ℕ, zero, suc, ◌+◌, ◌≤◌, ◌<◌}
 use native.Mathlib.Omega.{arith}
 use mathlib.Core.Path.{◌≡◌, refl, sym, ◌∙◌, ap, subst}
@@ -10,8 +11,7 @@ use lib.ListN.{length, take}
 use lib.Seq.{take-take}
 use lib.Dec.{leb}
 use borrow.Author.Tests.{leb-true, leb-false}
-use Rattle.refusal.specs.declared.place.Place.{Place}
-use Rattle.refusal.specs.declared.place.Place.TheVariants.{At}
+use Rattle.refusal.specs.Place.{Place}
 use Rattle.ascii.specs.Bytes.{ends_line}
 use Rattle.fields.specs.Between.Numbers.{most_number}
 use Rattle.form.specs.Between.Form as form
@@ -150,7 +150,7 @@ module _ (l : List ℕ) (d : Due) (x : Datum d) (is : (line d x).bytes ≡ l) (o
   unfolding form.first_barred first_barred
   barred_next n = same (form.bars d l) (line d x).barred (ap (form.bars d) (sym is) ∙ datum_bars d x) (found.barred (n + 1))
     where
-      same : {p q : Place} (b c : Bool) → b ≡ c → p ≡ q → (elim b [ true ↦ At n | false ↦ p ]) ≡ cond c (At n) q
+      same : {p q : Place} (b c : Bool) → b ≡ c → p ≡ q → (elim b [ true ↦ Some n | false ↦ p ]) ≡ cond c (Some n) q
       same true true e f = refl
       same true false e f = absurd (false≢true (sym e))
       same false true e f = absurd (false≢true e)

@@ -2,7 +2,7 @@
 ghost use Rattle.std.specs.Prelude.{◌≡◌, ◌<◌, ◌^◌};
 ghost use Rattle.records.specs.RecordForm.{word_at};
 
-use access::byte;
+use access::get_or;
 
 // How many bytes a word has, and how many values a byte.
 pub const WORD: usize = 4;
@@ -16,9 +16,9 @@ pub fn word_at(bytes: &[u8], i: usize) -> u32
 {
     let at = WORD * i;
     u32::from_le_bytes([
-        byte(bytes, at),
-        byte(bytes, at + 1),
-        byte(bytes, at + 2),
-        byte(bytes, at + 3),
+        get_or(bytes, at, 0),
+        get_or(bytes, at + 1, 0),
+        get_or(bytes, at + 2, 0),
+        get_or(bytes, at + 3, 0),
     ])
 }

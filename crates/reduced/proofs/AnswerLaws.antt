@@ -1,5 +1,6 @@
 -- What is told and written of a reduction, and with it what a service answers, refused or not. The mask tells the reduction by the laws of masks, and
 -- the tally is plain by those of tallies. Assumes nothing.
+use Rattle.std.specs.Prelude.{Err, Ok}
 use Prim.Native.Nat.{ℕ, ◌≤◌}
 use native.Mathlib.Omega.{arith}
 use mathlib.Core.Path.{◌≡◌, refl, sym, ◌∙◌, ap, subst}
@@ -10,8 +11,7 @@ use Rattle.refusal.specs.declared.Refusal.{Refusal}
 use Rattle.refusal.specs.Refusal.{Told}
 use Rattle.tally.specs.declared.Tally.{Tally}
 use Rattle.tally.proofs.TallyLaws.{same_tally}
-use Rattle.plan.specs.declared.check.Answer.{Answer}
-use Rattle.plan.specs.declared.check.Answer.TheVariants.{Valid, Refused}
+use Rattle.plan.specs.Checked.{Answer}
 use Rattle.plan.specs.Checked.{told_answer}
 use Rattle.reduction.specs.Reduction.{Reduction}
 use Rattle.mask.specs.Mask.{mask_length, mask_bits}
@@ -41,14 +41,14 @@ answers_same (some r) w l m n before given mask after same answers =
 
 module _ (t : Option Told) (w l : List ℕ) (m : Reduction) (before : List ℕ) (given : Answer) (checked : told_answer given ≡ t) where
   -- a service refuses, with zeros, and touches nothing
-  pub answers_refused : (r : Refusal) → given ≡ Refused r → Answers t w l m before (Refused r) (replicate mask_length 0) before
+  pub answers_refused : (r : Refusal) → given ≡ Err r → Answers t w l m before (Err r) (replicate mask_length 0) before
   answers_refused r refuses =
-      let refused : told_answer (Refused r) ≡ t = sym (ap told_answer refuses) ∙ checked in
+      let refused : told_answer (Err r) ≡ t = sym (ap told_answer refuses) ∙ checked in
       record { refusal = refused; tally = rw (← refused); told_by = rw (← refused); output = rw (← refused) }
 
   -- or hands on what is told and written of its reduction
-  pub answers_kept : (lodged : Tally) (left : Reduction) (after words : List ℕ) (tally : Tally) → given ≡ Valid lodged → left ≡ m → Keeps w l left before tally words after
-      → Answers t w l m before (Valid tally) words after
+  pub answers_kept : (lodged : Tally) (left : Reduction) (after words : List ℕ) (tally : Tally) → given ≡ Ok lodged → left ≡ m → Keeps w l left before tally words after
+      → Answers t w l m before (Ok tally) words after
   answers_kept lodged left after words tally passes same keeps =
       let passed : none ≡ t = sym (ap told_answer passes) ∙ checked in
       record {

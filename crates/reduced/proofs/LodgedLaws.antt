@@ -1,5 +1,6 @@
 -- What holds of a list that passes the checks of a service: it can be read, it is valid from the starting values, and its output has room. By the laws of the
 -- checks of a list. Assumes nothing.
+use Rattle.std.specs.Prelude.{Ok}
 use Prim.Native.Nat.{ℕ, ◌≤◌}
 use mathlib.Core.Path.{◌≡◌, sym, ◌∙◌, ap}
 use mathlib.Core.Bool.{true}
@@ -7,7 +8,7 @@ use mathlib.Core.Option.{none}
 use mathlib.Core.List.{List}
 use lib.ListN.{length}
 use borrow.Author.Tests.{ltb-false}
-use Rattle.refusal.specs.declared.Verdict.{Verdict}
+use Rattle.refusal.specs.Refusal.{Verdict}
 use Rattle.refusal.specs.Refusal.{told}
 use Rattle.refusal.specs.Check.{Check, answer}
 use Rattle.refusal.proofs.PlaceLaws.{when_nowhere}
@@ -18,8 +19,7 @@ use Rattle.plan.specs.Limits.{most_steps}
 use Rattle.plan.specs.Valid.{steps}
 use Rattle.plan.specs.Checked.{lodged_checks, told_answer}
 use Rattle.plan.specs.Between.Lodged.{ChecksLodged}
-use Rattle.plan.specs.declared.check.Answer.{Answer}
-use Rattle.plan.specs.declared.check.Answer.TheVariants.{Valid}
+use Rattle.plan.specs.Checked.{Answer}
 use Rattle.tally.specs.declared.Tally.{Tally}
 use Rattle.plan.proofs.PlanLaws.{passed_readable, besides_pass, plan_passes}
 use Rattle.plan.proofs.PlanTheorem.{plan_theorem}
@@ -40,7 +40,7 @@ module _ (w l : List ℕ) (room : ℕ) (v : Verdict) (given : Answer) (state : L
   pub room_checked : told_answer given ≡ answer (reduction_checks w l room)
   room_checked = (checks.checked (room_checks (length l) room) asked).refusal
 
-  pub nothing_refused : (t : Tally) → given ≡ Valid t → answer (reduction_checks w l room) ≡ none
+  pub nothing_refused : (t : Tally) → given ≡ Ok t → answer (reduction_checks w l room) ≡ none
   nothing_refused t is = sym room_checked ∙ ap told_answer is
 
 -- the output has room for the list

@@ -9,7 +9,7 @@ use Rattle.sas.specs.Plan.{cost}
 use Rattle.tally.specs.declared.Tally.{Tally}
 use Rattle.tally.specs.Tally.{nothing}
 use Rattle.plan.specs.Limits.{most_steps}
-use Rattle.plan.specs.declared.check.Answer.{Answer}
+use Rattle.plan.specs.Checked.{Answer}
 use Rattle.plan.specs.Valid.{steps}
 use Rattle.plan.specs.Checked.{lodged_checks, told_answer, told_tally}
 use Rattle.reduction.specs.Reduction.{Reduction, kept, count}

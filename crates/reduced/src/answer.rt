@@ -1,27 +1,25 @@
 // What a service that writes a reduction answers.
 ghost use Rattle.std.specs.Prelude.{◌≡◌, replicate};
-ghost use Rattle.plan.specs.declared.check.Answer.TheVariants.{Valid, Refused};
 ghost use Rattle.mask.specs.Mask.{mask_length};
 
 use crate::finish::Kept;
 use mask::Mask;
-use plan::check::Answer;
 use refusal::Refusal;
 
 // The tally of the list left or a refusal, and the mask of the steps kept: zero on a refusal.
 #[derive(Clone, Copy)]
 pub struct Reduced {
-    pub answer: Answer,
+    pub answer: Result<Tally, Refusal>,
     pub mask: Mask,
 }
 
 impl Reduced {
     // A refusal, with its mask of zeros.
     pub fn refused(refusal: Refusal) -> Reduced
-        ensures { (result.answer ≡ Refused refusal) × (result.mask.words ≡ replicate mask_length 0) }
+        ensures { (result.answer ≡ Err refusal) × (result.mask.words ≡ replicate mask_length 0) }
     {
         Reduced {
-            answer: Answer::Refused(refusal),
+            answer: Err(refusal),
             mask: Mask {
                 words: [0u64; Mask::WORDS],
             },
@@ -30,12 +28,12 @@ impl Reduced {
 
     // A reduction, with its tally as the answer.
     pub fn told(kept: Kept) -> Reduced
-        ensures { (result.answer ≡ Valid kept.tally) × (result.mask.words ≡ kept.mask.words) }
+        ensures { (result.answer ≡ Ok kept.tally) × (result.mask.words ≡ kept.mask.words) }
     {
         let tally = kept.tally;
         let mask = kept.mask;
         Reduced {
-            answer: Answer::Valid(tally),
+            answer: Ok(tally),
             mask,
         }
     }

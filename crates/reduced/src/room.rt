@@ -4,16 +4,16 @@ ghost use Rattle.refusal.specs.Refusal.{told};
 ghost use Rattle.refusal.specs.Check.{answer};
 ghost use Rattle.reduced.specs.Reduced.{room_checks};
 
-use refusal::{Refusal, Verdict};
+use refusal::Refusal;
 
 // Checks that an output of `room` words has room for a plan of so many steps.
-pub fn check_room(steps: usize, room: usize) -> Verdict
+pub fn check_room(steps: usize, room: usize) -> Result<(), Refusal>
     ensures { told result ≡ answer (room_checks steps room) }
 {
     if room < steps {
-        return Verdict::Refused(Refusal::ShortOutput(steps));
+        return Err(Refusal::ShortOutput(steps));
     }
-    Verdict::Passed
+    Ok(())
 }
 
 // The shorter of two lengths.

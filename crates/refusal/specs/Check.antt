@@ -1,8 +1,7 @@
 -- A service's causes of refusal as a list of checks, each over the whole input before the next. Assumes nothing.
-use Rattle.std.specs.Prelude.{ℕ, List, [], ◌∷◌}
+use Rattle.std.specs.Prelude.{ℕ, List, [], ◌∷◌, None, Some}
 use Rattle.std.proofs.Math.Option.{Option, none, some}
-use Rattle.refusal.specs.declared.place.Place.{Place}
-use Rattle.refusal.specs.declared.place.Place.TheVariants.{Nowhere, At}
+use Rattle.refusal.specs.Place.{Place}
 use Rattle.refusal.specs.Refusal.{Told}
 
 -- a cause of refusal: its number, and the place at which it fires, if it does
@@ -13,7 +12,7 @@ pub record Check : Type 0 where
 -- the refusal of the first check that fires
 unfoldable pub answer : List Check → Option Told
 answer [] = none
-answer (c ∷ cs) = elim c.fires [ Nowhere ↦ answer cs | At k ↦ some (record { number = c.number; place = k }) ]
+answer (c ∷ cs) = elim c.fires [ None ↦ answer cs | Some k ↦ some (record { number = c.number; place = k }) ]
 
 -- the first where nothing is refused, the second on a refusal
 abbrev pub unless_refused : {A : Type 0} → Option Told → A → A → A

@@ -1,22 +1,24 @@
 -- The first place at which a test holds. Assumes nothing.
-use Rattle.std.specs.Prelude.{ℕ, zero, suc, ◌+◌, ◌-◌, Bool, true, false}
-use Rattle.refusal.specs.declared.place.Place.{Place}
-use Rattle.refusal.specs.declared.place.Place.TheVariants.{Nowhere, At}
+use Rattle.std.specs.Prelude.{ℕ, zero, suc, ◌+◌, ◌-◌, Bool, true, false, Option, None, Some}
+
+-- where a check fires, if it does
+abbrev pub Place : Type 0
+Place = Option ℕ
 
 -- the place k where a test holds
 abbrev pub when : Bool → ℕ → Place
-when true k = At k
-when false k = Nowhere
+when true k = Some k
+when false k = None
 
 -- the first place if there is one, else the second
 abbrev pub or_else : Place → Place → Place
-or_else Nowhere q = q
-or_else (At k) q = At k
+or_else None q = q
+or_else (Some k) q = Some k
 
 -- the first place that f finds at one of the n numbers from i on
 unfoldable pub first_of_next : (ℕ → Place) → ℕ → ℕ → Place
-first_of_next f i zero = Nowhere
-first_of_next f i (suc n) = elim (f i) [ Nowhere ↦ first_of_next f (i + 1) n | At k ↦ At k ]
+first_of_next f i zero = None
+first_of_next f i (suc n) = elim (f i) [ None ↦ first_of_next f (i + 1) n | Some k ↦ Some k ]
 
 -- the first place that f finds at one of the numbers from i up to, not including, end
 unfoldable pub first_of : (ℕ → Place) → ℕ → ℕ → Place

@@ -1,13 +1,11 @@
 -- Document 01's table "Causes of refusal", with those of document 02 that have joined it: the number and the place of
 -- each answer. Assumes nothing.
-use Rattle.std.specs.Prelude.{ℕ}
+use Rattle.std.specs.Prelude.{ℕ, Result, Ok, Err}
 use Rattle.std.proofs.Math.Option.{Option, none, some}
 use Rattle.refusal.specs.declared.Refusal.{Refusal}
 use Rattle.refusal.specs.declared.Refusal.TheVariants.{Length, Edition, Counts, Pair, Variable, Fact, Cost}
 use Rattle.refusal.specs.declared.Refusal.TheVariants.{PlanLength, UnknownAction, ShortOutput, NotAPlan}
 use Rattle.refusal.specs.declared.Refusal.TheVariants.{Unmarked, Form, Unsupported, Unwritable, Conflict}
-use Rattle.refusal.specs.declared.Verdict.{Verdict}
-use Rattle.refusal.specs.declared.Verdict.TheVariants.{Passed, Refused}
 
 -- what a refusal returns
 pub record Told : Type 0 where
@@ -32,7 +30,11 @@ told_refusal (Unsupported n) = record { number = 14; place = n }
 told_refusal Unwritable = record { number = 15; place = 0 }
 told_refusal (Conflict a) = record { number = 16; place = a }
 
+-- what a check answers
+abbrev pub Verdict : Type 0
+Verdict = Result (Unit {0}) Refusal
+
 -- a verdict's refusal, if it is one
 abbrev pub told : Verdict → Option Told
-told Passed = none
-told (Refused r) = some (told_refusal r)
+told (Ok u) = none
+told (Err r) = some (told_refusal r)

@@ -1,8 +1,6 @@
-// The causes of refusal of documents 01 and 02, each with the place that is not always the same. place: where a check
-// fires, if it does. specs/Refusal.antt gives each its number and place, and `number` and `place` hold the code to it.
+// The causes of refusal of documents 01 and 02, each with the place that is not always the same.
+// specs/Refusal.antt gives each its number and place, and `number` and `place` hold the code to it.
 #![tactic(auto)]
-
-pub mod place;
 
 ghost use Rattle.std.specs.Prelude.{◌≡◌};
 ghost use Rattle.refusal.specs.Refusal.{told_refusal};
@@ -57,29 +55,19 @@ impl Refusal {
         ensures { result ≡ (told_refusal self).place }
     {
         match self {
-            Refusal::Length => 0,
-            Refusal::Edition => 0,
-            Refusal::Counts => 0,
-            Refusal::Pair(k) => k,
-            Refusal::Variable(v) => v,
-            Refusal::Fact(i) => i,
-            Refusal::Cost(a) => a,
-            Refusal::PlanLength(n) => n,
-            Refusal::UnknownAction(i) => i,
-            Refusal::ShortOutput(n) => n,
-            Refusal::NotAPlan(i) => i,
-            Refusal::Unmarked(n) => n,
-            Refusal::Form(n) => n,
-            Refusal::Unsupported(n) => n,
-            Refusal::Unwritable => 0,
-            Refusal::Conflict(a) => a,
+            Refusal::Length | Refusal::Edition | Refusal::Counts | Refusal::Unwritable => 0,
+            Refusal::Pair(at)
+            | Refusal::Variable(at)
+            | Refusal::Fact(at)
+            | Refusal::Cost(at)
+            | Refusal::PlanLength(at)
+            | Refusal::UnknownAction(at)
+            | Refusal::ShortOutput(at)
+            | Refusal::NotAPlan(at)
+            | Refusal::Unmarked(at)
+            | Refusal::Form(at)
+            | Refusal::Unsupported(at)
+            | Refusal::Conflict(at) => at,
         }
     }
-}
-
-// What a check answers.
-#[derive(Clone, Copy)]
-pub enum Verdict {
-    Passed,
-    Refused(Refusal),
 }

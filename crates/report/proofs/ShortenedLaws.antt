@@ -1,4 +1,5 @@
 -- What the service of the minimal reduction tells of a list is what the program prints for it: the report of the reduction, or the line of the refusal. Assumes nothing.
+use Rattle.std.specs.Prelude.{Err, Ok}
 use Prim.Native.Nat.{ℕ, ◌+◌, ◌≤◌}
 use native.Mathlib.Omega.{arith}
 use mathlib.Core.Path.{◌≡◌, refl, sym, ◌∙◌, ap}
@@ -20,7 +21,6 @@ use Rattle.sheet.specs.Decode.{initial, goal, action}
 use Rattle.plan.specs.Limits.{most_steps}
 use Rattle.plan.specs.Valid.{steps}
 use Rattle.plan.specs.Readable.{Readable}
-use Rattle.plan.specs.declared.check.Answer.TheVariants.{Valid, Refused}
 use Rattle.plan.specs.Checked.{told_answer}
 use Rattle.plan.proofs.PlanLaws.{passed_readable}
 use Rattle.reduced.specs.Reduced.{room_checks, reduction_checks}
@@ -49,7 +49,7 @@ module _ (w l before : List ℕ) (r : Shortened) (after : List ℕ) (room : leng
   minimises = minimises_of most_unmarked w l before r after answered
 
   -- the list is shortened
-  module _ (kept : Tally) (is : r.answer ≡ Valid kept) where
+  module _ (kept : Tally) (is : r.answer ≡ Ok kept) where
     passes : answer (minimal_checks most_unmarked w l (length before)) ≡ none
     passes = nothing_fires _ w l _ before r after minimises.answers kept is
 
@@ -70,7 +70,7 @@ module _ (w l before : List ℕ) (r : Shortened) (after : List ℕ) (room : leng
         rw (shortened, ← room, passes) (puts.prints, fits)
 
   -- or refused
-  pub shortened_refusal : (refusal : Refusal) → r.answer ≡ Refused refusal → {out out' : List ℕ} {end : ℕ}
+  pub shortened_refusal : (refusal : Refusal) → r.answer ≡ Err refusal → {out out' : List ℕ} {end : ℕ}
       → Prints (refusal_line (told_refusal refusal)) 0 out out' end → length (refusal_line (told_refusal refusal)) ≤ line_room
       → Prints (shortened w l) 0 out out' end × (length (shortened w l) ≤ report_room)
   unfolding shortened

@@ -1,4 +1,5 @@
 -- What a service that answers with a reduction of a list tells of it is what is reported: nothing is refused, so that no part is zero. Assumes nothing.
+use Rattle.std.specs.Prelude.{Ok}
 use Prim.Native.Nat.{ℕ, ◌≤◌}
 use native.Mathlib.Omega.{arith}
 use mathlib.Core.Path.{◌≡◌, sym, ◌∙◌, ap}
@@ -11,7 +12,6 @@ use Rattle.tally.specs.declared.Tally.{Tally}
 use Rattle.tally.specs.Tally.{nothing}
 use Rattle.reduction.specs.Reduction.{Reduction}
 use Rattle.plan.specs.Limits.{most_steps}
-use Rattle.plan.specs.declared.check.Answer.TheVariants.{Valid}
 use Rattle.plan.specs.Checked.{told_answer, lodged_tally}
 use Rattle.landmark.specs.Marks.{marked}
 use Rattle.reduced.specs.Reduced.{Answers}
@@ -19,7 +19,7 @@ use Rattle.minimal.specs.declared.within.Shortened.{Shortened}
 use Rattle.report.specs.Between.Reported.{Reports}
 
 module _ (t : Option Told) (w l : List ℕ) (m : Reduction) (before : List ℕ) (told : Shortened) (after : List ℕ)
-    (answers : Answers t w l m before told.answer told.mask.words after) (kept : Tally) (is : told.answer ≡ Valid kept) where
+    (answers : Answers t w l m before told.answer told.mask.words after) (kept : Tally) (is : told.answer ≡ Ok kept) where
   pub nothing_fires : t ≡ none
   nothing_fires = sym answers.refusal ∙ ap told_answer is
 

@@ -5,7 +5,6 @@ ghost use Rattle.report.specs.Between.Reported.{report_room};
 
 use crate::reported::put_report;
 use minimal::reduce::minimal_reduction;
-use plan::check::Answer;
 use plan::limits::Plan;
 use program::output::put_refusal;
 
@@ -18,7 +17,7 @@ pub fn put_shortened(words: &[u32], plan: &[u32], out: &mut [u8]) -> usize
     let reduced = minimal_reduction(words, plan, &mut left);
     let answer = reduced.answer;
     match answer {
-        Answer::Valid(kept) => put_report(words, plan, reduced, kept, out, 0),
-        Answer::Refused(refusal) => put_refusal(out, 0, refusal),
+        Ok(kept) => put_report(words, plan, reduced, kept, out, 0),
+        Err(refusal) => put_refusal(out, 0, refusal),
     }
 }

@@ -1,5 +1,6 @@
 -- The words of an accepted task mean a well-formed SAS+ task within the limits, whose actions never lead out of its domains: each member of a table is
 -- made of words that a check has passed, and a group of facts rises because each fact was compared with the one before it. Assumes nothing.
+use Rattle.std.specs.Prelude.{None}
 use Prim.Native.Nat.{ℕ, zero, suc, ◌+◌, ◌-◌, ◌≤◌, ◌<◌}
 use native.Mathlib.Omega.{arith}
 use mathlib.Core.Path.{◌≡◌, refl, sym, ◌∙◌, ap}
@@ -10,7 +11,6 @@ use mathlib.Core.List.{List, map, Memᴰ}
 use lib.ListN.{length, get_or}
 use lib.Dec.{ltb, leb}
 use borrow.Author.Tests.{ltb-false, leb-false, lt-ltb, eqb-true, not-false}
-use Rattle.refusal.specs.declared.place.Place.TheVariants.{Nowhere}
 use Rattle.refusal.specs.Place.{when, first_of}
 use Rattle.sas.specs.Task.{Fact, Assignment, State, Effect, always, Action}
 use Rattle.sas.specs.Plan.{run, written}
@@ -88,7 +88,7 @@ effect_known w from end i h =
     let below : f.variable < variables w = leb-false _ _ variable in
     record { variable = rw domains_length below; value = rw (domains_at w f.variable below) (leb-false _ _ value) }
 
-module _ (w : List ℕ) (from end : ℕ) (clear : group_place w from end ≡ Nowhere) where
+module _ (w : List ℕ) (from end : ℕ) (clear : group_place w from end ≡ None) where
   good : (i : ℕ) → from ≤ i → i < end → GoodFact w from i
   unfolding group_place
   good i low high = good_fact w from i (first_nowhere (bad_fact w from) from end clear i low high)
@@ -113,8 +113,8 @@ module _ (w : List ℕ) (from end : ℕ) (clear : group_place w from end ≡ Now
   rising_group = rising_first (end - from) (omega arith)
 
 -- where no fact is bad, the goal and the preconditions are assignments over the domains, and effects are what their edition has
-module _ (w : List ℕ) (no_bad_fact : fact_place w ≡ Nowhere) where
-  facts_clear : (group_place w (goal_start w) (goal_end w) ≡ Nowhere) × (first_of (action_place w) 0 (actions w) ≡ Nowhere)
+module _ (w : List ℕ) (no_bad_fact : fact_place w ≡ None) where
+  facts_clear : (group_place w (goal_start w) (goal_end w) ≡ None) × (first_of (action_place w) 0 (actions w) ≡ None)
   unfolding fact_place
   facts_clear = or_else_nowhere (group_place w (goal_start w) (goal_end w)) (first_of (action_place w) 0 (actions w)) no_bad_fact
 
@@ -123,7 +123,7 @@ module _ (w : List ℕ) (no_bad_fact : fact_place w ≡ Nowhere) where
   goal_formed = rising_group w (goal_start w) (goal_end w) facts_clear.0
 
   groups_clear : (a : ℕ) → a < actions w
-      → (group_place w (precondition_start w a) (effect_start w a) ≡ Nowhere) × (effects_place w (effect_start w a) (effect_end w a) ≡ Nowhere)
+      → (group_place w (precondition_start w a) (effect_start w a) ≡ None) × (effects_place w (effect_start w a) (effect_end w a) ≡ None)
   unfolding action_place
   groups_clear a h =
       or_else_nowhere (group_place w (precondition_start w a) (effect_start w a)) (effects_place w (effect_start w a) (effect_end w a))
@@ -154,7 +154,7 @@ module _ (w : List ℕ) (no_bad_fact : fact_place w ≡ Nowhere) where
       let from : ℕ = effect_start w a in
       let end : ℕ = effect_end w a in
       let (i, among, same) = Memᴰ.of_map (effect_at w end) (effect_words w end from (end - from)) (rw second at m) in
-      let clear_here : effect_place w from end i ≡ Nowhere = first_in_nowhere (effect_place w from end) (rw second at (groups_clear a h).1) among in
+      let clear_here : effect_place w from end i ≡ None = first_in_nowhere (effect_place w from end) (rw second at (groups_clear a h).1) among in
       let (group, own) = or_else_nowhere (group_place w (i + 1) (effect_fact w end i)) (when (bad_effect w from end i) (effect_fact w end i)) clear_here in
       rw (← same) (rising_group w _ _ group, effect_known w from end i (when_nowhere (bad_effect w from end i) (effect_fact w end i) own))
 

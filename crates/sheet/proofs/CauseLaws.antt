@@ -1,10 +1,10 @@
 -- Where no cause of refusal is found, none is there: a choice of tests that is false has no true test, and in an accepted task no check fires.
 -- Assumes nothing.
+use Rattle.std.specs.Prelude.{None}
 use Prim.Native.Nat.{ℕ}
 use mathlib.Core.Path.{◌≡◌, refl, sym}
 use mathlib.Core.Bool.{Bool, true, false, ◌&&◌, ◌||◌, false≢true}
 use mathlib.Core.List.{List}
-use Rattle.refusal.specs.declared.place.Place.TheVariants.{Nowhere}
 use Rattle.refusal.proofs.PlaceLaws.{when_nowhere}
 use Rattle.refusal.proofs.CheckLaws.{none_fires}
 use Rattle.sheet.specs.Causes.{bad_length, bad_edition, bad_counts, pair_place, variable_place, fact_place, cost_place, conflict_place, sheet_checks, Accepted}
@@ -27,11 +27,11 @@ pub record Clear (w : List ℕ) : Type 0 where
   pub length : bad_length w ≡ false
   pub edition : bad_edition w ≡ false
   pub counts : bad_counts w ≡ false
-  pub pairs : pair_place w ≡ Nowhere
-  pub variables : variable_place w ≡ Nowhere
-  pub facts : fact_place w ≡ Nowhere
-  pub costs : cost_place w ≡ Nowhere
-  pub conflicts : conflict_place w ≡ Nowhere
+  pub pairs : pair_place w ≡ None
+  pub variables : variable_place w ≡ None
+  pub facts : fact_place w ≡ None
+  pub costs : cost_place w ≡ None
+  pub conflicts : conflict_place w ≡ None
 
 pub accepted_clear : (w : List ℕ) → Accepted w → Clear w
 unfolding sheet_checks

@@ -1,6 +1,7 @@
 -- Effects of edition 2 that stand one behind the other, up to the end of their part: where none runs past it they do, with the effects that are read there,
 -- and what is written so is read back, runs past no end and has no bad fact where the effects are over the domains and in the order of their facts. By
 -- induction along the effects. Assumes nothing.
+use Rattle.std.specs.Prelude.{None}
 use Prim.Native.Nat.{ℕ, zero, suc, ◌+◌, ◌-◌, ◌≤◌, ◌<◌}
 use native.Mathlib.Omega.{arith}
 use mathlib.Core.Path.{◌≡◌, refl, sym, ◌∙◌, ap}
@@ -12,8 +13,7 @@ use borrow.Author.Tests.{ltb-true, ltb-false, le-ltb}
 use Rattle.sas.specs.Task.{Fact, Effect}
 use Rattle.sas.specs.Conflict.{some_of}
 use Rattle.sas.proofs.SomeLaws.{or_neither}
-use Rattle.refusal.specs.declared.place.Place.{Place}
-use Rattle.refusal.specs.declared.place.Place.TheVariants.{Nowhere}
+use Rattle.refusal.specs.Place.{Place}
 use Rattle.refusal.specs.Place.{when, or_else}
 use Rattle.refusal.proofs.PlaceLaws.{or_else_nowhere, when_nowhere}
 use Rattle.sheet.specs.Limits.{limits}
@@ -131,7 +131,7 @@ module _ (w : List ℕ) (end : ℕ) where
 
 -- the first place that a function finds at some numbers, by the cases of a loop along them, and that it finds none at any where it finds none
 module _ (f : ℕ → Place) where
-  pub first_in_nothing : first_in f [] ≡ Nowhere
+  pub first_in_nothing : first_in f [] ≡ None
   unfolding first_in
   first_in_nothing = refl
 
@@ -139,14 +139,14 @@ module _ (f : ℕ → Place) where
   unfolding first_in
   first_in_more i is = refl
 
-  pub first_in_nowhere : {i : ℕ} {is : List ℕ} → first_in f is ≡ Nowhere → Memᴰ i is → f i ≡ Nowhere
+  pub first_in_nowhere : {i : ℕ} {is : List ℕ} → first_in f is ≡ None → Memᴰ i is → f i ≡ None
   first_in_nowhere clear (Memᴰ.head {x = k} {xs = is} same) = rw same (or_else_nowhere (f k) (first_in f is) (sym (first_in_more k is) ∙ clear)).0
   first_in_nowhere clear (Memᴰ.tail {x = k} {xs = is} later) = first_in_nowhere (or_else_nowhere (f k) (first_in f is) (sym (first_in_more k is) ∙ clear)).1 later
 
 module _ (w : List ℕ) (start end : ℕ) where
   -- effects none of whose facts is bad are in the order of their facts: those from word i on, where `from` is the fact before it
   unfalling_from : (i n from : ℕ) → start ≤ i → end - i ≤ n → (ltb start i ≡ true → from ≡ word w (i - 1)) → (ltb start i ≡ false → from ≡ 0)
-      → first_in (effect_place w start end) (effect_words w end i (end - i)) ≡ Nowhere → Unfalling from (map (λ e. e.fact) (effects true w i end))
+      → first_in (effect_place w start end) (effect_words w end i (end - i)) ≡ None → Unfalling from (map (λ e. e.fact) (effects true w i end))
   unfolding effect_place bad_effect effect_at
   unfalling_from i zero from low few behind first clear = rw (effects_none w true i end (omega arith)) nothing
   unfalling_from i (suc n) from low few behind first clear = by_case (ltb i end) refl (unfalling_from (effect_fact w end i + 1) n (word w (effect_fact w end i)))
@@ -156,13 +156,13 @@ module _ (w : List ℕ) (start end : ℕ) where
 
       by_case : (b : Bool) → ltb i end ≡ b
           → (start ≤ k + 1 → end - (k + 1) ≤ n → (ltb start (k + 1) ≡ true → word w k ≡ word w (k + 1 - 1)) → (ltb start (k + 1) ≡ false → word w k ≡ 0)
-          → first_in (effect_place w start end) (effect_words w end (k + 1) (end - (k + 1))) ≡ Nowhere → Unfalling (word w k) (map (λ e. e.fact) (effects true w (k + 1) end)))
+          → first_in (effect_place w start end) (effect_words w end (k + 1) (end - (k + 1))) ≡ None → Unfalling (word w k) (map (λ e. e.fact) (effects true w (k + 1) end)))
           → Unfalling from (map (λ e. e.fact) (effects true w i end))
       by_case false e later = rw (effects_none w true i end (ltb-false _ _ e)) nothing
       by_case true e later =
           let below : i < end = ltb-true _ _ e in
           let rest : List ℕ = effect_words w end (k + 1) (end - (k + 1)) in
-          let all : or_else (effect_place w start end i) (first_in (effect_place w start end) rest) ≡ Nowhere =
+          let all : or_else (effect_place w start end i) (first_in (effect_place w start end) rest) ≡ None =
           sym (first_in_more (effect_place w start end) i rest) ∙ rw (effect_words_all w end i below) at clear in
           let (here, further) = or_else_nowhere (effect_place w start end i) (first_in (effect_place w start end) rest) all in
           let good : bad_effect w start end i ≡ false = when_nowhere (bad_effect w start end i) k (or_else_nowhere (group_place w (i + 1) k) (when (bad_effect w start end i) k) here).1 in
@@ -178,6 +178,6 @@ module _ (w : List ℕ) (start end : ℕ) where
           no_lower true up falls = omega (arith, behind up, ltb-false (word w k) (word w (i - 1)) falls)
           no_lower false down falls = omega (arith, first down)
 
-  pub clear_unfalling : first_in (effect_place w start end) (effect_words w end start (end - start)) ≡ Nowhere → Unfalling 0 (map (λ e. e.fact) (effects true w start end))
+  pub clear_unfalling : first_in (effect_place w start end) (effect_words w end start (end - start)) ≡ None → Unfalling 0 (map (λ e. e.fact) (effects true w start end))
   clear_unfalling clear =
       unfalling_from start (end - start) 0 (omega arith) (omega arith) (λ up. absurd (omega (arith, ltb-true start start up))) (λ down. refl) clear

@@ -1,5 +1,6 @@
 -- Accepted sheets and tasks that can be written in their edition are one to one: a task is written as an accepted sheet that means it, and an accepted sheet
 -- means a task that can be written, as that sheet. Assumes nothing.
+use Rattle.std.specs.Prelude.{None}
 use Prim.Native.Nat.{ℕ, ◌+◌, ◌≤◌, ◌<◌}
 use native.Mathlib.Omega.{arith}
 use mathlib.Core.Path.{◌≡◌, refl, sym, ◌∙◌, ap, subst}
@@ -9,7 +10,6 @@ use mathlib.Core.List.{List, [], ◌∷◌, ◌++◌, map}
 use lib.ListN.{length, length-append, length-map}
 use lib.Dec.{eqb}
 use borrow.Author.Tests.{eqb-true, not-false}
-use Rattle.refusal.specs.declared.place.Place.TheVariants.{Nowhere}
 use Rattle.sas.specs.Task.{Action, Task}
 use Rattle.sas.specs.Between.WellFormed.{WellFormed}
 use Rattle.sheet.specs.Layout.{edition as edition_of, first_edition, second_edition, has_conditions, variables, actions, pairs_end}
@@ -86,7 +86,7 @@ module _ {edition : ℕ} (T : Task) (writable : Encodable edition T) where
         actions = writable.actions;
       }
 
-  pairs_fit : pair_place (encode edition T) ≡ Nowhere
+  pairs_fit : pair_place (encode edition T) ≡ None
   unfolding encode sheet_of parts
   pairs_fit =
       laid_clear (encode edition T) measured.stated (sheet_of_laid _ _ _ (parts edition T)) (parts_sized (encode edition T) refl T writable.well_formed refl)

@@ -1,5 +1,6 @@
 -- In an accepted task every part lies inside the words, so that no word past the end is ever read: each offset is the one due, and no part ends past
 -- the last word. By the checks of the length, the counts and the pairs, by induction on the pairs. Assumes nothing.
+use Rattle.std.specs.Prelude.{None}
 use Prim.Native.Nat.{ℕ, zero, suc, ◌+◌, ◌-◌, ◌≤◌, ◌<◌}
 use native.Mathlib.Omega.{arith}
 use native.Mathlib.Numerals.{add-one}
@@ -9,7 +10,6 @@ use mathlib.Core.List.{List}
 use lib.ListN.{length}
 use lib.Dec.{ltb, leb, eqb}
 use borrow.Author.Tests.{ltb-false, eqb-true, not-false, lt-ltb, le-leb, eq-eqb, ne_eqb}
-use Rattle.refusal.specs.declared.place.Place.TheVariants.{Nowhere}
 use Rattle.refusal.specs.Place.{when, first}
 use Rattle.sheet.specs.Limits.{limits}
 use Rattle.sheet.specs.Layout.{word, variables, actions, stated_length, pairs, pairs_end, offset, size, part_end, effect_start, effect_end}
@@ -92,7 +92,7 @@ module _ (w : List ℕ) (accepted : Accepted w) where
   unfolding pair_place
   pair k h = good_pair w k (first_nowhere (bad_pair w) 0 (pairs w) clear k (omega arith) h)
     where
-      clear : first (bad_pair w) 0 (pairs w) ≡ Nowhere
+      clear : first (bad_pair w) 0 (pairs w) ≡ None
       clear = (or_else_nowhere (when (ltb (stated_length w) (pairs_end w)) 0) (first (bad_pair w) 0 (pairs w)) (accepted_clear w accepted).pairs).1
 
   -- the first part begins where the pairs end

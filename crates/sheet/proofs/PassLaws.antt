@@ -1,5 +1,6 @@
 -- Words of either edition are accepted where their parts are laid out as the pairs say and they mean a task that can be written: what `Parts` and `Accepted` say
 -- of accepted words, the other way round, check by check. Assumes nothing.
+use Rattle.std.specs.Prelude.{None}
 use Prim.Native.Nat.{ℕ, zero, suc, ◌+◌, ◌-◌, ◌≤◌, ◌<◌}
 use native.Mathlib.Omega.{arith}
 use mathlib.Core.Path.{◌≡◌, refl, sym, ◌∙◌, ap}
@@ -9,7 +10,6 @@ use mathlib.Core.List.{List, [], ◌∷◌, map, Memᴰ}
 use lib.ListN.{length, get_or}
 use lib.Dec.{ltb, leb, eqb}
 use borrow.Author.Tests.{le-ltb, lt-leb, eq-eqb, ltb-true, ltb-false, leb-true, eqb-true, eqb-false}
-use Rattle.refusal.specs.declared.place.Place.TheVariants.{Nowhere}
 use Rattle.refusal.specs.Place.{when, first}
 use Rattle.refusal.proofs.PlaceLaws.{first_of_none, no_first, first_over, first_more}
 use Rattle.refusal.proofs.CheckLaws.{answer_passes, answer_nothing}
@@ -127,7 +127,7 @@ module _ {w : List ℕ} {k from : ℕ} {p : List ℕ} (told : Part w k from p) w
 
 module _ (w : List ℕ) (stated : stated_length w ≡ length w) where
   pairs_clear : {k from : ℕ} {ps : List (List ℕ)} → Laid w k from ps → RightSizes w k ps → due w k ≡ from → k + length ps ≡ pairs w
-      → first (bad_pair w) k (pairs w) ≡ Nowhere
+      → first (bad_pair w) k (pairs w) ≡ None
   pairs_clear {k} {from} (over e) none d n = first_over (bad_pair w) k (pairs w) (omega arith)
   pairs_clear {k} {from} (then {p = p} told rest) (next right rights) d n =
       let before : k + 1 - 1 ≡ k = omega arith in
@@ -135,7 +135,7 @@ module _ (w : List ℕ) (stated : stated_length w ≡ length w) where
       first_more (bad_pair w) k (pairs w) (omega arith) (pair_clear told d right rest stated (omega arith))
       ∙ pairs_clear rest rights (following ∙ omega (arith, told.in_place, told.sized)) (omega arith)
 
-  pub laid_clear : {from : ℕ} {ps : List (List ℕ)} → Laid w 0 from ps → RightSizes w 0 ps → from ≡ pairs_end w → length ps ≡ pairs w → pair_place w ≡ Nowhere
+  pub laid_clear : {from : ℕ} {ps : List (List ℕ)} → Laid w 0 from ps → RightSizes w 0 ps → from ≡ pairs_end w → length ps ≡ pairs w → pair_place w ≡ None
   laid_clear {from} laid rights e n =
       pairs_fit w (omega (arith, laid_length laid)) ∙ pairs_clear laid rights (due_first w 0 refl ∙ sym e) (omega arith)
 
@@ -155,7 +155,7 @@ fact_clear w start i known rising =
 
 -- a group of facts that is an assignment over the domains has no bad fact from word i on, if that at i is above the one before it
 group_clear : (w : List ℕ) (start i end : ℕ) {from : ℕ} {q : Assignment} → Rising (domains w) from q → q ≡ facts w i end
-    → (start < i → (fact_of (word w (i - 1))).variable < from) → first (bad_fact w start) i end ≡ Nowhere
+    → (start < i → (fact_of (word w (i - 1))).variable < from) → first (bad_fact w start) i end ≡ None
 group_clear w start i end empty e after = first_over (bad_fact w start) i end (omega (arith, facts_length w i end, ap length e))
 group_clear w start i end (fact {f = f} {q = q} known above rest) e after =
     let more : i < end = omega (arith, facts_length w i end, ap length e) in
@@ -167,7 +167,7 @@ group_clear w start i end (fact {f = f} {q = q} known above rest) e after =
     ∙ group_clear w start (i + 1) end rest later (λ h. rw back (omega arith))
 
 -- nor has one at its first fact
-whole_clear : (w : List ℕ) (start end : ℕ) → Rising (domains w) 0 (facts w start end) → group_place w start end ≡ Nowhere
+whole_clear : (w : List ℕ) (start end : ℕ) → Rising (domains w) 0 (facts w start end) → group_place w start end ≡ None
 unfolding group_place
 whole_clear w start end rising = group_clear w start start end rising refl (λ h. absurd (omega arith))
 
@@ -177,7 +177,7 @@ unfalling_split (not_below low rest) = (low, rest)
 
 -- a known fact of an effect that is not below the one before it is not bad, nor is one of its condition
 effect_clear : (w : List ℕ) (start end i : ℕ) → Rising (domains w) 0 (facts w (i + 1) (effect_fact w end i)) → Known (domains w) (fact_of (word w (effect_fact w end i)))
-    → (start < i → word w (i - 1) ≤ word w (effect_fact w end i)) → effect_place w start end i ≡ Nowhere
+    → (start < i → word w (i - 1) ≤ word w (effect_fact w end i)) → effect_place w start end i ≡ None
 unfolding effect_place bad_effect
 effect_clear w start end i condition known order =
     let k : ℕ = effect_fact w end i in
@@ -195,7 +195,7 @@ effect_clear w start end i condition known order =
 -- order: from word i on, where `from` is the fact before it
 chain_clear : (w : List ℕ) (start end i n from : ℕ) → end - i ≤ n → (start < i → word w (i - 1) ≡ from) → start ≤ i
     → ((e : Effect) → Memᴰ e (effects true w i end) → Rising (domains w) 0 e.condition × Known (domains w) e.fact)
-    → Unfalling from (map (λ e. e.fact) (effects true w i end)) → first_in (effect_place w start end) (effect_words w end i (end - i)) ≡ Nowhere
+    → Unfalling from (map (λ e. e.fact) (effects true w i end)) → first_in (effect_place w start end) (effect_words w end i (end - i)) ≡ None
 unfolding effect_at
 chain_clear w start end i zero from few before low formed order = rw (effect_words_over w end i (end - i) (omega arith)) (first_in_nothing (effect_place w start end))
 chain_clear w start end i (suc n) from few before low formed order =
@@ -207,8 +207,8 @@ chain_clear w start end i (suc n) from few before low formed order =
     by_case : (b : Bool) → ltb i end ≡ b
         → (end - (k + 1) ≤ n → (start < k + 1 → word w (k + 1 - 1) ≡ fact_word (fact_of (word w k))) → start ≤ k + 1
         → ((e : Effect) → Memᴰ e (effects true w (k + 1) end) → Rising (domains w) 0 e.condition × Known (domains w) e.fact)
-        → Unfalling (fact_word (fact_of (word w k))) (map (λ e. e.fact) (effects true w (k + 1) end)) → first_in (effect_place w start end) (effect_words w end (k + 1) (end - (k + 1))) ≡ Nowhere)
-        → first_in (effect_place w start end) (effect_words w end i (end - i)) ≡ Nowhere
+        → Unfalling (fact_word (fact_of (word w k))) (map (λ e. e.fact) (effects true w (k + 1) end)) → first_in (effect_place w start end) (effect_words w end (k + 1) (end - (k + 1))) ≡ None)
+        → first_in (effect_place w start end) (effect_words w end i (end - i)) ≡ None
     by_case false e later = rw (effect_words_over w end i (end - i) (ltb-false _ _ e)) (first_in_nothing (effect_place w start end))
     by_case true e later =
         let below : i < end = ltb-true _ _ e in
@@ -236,11 +236,11 @@ module _ (w : List ℕ) (writable : Encodable (edition w) (task w)) where
       let few : domain w v ≤ limits.values = rw (domains_at w v h) at (writable.values v there) in
       rw (le-ltb (domain w v) 1 (omega arith), le-ltb limits.values (domain w v) few, lt-leb _ _ below)
 
-  variables_clear : variable_place w ≡ Nowhere
+  variables_clear : variable_place w ≡ None
   unfolding variable_place
   variables_clear = no_first (bad_variable w) (variables w) variable_clear
 
-  effects_clear : (a : ℕ) → a < actions w → effects_place w (effect_start w a) (effect_end w a) ≡ Nowhere
+  effects_clear : (a : ℕ) → a < actions w → effects_place w (effect_start w a) (effect_end w a) ≡ None
   unfolding effects_place task action effects written
   effects_clear a h = by_edition (has_conditions w) refl
     where
@@ -250,7 +250,7 @@ module _ (w : List ℕ) (writable : Encodable (edition w) (task w)) where
       here : ActionFormed (domains w) (action w a)
       here = writable.well_formed.actions (action w a) this
 
-      by_edition : (b : Bool) → has_conditions w ≡ b → effects_place w (effect_start w a) (effect_end w a) ≡ Nowhere
+      by_edition : (b : Bool) → has_conditions w ≡ b → effects_place w (effect_start w a) (effect_end w a) ≡ None
       by_edition true second =
           let from : ℕ = effect_start w a in
           let end : ℕ = effect_end w a in
@@ -267,25 +267,25 @@ module _ (w : List ℕ) (writable : Encodable (edition w) (task w)) where
           let facts_of : map (λ e. e.fact) (action w a).effects ≡ q = ap (map (λ e. e.fact)) all ∙ each_written q in
           rw first (whole_clear w _ _ (rw facts_of at (writable.plain one (action w a) this).rising))
 
-  action_clear : (a : ℕ) → a < actions w → action_place w a ≡ Nowhere
+  action_clear : (a : ℕ) → a < actions w → action_place w a ≡ None
   unfolding action_place task action
   action_clear a h =
       let here : ActionFormed (domains w) (action w a) = writable.well_formed.actions (action w a) (action_known w a h) in
       rw (whole_clear w _ _ here.precondition, effects_clear a h)
 
-  facts_clear : fact_place w ≡ Nowhere
+  facts_clear : fact_place w ≡ None
   unfolding fact_place task goal
   facts_clear = rw (whole_clear w _ _ writable.well_formed.goal, first_of_none (action_place w) (actions w) action_clear)
 
-  costs_clear : cost_place w ≡ Nowhere
+  costs_clear : cost_place w ≡ None
   unfolding cost_place action
   costs_clear = no_first _ (actions w) (λ a h. le-ltb _ _ (writable.costs (action w a) (action_known w a h)))
 
-  conflicts_clear : conflict_place w ≡ Nowhere
+  conflicts_clear : conflict_place w ≡ None
   unfolding conflict_place task
   conflicts_clear = no_first _ (actions w) (λ a h. (writable.well_formed.actions (action w a) (action_known w a h)).consistent)
 
-  pub passes : edition w ≡ first_edition → Measured w → pair_place w ≡ Nowhere → Accepted w
+  pub passes : edition w ≡ first_edition → Measured w → pair_place w ≡ None → Accepted w
   passes first measured pairs =
       clear_accepted w (record {
         length = length_clear w measured;

@@ -1,10 +1,9 @@
 -- The causes of refusal of a task (document 01, "Causes of refusal", 1 to 7, and document 02, C-15, 16). Assumes
 -- nothing.
-use Rattle.std.specs.Prelude.{ℕ, ◌+◌, ◌-◌, ◌≡◌, Bool, true, false, cond, not, ◌&&◌, ◌||◌, List, [], ◌∷◌, length, ltb, leb, eqb}
+use Rattle.std.specs.Prelude.{ℕ, ◌+◌, ◌-◌, ◌≡◌, Bool, true, false, cond, not, ◌&&◌, ◌||◌, List, [], ◌∷◌, length, ltb, leb, eqb, None}
 use Rattle.std.proofs.Math.Option.{none}
 use Rattle.sas.specs.Conflict.{some_of, conflicting}
-use Rattle.refusal.specs.declared.place.Place.{Place}
-use Rattle.refusal.specs.declared.place.Place.TheVariants.{Nowhere}
+use Rattle.refusal.specs.Place.{Place}
 use Rattle.refusal.specs.Place.{when, or_else, first_of, first}
 use Rattle.refusal.specs.Check.{Check, answer}
 use Rattle.sheet.specs.Limits.{limits}
@@ -98,7 +97,7 @@ effect_place w from end i =
 
 -- the first place that f finds at one of some numbers
 unfoldable pub first_in : (ℕ → Place) → List ℕ → Place
-first_in f [] = Nowhere
+first_in f [] = None
 first_in f (i ∷ is) = or_else (f i) (first_in f is)
 
 -- the first bad fact of effects that stand from word `from` up to word end: in edition 1 they are a group

@@ -7,7 +7,6 @@ ghost use Rattle.sheet.specs.Causes.{bad_fact, group_place, bad_effect, effect_p
 ghost use Rattle.sheet_check.specs.Between.BadEffects.{BadInEffects};
 
 use crate::variables::domain;
-use refusal::place::Place;
 use sheet::effects::Effects;
 use sheet::group::{Group, facts_of, goal};
 use sheet::layout::{actions, effect_fact, number, variables};
@@ -34,7 +33,7 @@ fn bad_fact(w: &[u32], from: usize, i: usize) -> bool
 }
 
 // The first bad fact of a group.
-fn bad_in_group(w: &[u32], group: Group) -> Place
+fn bad_in_group(w: &[u32], group: Group) -> Option<usize>
     ensures { result ≡ group_place w.now group.at group.end }
 {
     let from = group.at;
@@ -42,11 +41,11 @@ fn bad_in_group(w: &[u32], group: Group) -> Place
     let mut i = from;
     while i < end {
         if bad_fact(w, from, i) {
-            return Place::At(i);
+            return Some(i);
         }
         i += 1;
     }
-    Place::Nowhere
+    None
 }
 
 // Whether the fact of the effect with a condition at word i is bad: the first effect stands at word `from`.
@@ -70,45 +69,45 @@ fn bad_effect(w: &[u32], from: usize, end: usize, i: usize) -> bool
 }
 
 // The first bad fact of that effect.
-fn bad_in_effect(w: &[u32], from: usize, end: usize, i: usize) -> Place
+fn bad_in_effect(w: &[u32], from: usize, end: usize, i: usize) -> Option<usize>
     requires { i < end }
     ensures { result ≡ effect_place w.now from end i }
 {
     let at = effect_fact(w, end, i);
     let found = bad_in_group(w, Group { at: i + 1, end: at });
     match found {
-        Place::At(k) => Place::At(k),
-        Place::Nowhere => {
+        Some(k) => Some(k),
+        None => {
             if bad_effect(w, from, end, i) {
-                return Place::At(at);
+                return Some(at);
             }
-            Place::Nowhere
+            None
         }
     }
 }
 
 // The first bad fact of all effects with conditions that stand from word `from` up to word `end`.
-fn bad_in_conditional(w: &[u32], from: usize, end: usize) -> Place
+fn bad_in_conditional(w: &[u32], from: usize, end: usize) -> Option<usize>
     ensures { result ≡ first_in (effect_place w.now from end)
         (effect_words w.now end from (end - from)) }
 {
     let mut i = from;
     while i < end {
         let found = bad_in_effect(w, from, end, i);
-        if let Place::At(k) = found {
-            return Place::At(k);
+        if let Some(k) = found {
+            return Some(k);
         }
         let at = effect_fact(w, end, i);
         if end <= at {
-            return Place::Nowhere;
+            return None;
         }
         i = at + 1;
     }
-    Place::Nowhere
+    None
 }
 
 // The first bad fact of an action's effects, which are a group where they have no conditions.
-fn bad_in_effects(w: &[u32], effects: Effects) -> Place
+fn bad_in_effects(w: &[u32], effects: Effects) -> Option<usize>
     ensures { BadInEffects w.now effects result }
 {
     if effects.conditional {
@@ -124,40 +123,40 @@ fn bad_in_effects(w: &[u32], effects: Effects) -> Place
 }
 
 // The first bad fact of action a.
-fn bad_in_action(w: &[u32], a: u32) -> Place
+fn bad_in_action(w: &[u32], a: u32) -> Option<usize>
     ensures { result ≡ action_place w.now a }
 {
     let facts = facts_of(w, a);
     let found = bad_in_group(w, facts.precondition);
     match found {
-        Place::At(i) => Place::At(i),
-        Place::Nowhere => bad_in_effects(w, facts.effects),
+        Some(i) => Some(i),
+        None => bad_in_effects(w, facts.effects),
     }
 }
 
 // The first bad fact of all actions.
-fn bad_in_actions(w: &[u32]) -> Place
+fn bad_in_actions(w: &[u32]) -> Option<usize>
     ensures { result ≡ first_of (action_place w.now) 0 (actions_of w.now) }
 {
     let n = actions(w);
     let mut a = 0;
     while a < n {
         let found = bad_in_action(w, a as u32);
-        if let Place::At(i) = found {
-            return Place::At(i);
+        if let Some(i) = found {
+            return Some(i);
         }
         a += 1;
     }
-    Place::Nowhere
+    None
 }
 
 // The place of cause 6.
-pub(crate) fn bad_fact_place(w: &[u32]) -> Place
+pub(crate) fn bad_fact_place(w: &[u32]) -> Option<usize>
     ensures { result ≡ fact_place w.now }
 {
     let found = bad_in_group(w, goal(w));
     match found {
-        Place::At(i) => Place::At(i),
-        Place::Nowhere => bad_in_actions(w),
+        Some(i) => Some(i),
+        None => bad_in_actions(w),
     }
 }

@@ -5,7 +5,6 @@ ghost use Rattle.sheet.specs.Layout.{pairs_end as pairs_end_of};
 ghost use Rattle.sheet.specs.Decode.{effect_words};
 ghost use Rattle.sheet.specs.Causes.{due as due_of, runs_past, past_part, wrong_size, bad_pair, pair_place};
 
-use refusal::place::Place;
 use sheet::layout::{
     ACTION_HEADER, FIRST_ACTION, GOAL, LENGTH_AT, PAIR, PAIRS_AT, actions, effect_fact,
     has_conditions, number, offset, size, variables,
@@ -99,19 +98,19 @@ fn bad_pair(w: &[u32], k: usize) -> bool
 }
 
 // The place of cause 4.
-pub(crate) fn bad_pair_place(w: &[u32]) -> Place
+pub(crate) fn bad_pair_place(w: &[u32]) -> Option<usize>
     ensures { result ≡ pair_place w.now }
 {
     if number(w, LENGTH_AT) < pairs_end(w) {
-        return Place::At(0);
+        return Some(0);
     }
     let pairs = FIRST_ACTION + actions(w);
     let mut k = 0;
     while k < pairs {
         if bad_pair(w, k) {
-            return Place::At(k);
+            return Some(k);
         }
         k += 1;
     }
-    Place::Nowhere
+    None
 }

@@ -3,7 +3,6 @@ ghost use Rattle.std.specs.Prelude.{◌≡◌, ◌<◌, ◌≤◌, ◌^◌};
 ghost use Rattle.sheet.specs.Layout.{domain as domain_of};
 ghost use Rattle.sheet.specs.Causes.{bad_variable, variable_place};
 
-use refusal::place::Place;
 use sheet::layout::{DOMAINS, INITIAL, number, offset, variables};
 use sheet::limits::Sheet;
 
@@ -33,16 +32,16 @@ fn bad_variable(w: &[u32], v: usize) -> bool
 }
 
 // The place of cause 5.
-pub(crate) fn bad_variable_place(w: &[u32]) -> Place
+pub(crate) fn bad_variable_place(w: &[u32]) -> Option<usize>
     ensures { result ≡ variable_place w.now }
 {
     let n = variables(w);
     let mut v = 0;
     while v < n {
         if bad_variable(w, v) {
-            return Place::At(v);
+            return Some(v);
         }
         v += 1;
     }
-    Place::Nowhere
+    None
 }

@@ -21,7 +21,7 @@ use Rattle.reduction.specs.Between.Found.{found, minimal}
 use Rattle.mask.specs.Mask.{binary, words_of, mask_words}
 use Rattle.landmark.specs.Marks.{marks}
 use Rattle.sheet.specs.Decode.{table, facts, initial, goal, effects, action, task}
-use Rattle.plan.specs.declared.check.Answer.{Answer}
+use Rattle.plan.specs.Checked.{Answer}
 use Rattle.plan.specs.Readable.{Readable}
 use Rattle.plan.specs.Valid.{steps}
 use Rattle.plan.specs.Checked.{told_answer, told_tally}

@@ -1,5 +1,6 @@
 -- What one step answers on each of its ways: an unknown action, a precondition that fails, a step that is done; and how the sheet's checks come before.
 -- What the code calls is a variable here, with what is known of it as a premise. Assumes nothing.
+use Rattle.std.specs.Prelude.{Err, Ok}
 use Prim.Native.Nat.{ℕ, ◌≤◌, ◌<◌}
 use mathlib.Core.Path.{◌≡◌, refl, sym, ◌∙◌, ap}
 use mathlib.Core.Bool.{Bool, true, false, not}
@@ -8,8 +9,7 @@ use mathlib.Core.List.{List, [], ◌∷◌}
 use borrow.Author.Tests.{le-leb, lt-leb}
 use Rattle.refusal.specs.declared.Refusal.{Refusal}
 use Rattle.refusal.specs.declared.Refusal.TheVariants.{UnknownAction, NotAPlan}
-use Rattle.refusal.specs.declared.Verdict.{Verdict}
-use Rattle.refusal.specs.declared.Verdict.TheVariants.{Passed, Refused}
+use Rattle.refusal.specs.Refusal.{Verdict}
 use Rattle.refusal.specs.Place.{when}
 use Rattle.refusal.specs.Refusal.{Told, told_refusal, told}
 use Rattle.refusal.specs.Check.{answer}
@@ -46,28 +46,28 @@ refused : (w s : List ℕ) (a : ℕ) (v : Verdict) (t : Told) → told v ≡ som
 refused w s a v t e e' = record { verdict_told = e ∙ sym e'; state = rw e' }
 
 -- an unknown action
-pub tries_unknown : (w s : List ℕ) (a : ℕ) (n : ℕ) → n ≡ actions w → n ≤ a → Tries w s a (Refused (UnknownAction 1)) s
+pub tries_unknown : (w s : List ℕ) (a : ℕ) (n : ℕ) → n ≡ actions w → n ≤ a → Tries w s a (Err (UnknownAction 1)) s
 tries_unknown w s a n e h = refused w s a _ _ refl (own_unknown w s a (rw e at h))
 
 -- a step that can't be done
-pub tries_fails : (w s after : List ℕ) (a n : ℕ) (done : Bool) → n ≡ actions w → a < n → Advances w s a done after → done ≡ false → Tries w s a (Refused (NotAPlan 1)) s
+pub tries_fails : (w s after : List ℕ) (a n : ℕ) (done : Bool) → n ≡ actions w → a < n → Advances w s a done after → done ≡ false → Tries w s a (Err (NotAPlan 1)) s
 tries_fails w s after a n done e h advances is = refused w s a _ _ refl (own_fails w s a (rw e at h) (sym advances.applied ∙ is))
 
 -- a step that is done
-pub tries_done : (w s after : List ℕ) (a n : ℕ) (done : Bool) → n ≡ actions w → a < n → Advances w s a done after → done ≡ true → Tries w s a Passed after
+pub tries_done : (w s after : List ℕ) (a n : ℕ) (done : Bool) → n ≡ actions w → a < n → Advances w s a done after → done ≡ true → Tries w s a (Ok tt) after
 tries_done w s after a n done e h advances is =
     let passes : answer (own_checks w s a) ≡ none = own_passes w s a (rw e at h) (sym advances.applied ∙ is) in
     record { verdict_told = sym passes; state = rw passes (advances.state ∙ rw is) }
 
 -- a sheet that is refused
-pub steps_refused : (w s : List ℕ) (a : ℕ) (v : Verdict) (r : Refusal) → told v ≡ answer (sheet_checks w) → v ≡ Refused r → Steps w s a (Refused r) s
+pub steps_refused : (w s : List ℕ) (a : ℕ) (v : Verdict) (r : Refusal) → told v ≡ answer (sheet_checks w) → v ≡ Err r → Steps w s a (Err r) s
 unfolding step_checks state_after
 steps_refused w s a v r e is =
     let refuses : answer (step_checks w s a) ≡ some (told_refusal r) = answer_first (sheet_checks w) (own_checks w s a) (sym e ∙ ap told is) in
     record { verdict_told = sym refuses; state = rw (refuses, state_after) }
 
 -- a sheet that is accepted, and what the step's own checks say
-pub steps_tried : (w s after : List ℕ) (a : ℕ) (v v' : Verdict) → told v ≡ answer (sheet_checks w) → v ≡ Passed → Tries w s a v' after → Steps w s a v' after
+pub steps_tried : (w s after : List ℕ) (a : ℕ) (v v' : Verdict) → told v ≡ answer (sheet_checks w) → v ≡ Ok tt → Tries w s a v' after → Steps w s a v' after
 unfolding step_checks state_after
 steps_tried w s after a v v' e is tried =
     let accepted : answer (step_checks w s a) ≡ answer (own_checks w s a) = answer_second (sheet_checks w) (own_checks w s a) (sym e ∙ ap told is) in

@@ -4,14 +4,14 @@ ghost use Rattle.step.specs.Between.Tries.{Tries};
 
 use crate::advance::advance;
 use crate::state::State;
-use refusal::{Refusal, Verdict};
+use refusal::Refusal;
 use sheet::layout::actions;
 use sheet_check::check::check_sheet;
 
 // A step's answer, and the state after it.
 #[derive(Clone, Copy)]
 pub struct Stepped {
-    pub verdict: Verdict,
+    pub verdict: Result<(), Refusal>,
     pub state: State,
 }
 
@@ -24,19 +24,19 @@ fn try_step(words: &[u32], state: State, action: u32) -> Stepped
 {
     if actions(words) <= action as usize {
         return Stepped {
-            verdict: Verdict::Refused(Refusal::UnknownAction(POSITION)),
+            verdict: Err(Refusal::UnknownAction(POSITION)),
             state,
         };
     }
     let mut values = state.values;
     if advance(words, &mut values, action) {
         return Stepped {
-            verdict: Verdict::Passed,
+            verdict: Ok(()),
             state: State { values },
         };
     }
     Stepped {
-        verdict: Verdict::Refused(Refusal::NotAPlan(POSITION)),
+        verdict: Err(Refusal::NotAPlan(POSITION)),
         state,
     }
 }
@@ -46,16 +46,16 @@ pub fn step(words: &[u32], state: State, action: u32) -> Stepped
     ensures { Steps words.now state.values action result.verdict result.state.values }
 {
     match check_sheet(words) {
-        Verdict::Passed => try_step(words, state, action),
-        Verdict::Refused(refusal) => Stepped {
-            verdict: Verdict::Refused(refusal),
+        Ok(()) => try_step(words, state, action),
+        Err(refusal) => Stepped {
+            verdict: Err(refusal),
             state,
         },
     }
 }
 
 // Does one step in a lent state, or refuses it and leaves the state as it was.
-pub fn step_in_place(words: &[u32], state: &mut State, action: u32) -> Verdict
+pub fn step_in_place(words: &[u32], state: &mut State, action: u32) -> Result<(), Refusal>
     ensures { Steps words.now state.old.values action result state.new.values }
 {
     let stepped = step(words, *state, action);

@@ -1,8 +1,8 @@
 -- A tally of cost (document 01: price) and steps. Assumes nothing.
 use Rattle.std.specs.Prelude.{ℕ, ◌+◌, cond, ◌&&◌, List, [], ◌∷◌, ltb, leb}
 use Rattle.tally.specs.declared.Tally.{Tally}
-use Rattle.tally.specs.declared.Order.{Order}
-use Rattle.tally.specs.declared.Order.TheVariants.{Less, Equal, Greater}
+use Rattle.std.specs.declared.cmp.Ordering.{Ordering}
+use Rattle.std.specs.declared.cmp.Ordering.TheVariants.{Less, Equal, Greater}
 
 -- the most that a tally counts up to, stated here and nowhere else in the definitions
 abbrev pub bounds : Tally
@@ -25,7 +25,7 @@ after t [] = t
 after t (c ∷ costs) = after (one_more t c) costs
 
 -- the lower of the two costs, then of the two numbers of steps
-unfoldable pub comparison : Tally → Tally → Order
+unfoldable pub comparison : Tally → Tally → Ordering
 comparison a b =
     cond (ltb a.cost b.cost) Less
     (cond (ltb b.cost a.cost) Greater

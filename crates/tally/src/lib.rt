@@ -2,21 +2,14 @@
 #![tactic(auto)]
 
 ghost use Rattle.std.specs.Prelude.{◌≡◌};
+ghost use Rattle.std.specs.Ordering.{is_lt};
 ghost use Rattle.tally.specs.Tally.{bounds, nothing, one_more, comparison};
 
-// A tally. Its fields may hold any values.
-#[derive(Clone, Copy)]
+// A tally. Its fields may hold any values. Their order makes its order: the lower cost, then the fewer steps.
+#[derive(Clone, Copy, PartialEq, Eq, PartialOrd, Ord)]
 pub struct Tally {
     pub cost: u32,
     pub steps: u32,
-}
-
-// Which of two tallies is the lower.
-#[derive(Clone, Copy)]
-pub enum Order {
-    Less,
-    Equal,
-    Greater,
 }
 
 impl Tally {
@@ -61,22 +54,10 @@ impl Tally {
         }
     }
 
-    // Compares by cost, then by steps.
-    pub fn compare(self, other: Tally) -> Order
-        ensures { result ≡ comparison self other }
+    // Whether it is the lower of two.
+    pub fn is_lower(self, other: Tally) -> bool
+        ensures { result ≡ is_lt (comparison self other) }
     {
-        if self.cost < other.cost {
-            return Order::Less;
-        }
-        if other.cost < self.cost {
-            return Order::Greater;
-        }
-        if self.steps < other.steps {
-            return Order::Less;
-        }
-        if other.steps < self.steps {
-            return Order::Greater;
-        }
-        Order::Equal
+        self < other
     }
 }

@@ -1,4 +1,5 @@
 -- What the service answers, by each way to a return: the check that fires, or the sheet that is written. Assumes nothing.
+use Rattle.std.specs.Prelude.{None, Some}
 use Prim.Native.Nat.{ℕ, ◌+◌, ◌*◌, ◌≤◌, ◌<◌}
 use native.Mathlib.Omega.{arith}
 use mathlib.Core.Path.{◌≡◌, refl, sym, ◌∙◌, ap, subst}
@@ -9,8 +10,7 @@ use lib.ListN.{length, take, drop}
 use lib.Seq.{sets, sets-eq, drop_at}
 use lib.Dec.{ltb}
 use borrow.Author.Tests.{lt-ltb, le-ltb, eq-eqb, ne_eqb}
-use Rattle.refusal.specs.declared.place.Place.{Place}
-use Rattle.refusal.specs.declared.place.Place.TheVariants.{Nowhere, At}
+use Rattle.refusal.specs.Place.{Place}
 use Rattle.refusal.specs.declared.Refusal.TheVariants as refusal
 use Rattle.refusal.specs.Check.{answer}
 use Rattle.sas.specs.Task.{Task}
@@ -83,7 +83,7 @@ numbers_in (Broken n) = []
 numbers_in (Whole xs p) = xs
 
 abbrev barred_in : Outcome → Place
-barred_in (Broken n) = Nowhere
+barred_in (Broken n) = None
 barred_in (Whole xs p) = p
 
 never : {A : Type 0} → ◌≡◌ {A = Bool} true false → A
@@ -109,12 +109,12 @@ module _ (text : List ℕ) where
     unfolding answer translation_checks broken_line
     told_form short e = rw (short, e)
 
-    pub told_barred : (n : ℕ) → ltb most_bytes (length text) ≡ false → whole (walked text) ≡ true → unsupported_line text ≡ At n
+    pub told_barred : (n : ℕ) → ltb most_bytes (length text) ≡ false → whole (walked text) ≡ true → unsupported_line text ≡ Some n
         → some (record { number = 14; place = n }) ≡ answer (translation_checks text k)
     unfolding answer translation_checks broken_line
     told_barred n short e bars = rw (short, e, bars)
 
-    pub told_passed : ltb most_bytes (length text) ≡ false → whole (walked text) ≡ true → unsupported_line text ≡ Nowhere
+    pub told_passed : ltb most_bytes (length text) ≡ false → whole (walked text) ≡ true → unsupported_line text ≡ None
         → answer (task_checks (numbers_of text) k) ≡ answer (translation_checks text k)
     unfolding answer translation_checks broken_line
     told_passed short e bars = rw (short, e, bars)
@@ -171,10 +171,10 @@ module _ (room : ℕ) (half : most_bytes ≡ 2 * room) (text : List ℕ) where
     read_barred : p ≡ unsupported_line text
     read_barred = ap barred_in as_read
 
-    pub told_unsupported : (n k : ℕ) → p ≡ At n → some (record { number = 14; place = n }) ≡ answer (translation_checks text k)
+    pub told_unsupported : (n k : ℕ) → p ≡ Some n → some (record { number = 14; place = n }) ≡ answer (translation_checks text k)
     told_unsupported n k e = told_barred text k n not_long has_form (sym read_barred ∙ e)
 
-    pub told_rest : (k : ℕ) → p ≡ Nowhere → answer (task_checks (numbers_of text) k) ≡ answer (translation_checks text k)
+    pub told_rest : (k : ℕ) → p ≡ None → answer (task_checks (numbers_of text) k) ≡ answer (translation_checks text k)
     told_rest k e = told_passed text k not_long has_form (sym read_barred ∙ e)
 
 -- the ways to a return of the function that writes the sheet

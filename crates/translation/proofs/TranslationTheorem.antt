@@ -1,5 +1,6 @@
 -- What is answered by the checks of a text is what document 02 asks for; and every text is either a planner's text or has
 -- a line that breaks the form. Assumes nothing.
+use Rattle.std.specs.Prelude.{None, Some}
 use Prim.Native.Nat.{ℕ, ◌+◌, ◌≤◌, ◌<◌}
 use native.Mathlib.Omega.{arith}
 use mathlib.Core.Path.{◌≡◌, refl, sym, ◌∙◌, ap, subst}
@@ -10,8 +11,7 @@ use mathlib.Core.List.{List, [], ◌∷◌, ◌++◌}
 use lib.ListN.{length, drop, take-append-drop, length-map}
 use lib.Dec.{ltb}
 use borrow.Author.Tests.{lt-ltb, le-ltb}
-use Rattle.refusal.specs.declared.place.Place.{Place}
-use Rattle.refusal.specs.declared.place.Place.TheVariants.{Nowhere, At}
+use Rattle.refusal.specs.Place.{Place}
 use Rattle.refusal.specs.Check.{answer}
 use Rattle.sas.specs.Task.{Task}
 use Rattle.sheet.specs.Layout.{first_edition}
@@ -65,15 +65,15 @@ sheet_or_none t formed = by_case (writable (meant t)) refl
 
 -- no line bars it
 abbrev somewhere : Place → Bool
-somewhere Nowhere = false
-somewhere (At n) = true
+somewhere None = false
+somewhere (Some n) = true
 
-all_sayable : (n : ℕ) (ls : List Line) → first_barred n ls ≡ Nowhere → AllSayable ls
+all_sayable : (n : ℕ) (ls : List Line) → first_barred n ls ≡ None → AllSayable ls
 unfolding first_barred
 all_sayable n [] e = tt
 all_sayable n (l ∷ ls) e = by_case l.barred refl e (all_sayable (n + 1) ls)
   where
-    by_case : (b : Bool) → l.barred ≡ b → cond b (At n) (first_barred (n + 1) ls) ≡ Nowhere → (first_barred (n + 1) ls ≡ Nowhere → AllSayable ls) → AllSayable (l ∷ ls)
+    by_case : (b : Bool) → l.barred ≡ b → cond b (Some n) (first_barred (n + 1) ls) ≡ None → (first_barred (n + 1) ls ≡ None → AllSayable ls) → AllSayable (l ∷ ls)
     by_case true is none_barred rest = absurd (false≢true (sym (ap somewhere none_barred)))
     by_case false is none_barred rest = (is, rest none_barred)
 
@@ -82,7 +82,7 @@ module _ (bytes : List ℕ) (few : length bytes ≤ most_bytes) (t : Text) (prin
   not_long : ltb most_bytes (length bytes) ≡ false
   not_long = le-ltb most_bytes (length bytes) few
 
-  module _ (says : unsayable t ≡ Nowhere) where
+  module _ (says : unsayable t ≡ None) where
     meaning_is : meaning (numbers_of bytes) ≡ sat_task (meant t)
     meaning_is =
         ap meaning (printed_numbers bytes few t prints)
@@ -125,7 +125,7 @@ module _ (bytes : List ℕ) (few : length bytes ≤ most_bytes) (t : Text) (prin
         answered = enough;
       }
     where
-      short : unsayable t ≡ Nowhere → (w : List ℕ) → SheetOf t w → room < length w
+      short : unsayable t ≡ None → (w : List ℕ) → SheetOf t w → room < length w
           → answer (translation_checks bytes room) ≡ some (record { number = 10; place = length w })
       short says w sheet less =
           let same : text_sheet bytes ≡ w = sheet_same says w sheet in
@@ -133,7 +133,7 @@ module _ (bytes : List ℕ) (few : length bytes ≤ most_bytes) (t : Text) (prin
           ∙ sym (told_short (numbers_of bytes) room (writable_read says w sheet) (subst (λ v. room < length v) (sym same) less))
           ∙ ap (λ v. some (record { number = 10; place = length v })) same
 
-      enough : unsayable t ≡ Nowhere → (w : List ℕ) → SheetOf t w → length w ≤ room
+      enough : unsayable t ≡ None → (w : List ℕ) → SheetOf t w → length w ≤ room
           → (answer (translation_checks bytes room) ≡ none) × (text_sheet bytes ≡ w)
       enough says w sheet fits =
           let same : text_sheet bytes ≡ w = sheet_same says w sheet in (

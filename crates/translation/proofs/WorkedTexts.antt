@@ -1,5 +1,6 @@
 -- Texts computed by the definitions: a good one to the words of its sheet, and one for each cause of refusal. In the good one a name reads like a keyword,
 -- another is empty, and a mutex group has numbers of no variable. Assumes nothing.
+use Rattle.std.specs.Prelude.{None, Some}
 use Prim.Native.Nat.{ℕ, ◌<◌}
 use mathlib.Core.Path.{◌≡◌, refl}
 use mathlib.Core.Bool.{true}
@@ -24,7 +25,6 @@ use Rattle.meaning.specs.Between.Writable.{known, has, fit_in, variables_fit, no
 use Rattle.lines.specs.Lines.{numeral, numeral_within}
 use Rattle.sas.specs.Task.{Assignment, always}
 use Rattle.sas.specs.Plan.{written}
-use Rattle.refusal.specs.declared.place.Place.TheVariants.{Nowhere, At}
 use Rattle.planner.specs.Text.{Text}
 use Rattle.planner.specs.Printed.{joined, counted, ended, printed}
 use Rattle.planner.specs.Printed.{lines as printed_lines}
@@ -103,7 +103,7 @@ pub lock_printed : (printed (lock []) ≡ with_effect (ascii "0 0 0 1")) × (pri
 unfolding printed_lines counted joined ended numeral numeral_within flatten
 lock_printed = (refl, refl)
 
-pub lock_barred : (unsayable (lock []) ≡ Nowhere) × (unsayable (lock open_gate) ≡ At 32)
+pub lock_barred : (unsayable (lock []) ≡ None) × (unsayable (lock open_gate) ≡ Some 32)
 unfolding printed_lines counted first_barred flatten
 lock_barred = (refl, refl)
 

@@ -1,9 +1,8 @@
 -- What is answered to a planner's text, read into a sheet (document 02, C-11). Which of these cases it is, and which
 -- text, line or sheet they speak of, is told by the text alone (`text_or_break`, `prints_once`, `breaks_once`,
 -- `no_text_breaks`, `sheet_once`, `sheet_or_none`). Assumes nothing.
-use Rattle.std.specs.Prelude.{ℕ, ◌+◌, ◌≤◌, ◌<◌, ◌≡◌, Bool, cond, ◌&&◌, List, [], ◌∷◌, ◌++◌, length, drop, eqb}
+use Rattle.std.specs.Prelude.{ℕ, ◌+◌, ◌≤◌, ◌<◌, ◌≡◌, Bool, cond, ◌&&◌, List, [], ◌∷◌, ◌++◌, length, drop, eqb, None, Some}
 use Rattle.std.proofs.Math.Option.{Option, none, some}
-use Rattle.refusal.specs.declared.place.Place.TheVariants.{Nowhere, At}
 use Rattle.refusal.specs.Refusal.{Told, told_refusal}
 use Rattle.sas.specs.Task.{Fact, Assignment, Effect, Action, Task}
 use Rattle.sheet.specs.Decode.{task}
@@ -63,14 +62,14 @@ pub record SheetOf (t : Text) (w : List ℕ) : Type 0 where
 -- what is answered to a text, with room for so many words: a refusal or none, and then its sheet
 pub record ToldOf (t : Text) (room : ℕ) (refusal : Option Told) (sheet : List ℕ) : Type 0 where
   -- 14: a line that no sheet can say
-  pub unsaid : (n : ℕ) → unsayable t ≡ At n → refusal ≡ some (record { number = 14; place = n })
+  pub unsaid : (n : ℕ) → unsayable t ≡ Some n → refusal ≡ some (record { number = 14; place = n })
   -- 15: "the sheet would break a limit or a rule of document 01"
-  pub no_sheet : unsayable t ≡ Nowhere → ((w : List ℕ) → SheetOf t w → ⊥)
+  pub no_sheet : unsayable t ≡ None → ((w : List ℕ) → SheetOf t w → ⊥)
       → refusal ≡ some (record { number = 15; place = 0 })
   -- then 10: its sheet has more words than there is room for
-  pub no_room : unsayable t ≡ Nowhere → (w : List ℕ) → SheetOf t w → room < length w
+  pub no_room : unsayable t ≡ None → (w : List ℕ) → SheetOf t w → room < length w
       → refusal ≡ some (record { number = 10; place = length w })
-  pub answered : unsayable t ≡ Nowhere → (w : List ℕ) → SheetOf t w → length w ≤ room → (refusal ≡ none) × (sheet ≡ w)
+  pub answered : unsayable t ≡ None → (w : List ℕ) → SheetOf t w → length w ≤ room → (refusal ≡ none) × (sheet ≡ w)
 
 -- what is answered to bytes
 pub record ToldOfBytes (bytes : List ℕ) (room : ℕ) (refusal : Option Told) (sheet : List ℕ) : Type 0 where

@@ -21,8 +21,8 @@ use Rattle.reduction.specs.Between.Order.{lower}
 use Rattle.reduction.specs.Landmark.{step}
 use Rattle.reduction.proofs.ReductionLaws.{kept_length, alike_behind}
 use Rattle.tally.specs.declared.Tally.{Tally}
-use Rattle.tally.specs.declared.Order.{Order}
-use Rattle.tally.specs.declared.Order.TheVariants.{Less, Equal, Greater}
+use Rattle.std.specs.declared.cmp.Ordering.{Ordering}
+use Rattle.std.specs.declared.cmp.Ordering.TheVariants.{Less, Equal, Greater}
 use Rattle.tally.specs.Tally.{one_more, comparison}
 use Rattle.tally.proofs.TallyLaws.{counted, same_tally}
 use Rattle.sheet.specs.Layout.{cost_word}
@@ -40,7 +40,7 @@ use Rattle.turns.specs.Between.Told.{Chooses}
 use Rattle.turns.specs.Between.Unpacked.{choice_bits, bit_of}
 
 -- whether a tally is the lower, by its order
-module _ (t u : Tally) (o : Order) (compared : o ≡ comparison t u) where
+module _ (t u : Tally) (o : Ordering) (compared : o ≡ comparison t u) where
   pub less : o ≡ Less → true ≡ is_less (comparison t u)
   less e = ap is_less (sym e ∙ compared)
 

@@ -7,7 +7,8 @@ ghost use Rattle.turns.specs.Between.Unpacked.{bit_of};
 
 use access::word;
 use mask::Mask;
-use tally::{Order, Tally};
+use std::cmp::Ordering;
+use tally::Tally;
 
 // A reduction that keeps the flagged steps. It is small, and the turns hand it on by value.
 #[derive(Clone, Copy)]
@@ -22,9 +23,9 @@ pub fn is_lower(tally: Tally, other: Tally) -> bool
 {
     let order = tally.compare(other);
     match order {
-        Order::Less => true,
-        Order::Equal => false,
-        Order::Greater => false,
+        Ordering::Less => true,
+        Ordering::Equal => false,
+        Ordering::Greater => false,
     }
 }
 

@@ -1,4 +1,5 @@
 -- What the check of a list tells is what the program prints for it, and so of the whole input. Assumes nothing.
+use Rattle.std.specs.Prelude.{Err, Ok}
 use Prim.Native.Nat.{ℕ, ◌≤◌}
 use mathlib.Core.Path.{◌≡◌, sym, ◌∙◌, ap}
 use mathlib.Core.Option.{none, some}
@@ -10,8 +11,7 @@ use Rattle.refusal.specs.declared.Refusal.{Refusal}
 use Rattle.refusal.specs.Refusal.{told_refusal}
 use Rattle.refusal.specs.Check.{answer}
 use Rattle.tally.specs.declared.Tally.{Tally}
-use Rattle.plan.specs.declared.check.Answer.{Answer}
-use Rattle.plan.specs.declared.check.Answer.TheVariants.{Valid, Refused}
+use Rattle.plan.specs.Checked.{Answer}
 use Rattle.plan.specs.Checked.{plan_checks, told_answer, lodged_tally, Checks}
 use Rattle.program.specs.declared.input.Input.{Input}
 use Rattle.program.specs.Printed.{tally_line, refusal_line, HasRead, ReadFrom}
@@ -20,7 +20,7 @@ use Rattle.program.specs.Between.Room.{line_room}
 use Rattle.validate.specs.Validate.{checked, printed}
 
 module _ (w l : List ℕ) (given : Answer) (state : List ℕ) (checks : Checks (plan_checks w l) w l given state) {out out' : List ℕ} {end : ℕ} where
-  pub checked_tally : (t : Tally) → given ≡ Valid t → Prints (tally_line (ascii "lodged") t) 0 out out' end → length (tally_line (ascii "lodged") t) ≤ line_room
+  pub checked_tally : (t : Tally) → given ≡ Ok t → Prints (tally_line (ascii "lodged") t) 0 out out' end → length (tally_line (ascii "lodged") t) ≤ line_room
       → Prints (checked w l) 0 out out' end × (length (checked w l) ≤ line_room)
   unfolding checked
   checked_tally t is prints short =
@@ -28,7 +28,7 @@ module _ (w l : List ℕ) (given : Answer) (state : List ℕ) (checks : Checks (
       let counted : t ≡ lodged_tally w l = rw (is, passes) at checks.tally in
       rw (checked, passes) (rw counted at prints, rw counted at short)
 
-  pub checked_refusal : (r : Refusal) → given ≡ Refused r → Prints (refusal_line (told_refusal r)) 0 out out' end → length (refusal_line (told_refusal r)) ≤ line_room
+  pub checked_refusal : (r : Refusal) → given ≡ Err r → Prints (refusal_line (told_refusal r)) 0 out out' end → length (refusal_line (told_refusal r)) ≤ line_room
       → Prints (checked w l) 0 out out' end × (length (checked w l) ≤ line_room)
   unfolding checked
   checked_refusal r is prints short =

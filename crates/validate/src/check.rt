@@ -4,7 +4,7 @@ ghost use Rattle.program.specs.Between.Room.{line_room, TextPut};
 ghost use Rattle.program.specs.Printed.{HasDone};
 ghost use Rattle.validate.specs.Validate.{checked, printed};
 
-use plan::check::{Answer, check_plan};
+use plan::check::check_plan;
 use program::input::{Done, read};
 use program::opened::open_input;
 use program::output::{put_refusal, put_tally};
@@ -19,8 +19,8 @@ fn check(words: &[u32], plan: &[u32], out: &mut [u8]) -> usize
     let checked = check_plan(words, plan);
     let answer = checked.answer;
     match answer {
-        Answer::Valid(tally) => put_tally(out, 0, b"lodged", tally),
-        Answer::Refused(refusal) => put_refusal(out, 0, refusal),
+        Ok(tally) => put_tally(out, 0, b"lodged", tally),
+        Err(refusal) => put_refusal(out, 0, refusal),
     }
 }
 

@@ -3,7 +3,7 @@ use crate::lists::LONGEST;
 use landmark::marks::marks_mask;
 use lines::{put_spaced, put_text};
 use minimal::reduce::minimal_reduction;
-use plan::check::{Answer, check_plan};
+use plan::check::check_plan;
 use program::output::{LINE, first_bytes, put_refusal, put_tally, write_text};
 
 // How many steps are not marked. No more are marked than there are.
@@ -23,14 +23,14 @@ fn put_lodged(words: &[u32], plan: &[u32], out: &mut [u8], at: usize) -> usize {
     let checked = check_plan(words, plan);
     let answer = checked.answer;
     match answer {
-        Answer::Valid(tally) => {
+        Ok(tally) => {
             let lodged = put_text(out, at, b"lodged");
             let steps = put_spaced(out, lodged, &[tally.steps as u64, tally.cost as u64]);
             let marks = put_text(out, steps, b", unmarked");
             let end = put_spaced(out, marks, &[unmarked(words, plan) as u64]);
             put_text(out, end, b", ")
         }
-        Answer::Refused(_) => at,
+        Err(_) => at,
     }
 }
 
@@ -40,8 +40,8 @@ fn put_kept(words: &[u32], plan: &[u32], out: &mut [u8], at: usize) -> usize {
     let reduced = minimal_reduction(words, plan, &mut left);
     let answer = reduced.answer;
     match answer {
-        Answer::Valid(tally) => put_tally(out, at, b"kept", tally),
-        Answer::Refused(refusal) => put_refusal(out, at, refusal),
+        Ok(tally) => put_tally(out, at, b"kept", tally),
+        Err(refusal) => put_refusal(out, at, refusal),
     }
 }
 

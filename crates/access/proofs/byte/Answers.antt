@@ -1,7 +1,6 @@
 -- `byte` meets its contract: past the end the default is read. Assumes nothing.
 use lib.ListN.{get_or-eq_default}
 use mathlib.Core.Path.{sym}
-use Rattle.std.proofs.Common.{rules}
 use Rattle.access.proofs.byte.Goals as goal
 
 pub returns-else-i-bytes : goal.returns-else-i-bytes

@@ -2,7 +2,6 @@
 use lib.ListN.{get_or-eq_default}
 use mathlib.Core.Path.{sym}
 use mathlib.Core.Bool.{false}
-use Rattle.std.proofs.Common.{rules}
 use Rattle.access.proofs.flag.Goals as goal
 
 pub returns-else-i-flags : goal.returns-else-i-flags

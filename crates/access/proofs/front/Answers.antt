@@ -2,11 +2,10 @@
 use native.Mathlib.Omega.{arith}
 use mathlib.Core.Path.{sym}
 use lib.Seq.{length-take-le, take_all}
-use Rattle.std.proofs.Common.{rules}
 use Rattle.access.proofs.front.Goals as goal
 
 pub slice_bounds-result-end : goal.slice_bounds-result-end
-slice_bounds-result-end c = sym (length-take-le _ _ (omega (arith, c.if-n-words.true)))
+slice_bounds-result-end g c = sym (length-take-le _ _ (omega (arith, c.if-n-elements.true)))
 
-pub returns-else-n-words : goal.returns-else-n-words
-returns-else-n-words c = sym (take_all _ _ c.if-n-words.false)
+pub returns-else-n-elements : goal.returns-else-n-elements
+returns-else-n-elements g c = sym (take_all _ _ c.if-n-elements.false)

@@ -1,7 +1,6 @@
 -- `raise` meets its contract: as `strike` does. Assumes nothing.
 use lib.Seq.{set_out}
 use mathlib.Core.Path.{sym}
-use Rattle.std.proofs.Common.{rules}
 use Rattle.access.proofs.raise.Goals as goal
 
 pub returns-else-i-flags : goal.returns-else-i-flags

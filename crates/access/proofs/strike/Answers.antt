@@ -1,7 +1,6 @@
 -- `strike` meets its contract: a write past the end is no write. Assumes nothing.
 use lib.Seq.{set_out}
 use mathlib.Core.Path.{sym}
-use Rattle.std.proofs.Common.{rules}
 use Rattle.access.proofs.strike.Goals as goal
 
 pub returns-else-i-flags : goal.returns-else-i-flags

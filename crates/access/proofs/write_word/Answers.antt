@@ -1,14 +1,10 @@
 -- `write_word` meets its contract. The loop's invariant: with the ones that are left still to be written, the output is that of all the ones; a turn writes the
 -- lowest and clears it, so that the word falls. Assumes nothing.
-use Prim.Native.Nat.{◌+◌, ◌^◌, ◌<◌}
-use mathlib.Core.Path.{◌≡◌, refl, sym, ◌∙◌}
-use lib.ListN.{length}
-use lib.Seq.{sets}
+use mathlib.Core.Path.{refl, sym, ◌∙◌}
 use native.Mathlib.Omega.{arith}
 use lib.Count.{trailing_le}
 use Rattle.access.proofs.OnesLaws.{ones_at_few, Turn, turn, all_stored, all_passed}
 use Rattle.access.specs.Bits.{word_bits}
-use Rattle.access.specs.Between.Places.{ones_at, at_places}
 use Rattle.std.proofs.Common.{rules}
 use Rattle.access.proofs.write_word.Goals as goal
 
@@ -46,10 +42,10 @@ pub loop-rest-preserved : goal.loop-rest-preserved
 loop-rest-preserved c =
     let words = c.args.words.now in
     let here = c.loop-rest in (
-      cc ((turn-of c).stored words here.out here.to, c.put.ensures, c.word.ensures.0, here.invariant.0),
+      cc ((turn-of c).stored words here.out here.to, c.put.ensures, c.get_or.ensures, here.invariant.0),
       (turn-of c).passed here.to ∙ here.invariant.1,
       omega (arith, (turn-of c).falls, here.invariant.2),
-      c.put.auto.words ∙ here.invariant.3,
+      c.put.auto.elements ∙ here.invariant.3,
     )
 
 pub returns : goal.returns

@@ -1,12 +1,9 @@
 -- `write_word` meets its contract. The loop's invariant: with the ones that are left still to be written, the output is that of all the ones; a turn writes the
 -- lowest and clears it, so that the word falls. Assumes nothing.
 use Prim.Native.Nat.{◌+◌, ◌^◌, ◌<◌}
-use mathlib.Core.Path.{◌≡◌, refl, sym, ◌∙◌}
+use mathlib.Core.Path.{◌≡◌}
 use lib.ListN.{length}
 use lib.Seq.{sets}
-use native.Mathlib.Omega.{arith}
-use lib.Count.{trailing_le}
-use Rattle.access.proofs.OnesLaws.{ones_at_few, Turn, turn, all_stored, all_passed}
 use Rattle.access.specs.Bits.{word_bits}
 use Rattle.access.specs.Between.Places.{ones_at, at_places}
 use Rattle.access.proofs.write_word.Given as goal

@@ -1,7 +1,7 @@
 -- What the cheaper elimination leaves as it is computed (`cheaper_so`, `cheaper_once`: what the rules leave, and
 -- nothing else), and what the service of both answers (`both_of`: it can answer nothing else). Assumes nothing.
 use Rattle.std.specs.Prelude.{ℕ, min, ◌≡◌, List, length}
-use Rattle.refusal.specs.declared.Verdict.{Verdict}
+use Rattle.refusal.specs.Refusal.{Verdict}
 use Rattle.refusal.specs.Refusal.{told}
 use Rattle.refusal.specs.Check.{answer, unless_refused}
 use Rattle.tally.specs.declared.Tally.{Tally}

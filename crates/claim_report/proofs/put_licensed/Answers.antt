@@ -3,13 +3,13 @@ use mathlib.Core.Path.{refl}
 use Rattle.claim_report.proofs.LicensedLaws.{reports_licensed, licensed_report, licensed_refusal}
 use Rattle.claim_report.proofs.put_licensed.Goals as goal
 
-pub returns-in-Valid : goal.returns-in-Valid
-returns-in-Valid c =
+pub returns-in-Ok : goal.returns-in-Ok
+returns-in-Ok c =
     let licenses = c.license-licence.ensures.answer in
-    let is = c.in-Valid.is in
+    let is = c.in-Ok.is in
     licensed_report _ _ _ _ _ refl licenses _ is c.put_claim-at.ensures (c.put_report.ensures _ (reports_licensed _ _ _ _ _ refl licenses _ is))
 
-pub returns-in-Refused : goal.returns-in-Refused
-returns-in-Refused c =
+pub returns-in-Err : goal.returns-in-Err
+returns-in-Err c =
     let put = c.put_refusal.ensures in
-    licensed_refusal _ _ _ _ _ refl c.license-licence.ensures.answer _ c.in-Refused.is put.prints put.refusal_len_bound
+    licensed_refusal _ _ _ _ _ refl c.license-licence.ensures.answer _ c.in-Err.is put.prints put.refusal_len_bound

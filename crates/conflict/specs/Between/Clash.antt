@@ -4,7 +4,7 @@ use Rattle.std.specs.Prelude.{ℕ, ◌/◌, Bool, true, false, not, ◌&&◌, �
 use Rattle.sas.specs.Task.{Fact, Assignment, State, Effect}
 use Rattle.sas.specs.Plan.{assign}
 use Rattle.sas.specs.Conflict.{some_of}
-use Rattle.refusal.specs.declared.place.Place.{Place}
+use Rattle.refusal.specs.Place.{Place}
 use Rattle.refusal.specs.Place.{first}
 use Rattle.sheet.specs.declared.effects.Effects.{Effects}
 use Rattle.sheet.specs.Limits.{limits}

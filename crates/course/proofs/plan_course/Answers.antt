@@ -7,8 +7,8 @@ use Rattle.step.proofs.StateLaws.{lent_length}
 use Rattle.course.proofs.CourseLaws.{course_refused, course_readable, course_followed}
 use Rattle.course.proofs.plan_course.Goals as goal
 
-pub returns-in-Refused : goal.returns-in-Refused
-returns-in-Refused c = course_refused _ _ _ c.check_read-read.ensures _ _ c.in-Refused.is
+pub returns-in-Err : goal.returns-in-Err
+returns-in-Err c = course_refused _ _ _ c.check_read-read.ensures _ _ c.in-Err.is
 
 pub slice_bounds-follow-end : goal.slice_bounds-follow-end
 slice_bounds-follow-end c = lent_length _ _ _ c.initial-values.ensures c.size-n.ensures.1

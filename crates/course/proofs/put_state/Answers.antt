@@ -25,7 +25,7 @@ loop-i-preserved c =
     let args = c.args in
     let here = c.loop-i in (
       cc (laid_next here.states args.at args.state.now here.i c.loop-i-test.true, c.put.ensures, c.word.ensures.0, here.invariant.0),
-      c.put.auto.words ∙ here.invariant.1,
+      c.put.auto.elements ∙ here.invariant.1,
     )
 
 pub returns : goal.returns

@@ -2,8 +2,8 @@
 use Rattle.exports.proofs.LentLaws.{text_refused, text_written}
 use Rattle.exports.proofs.hollchiku_translate.Goals as goal
 
-pub returns-in-Refused : goal.returns-in-Refused
-returns-in-Refused c = text_refused _ _ _ _ _ _ c.translate-given.ensures.checks _ c.in-Refused.is c.write_counted.ensures
+pub returns-in-Err : goal.returns-in-Err
+returns-in-Err c = text_refused _ _ _ _ _ _ c.translate-given.ensures.checks _ c.in-Err.is c.write_counted.ensures
 
 pub returns-in-Written : goal.returns-in-Written
 returns-in-Written c = text_written _ _ _ _ _ _ c.translate-given.ensures.checks _ c.in-Written.is c.write_counted-in-Written.ensures

@@ -1,9 +1,8 @@
 -- The form of a planner's text (document 02, C-11: Fast Downward's translator output, version 3): what each line must
 -- be, given those before it. Assumes nothing.
-use Rattle.std.specs.Prelude.{ℕ, zero, suc, ◌+◌, ◌*◌, Bool, true, false, not, cond, ◌&&◌, List, [], ◌∷◌, ◌++◌, length, get_or, ltb, eqb}
+use Rattle.std.specs.Prelude.{ℕ, zero, suc, ◌+◌, ◌*◌, Bool, true, false, not, cond, ◌&&◌, List, [], ◌∷◌, ◌++◌, length, get_or, ltb, eqb, None, Some}
 use Rattle.ascii.specs.Bytes.{ascii}
-use Rattle.refusal.specs.declared.place.Place.{Place}
-use Rattle.refusal.specs.declared.place.Place.TheVariants.{Nowhere, At}
+use Rattle.refusal.specs.Place.{Place}
 use Rattle.fields.specs.Between.Numbers.{any_value}
 use Rattle.fields.specs.Between.Fields.{lines_of, same, line_reads, line_numbers, all_plain, plain_but_old}
 
@@ -203,7 +202,7 @@ walked text = walk_from text_lines text
 
 -- 13: "a text that breaks the form, place the first such line from 1, a missing one too"
 unfoldable pub broken_line : List ℕ → Place
-broken_line text = cond (whole (walked text)) Nowhere (At (length (walked text).read + 1))
+broken_line text = cond (whole (walked text)) None (Some (length (walked text).read + 1))
 
 -- an axiom layer other than −1, a condition on an effect, or an axiom
 abbrev pub row_bars : Row → List ℕ → Bool
@@ -234,8 +233,8 @@ bars (numbers row) line = row_bars row (line_numbers line)
 
 -- 14: the first line that no sheet can say; the first of these entries is line n
 unfoldable pub first_barred : ℕ → List Entry → Place
-first_barred n [] = Nowhere
-first_barred n (e ∷ es) = elim (bars e.due e.line) [ true ↦ At n | false ↦ first_barred (n + 1) es ]
+first_barred n [] = None
+first_barred n (e ∷ es) = elim (bars e.due e.line) [ true ↦ Some n | false ↦ first_barred (n + 1) es ]
 
 unfoldable pub unsupported_line : List ℕ → Place
 unsupported_line text = first_barred 1 (walked text).read

@@ -1,8 +1,7 @@
 -- A text that is read up to some line: what the rest of it means to a reader that stands there. Only the contracts of
 -- the reading's steps cite this file, so it need not be believed. Assumes nothing.
-use Rattle.std.specs.Prelude.{ℕ, ◌+◌, ◌*◌, ◌≤◌, ◌≡◌, cond, List, [], ◌∷◌, ◌++◌, length, get_or, take, drop, eqb}
-use Rattle.refusal.specs.declared.place.Place.{Place}
-use Rattle.refusal.specs.declared.place.Place.TheVariants.{Nowhere, At}
+use Rattle.std.specs.Prelude.{ℕ, ◌+◌, ◌*◌, ◌≤◌, ◌≡◌, cond, List, [], ◌∷◌, ◌++◌, length, get_or, take, drop, eqb, None, Some}
+use Rattle.refusal.specs.Place.{Place}
 use Rattle.refusal.specs.Place.{or_else}
 use Rattle.form.specs.declared.reader.Reader.{Reader}
 use Rattle.form.specs.Between.Form.{Row, Due, numbers, after_row, Walk, walk_from, whole, first_barred, kept_of}
@@ -21,7 +20,7 @@ outcome n met xs w =
 
 -- the first line that no sheet can say, as a reader has it
 abbrev pub barred_at : ℕ → Place
-barred_at n = cond (eqb n 0) Nowhere (At n)
+barred_at n = cond (eqb n 0) None (Some n)
 
 -- what going on finds, where these lines are due and the numbers read stand at the front of the tape
 unfoldable pub going_on : List Due → List ℕ → Reader → List ℕ → Outcome

@@ -1,11 +1,11 @@
 -- The marks of a list as flags, within a service that asks something besides. Assumes nothing.
 use Rattle.std.specs.Prelude.{ℕ, ◌≡◌, false, List, replicate}
-use Rattle.refusal.specs.declared.Verdict.{Verdict}
+use Rattle.refusal.specs.Refusal.{Verdict}
 use Rattle.refusal.specs.Refusal.{told}
 use Rattle.refusal.specs.Check.{Check, answer, unless_refused}
 use Rattle.tally.specs.Tally.{nothing}
 use Rattle.reduction.specs.Reduction.{Reduction}
-use Rattle.plan.specs.declared.check.Answer.{Answer}
+use Rattle.plan.specs.Checked.{Answer}
 use Rattle.plan.specs.Limits.{most_steps}
 use Rattle.plan.specs.Checked.{lodged_checks, told_answer, told_tally, lodged_tally}
 use Rattle.reduced.specs.Between.Held.{flags_of}

@@ -2,13 +2,13 @@
 
 use Rattle.lent.proofs.write_answer.Goals as goal
 
-pub returns-in-Valid : goal.returns-in-Valid
-returns-in-Valid c =
+pub returns-in-Ok : goal.returns-in-Ok
+returns-in-Ok c =
     rw
-    (c.in-Valid.is, ← c.write_pair.ensures) c.write_pair-in-Valid.ensures
+    (c.in-Ok.is, ← c.write_pair.ensures) c.write_pair-in-Ok.ensures
 
-pub returns-in-Refused : goal.returns-in-Refused
-returns-in-Refused c =
+pub returns-in-Err : goal.returns-in-Err
+returns-in-Err c =
     rw
-    (c.in-Refused.is, ← c.number.ensures, ← c.place.ensures, ← c.write_pair-in-Refused.ensures)
-    c.write_pair-in-Refused-2.ensures
+    (c.in-Err.is, ← c.number.ensures, ← c.place.ensures, ← c.write_pair-in-Err.ensures)
+    c.write_pair-in-Err-2.ensures

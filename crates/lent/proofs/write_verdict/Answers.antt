@@ -2,11 +2,11 @@
 
 use Rattle.lent.proofs.write_verdict.Goals as goal
 
-pub returns-in-Passed : goal.returns-in-Passed
-returns-in-Passed c = rw c.in-Passed.is c.write_pair.ensures
+pub returns-in-Ok : goal.returns-in-Ok
+returns-in-Ok c = rw c.in-Ok.is c.write_pair.ensures
 
-pub returns-in-Refused : goal.returns-in-Refused
-returns-in-Refused c =
+pub returns-in-Err : goal.returns-in-Err
+returns-in-Err c =
     rw
-    (c.in-Refused.is, ← c.number.ensures, ← c.place.ensures)
-    c.write_pair-in-Refused.ensures
+    (c.in-Err.is, ← c.number.ensures, ← c.place.ensures)
+    c.write_pair-in-Err.ensures

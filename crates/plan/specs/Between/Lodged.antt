@@ -1,9 +1,9 @@
 -- The check of a list within a service that asks something besides. Assumes nothing.
 use Rattle.std.specs.Prelude.{ℕ, ◌≡◌, List}
-use Rattle.refusal.specs.declared.Verdict.{Verdict}
+use Rattle.refusal.specs.Refusal.{Verdict}
 use Rattle.refusal.specs.Refusal.{told}
 use Rattle.refusal.specs.Check.{Check, answer}
-use Rattle.plan.specs.declared.check.Answer.{Answer}
+use Rattle.plan.specs.Checked.{Answer}
 use Rattle.plan.specs.Checked.{lodged_checks, Checks}
 
 -- the check of a list of at most so many steps, for whatever a service asks besides, of which it has the verdict

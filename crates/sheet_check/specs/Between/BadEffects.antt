@@ -1,6 +1,6 @@
 -- The place of the first bad fact of an action's effects, as they are left. Assumes nothing.
 use Rattle.std.specs.Prelude.{ℕ, ◌-◌, ◌≡◌, cond, List}
-use Rattle.refusal.specs.declared.place.Place.{Place}
+use Rattle.refusal.specs.Place.{Place}
 use Rattle.sheet.specs.declared.effects.Effects.{Effects}
 use Rattle.sheet.specs.Decode.{effect_words}
 use Rattle.sheet.specs.Causes.{group_place, effect_place, first_in}

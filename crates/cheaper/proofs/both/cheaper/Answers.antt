@@ -8,8 +8,8 @@ use Rattle.plan.proofs.PlanLaws.{passed_readable}
 use mathlib.Core.Path.{sym}
 use Rattle.cheaper.proofs.both.cheaper.Goals as goal
 
-pub returns-in-Refused : goal.returns-in-Refused
-returns-in-Refused c = both_refused _ _ _ _ _ _ c.shorter-room.ensures (room_checked _ _ _ _ _ _ c.check_room.ensures c.check_lodged-checked.ensures) _ _ _ c.in-Refused.is c.new.ensures c.new-in-Refused.ensures
+pub returns-in-Err : goal.returns-in-Err
+returns-in-Err c = both_refused _ _ _ _ _ _ c.shorter-room.ensures (room_checked _ _ _ _ _ _ c.check_room.ensures c.check_lodged-checked.ensures) _ _ _ c.in-Err.is c.new.ensures c.new-in-Err.ensures
 
 pub flags_left-eliminated-requires : goal.flags_left-eliminated-requires
 flags_left-eliminated-requires c =

@@ -2,7 +2,7 @@
 use Rattle.elimination.proofs.LeavesLaws.{left_leaves}
 use Rattle.cheaper.proofs.CheaperLaws.{cheaper_flags}
 use Rattle.elimination.specs.declared.single.Elimination.TheVariants.{Plain, Greedy}
-use Rattle.tally.specs.declared.Order.TheVariants.{Less, Equal, Greater}
+use Rattle.std.specs.declared.cmp.Ordering.TheVariants.{Less, Equal, Greater}
 use mathlib.Core.Path.{sym}
 use Rattle.cheaper.proofs.both.flags_of_cheaper.Goals as goal
 

@@ -32,8 +32,8 @@ slice_bounds-minimal_reduction-end c =
     let finished = c.finish-kept.ensures in
     sym (front_long _ _ _ _ _ further _ flagged _ _ _ finished)
 
-pub slice_bounds-flags-end-in-Valid : goal.slice_bounds-flags-end-in-Valid
-slice_bounds-flags-end-in-Valid c =
+pub slice_bounds-flags-end-in-Ok : goal.slice_bounds-flags-end-in-Ok
+slice_bounds-flags-end-in-Ok c =
     let further = c.requires in
     let flagged = c.flags_of_cheaper-flags.ensures in
     (flags_leave _ _ _ _ _ further _ flagged).within
@@ -50,8 +50,8 @@ mask_through-through-requires c =
     let flagged = c.flags_of_cheaper-flags.ensures in
     flags_few _ _ _ _ _ further _ flagged
 
-pub slice_bounds-list-end-in-Refused : goal.slice_bounds-list-end-in-Refused
-slice_bounds-list-end-in-Refused c =
+pub slice_bounds-list-end-in-Err : goal.slice_bounds-list-end-in-Err
+slice_bounds-list-end-in-Err c =
     let further = c.requires in
     let flagged = c.flags_of_cheaper-flags.ensures in
     let finished = c.finish-kept.ensures in
@@ -64,18 +64,18 @@ slice_bounds-put_all-end c =
     let finished = c.finish-kept.ensures in
     sym (front_long _ _ _ _ _ further _ flagged _ _ _ finished)
 
-pub returns-in-Valid : goal.returns-in-Valid
-returns-in-Valid c =
+pub returns-in-Ok : goal.returns-in-Ok
+returns-in-Ok c =
     let further = c.requires in
     let flagged = c.flags_of_cheaper-flags.ensures in
     let finished = c.finish-kept.ensures in
     let reduced = c.minimal_reduction-exact.ensures.answer in
-    licenses_irreducible _ _ _ _ _ further _ flagged _ _ _ finished _ _ reduced _ _ c.in-Valid.is c.mask_through-through.ensures _ c.grant.ensures
+    licenses_irreducible _ _ _ _ _ further _ flagged _ _ _ finished _ _ reduced _ _ c.in-Ok.is c.mask_through-through.ensures _ c.grant.ensures
 
-pub returns-in-Refused : goal.returns-in-Refused
-returns-in-Refused c =
+pub returns-in-Err : goal.returns-in-Err
+returns-in-Err c =
     let further = c.requires in
     let flagged = c.flags_of_cheaper-flags.ensures in
     let finished = c.finish-kept.ensures in
     let reduced = c.minimal_reduction-exact.ensures.answer in
-    licenses_open _ _ _ _ _ further _ flagged _ _ _ finished _ _ reduced _ _ _ _ c.in-Refused.is c.place-others.ensures refl c.put_all.ensures _ c.grant-in-Refused.ensures
+    licenses_open _ _ _ _ _ further _ flagged _ _ _ finished _ _ reduced _ _ _ _ c.in-Err.is c.place-others.ensures refl c.put_all.ensures _ c.grant-in-Err.ensures

@@ -4,10 +4,10 @@ use Rattle.claim.proofs.LicenseLaws.{may_be_lodged, answers_least, refuses_there
 use Rattle.claim.proofs.license.license.Goals as goal
 
 pub license_refused-requires : goal.license_refused-requires
-license_refused-requires c = refuses_there _ _ _ _ _ c.minimal_reduction-exact.ensures.answer _ c.in-Refused.is
+license_refused-requires c = refuses_there _ _ _ _ _ c.minimal_reduction-exact.ensures.answer _ c.in-Err.is
 
-pub returns-in-Valid : goal.returns-in-Valid
-returns-in-Valid c = let licenses = answers_least _ _ _ _ _ c.minimal_reduction-exact.ensures.answer _ c.in-Valid.is in record { answer = licenses_so _ _ _ _ _ licenses; may_be_lodged = may_be_lodged _ _ _ _ _ licenses }
+pub returns-in-Ok : goal.returns-in-Ok
+returns-in-Ok c = let licenses = answers_least _ _ _ _ _ c.minimal_reduction-exact.ensures.answer _ c.in-Ok.is in record { answer = licenses_so _ _ _ _ _ licenses; may_be_lodged = may_be_lodged _ _ _ _ _ licenses }
 
-pub returns-in-Refused : goal.returns-in-Refused
-returns-in-Refused c = let licenses = answers_there _ _ _ _ _ c.minimal_reduction-exact.ensures.answer _ c.in-Refused.is _ _ c.license_refused.ensures in record { answer = licenses_so _ _ _ _ _ licenses; may_be_lodged = may_be_lodged _ _ _ _ _ licenses }
+pub returns-in-Err : goal.returns-in-Err
+returns-in-Err c = let licenses = answers_there _ _ _ _ _ c.minimal_reduction-exact.ensures.answer _ c.in-Err.is _ _ c.license_refused.ensures in record { answer = licenses_so _ _ _ _ _ licenses; may_be_lodged = may_be_lodged _ _ _ _ _ licenses }

@@ -3,7 +3,7 @@ use Rattle.claim.proofs.LicenseLaws.{lodged_refuses, lodged_further}
 use Rattle.claim.proofs.license.license_refused.Goals as goal
 
 pub license_further-requires : goal.license_further-requires
-license_further-requires c = lodged_further _ _ _ _ _ _ c.check_room.ensures c.check_lodged-checked.ensures _ c.args.refusal _ c.in-Valid.is c.requires c.place.ensures
+license_further-requires c = lodged_further _ _ _ _ _ _ c.check_room.ensures c.check_lodged-checked.ensures _ c.args.refusal _ c.in-Ok.is c.requires c.place.ensures
 
-pub returns-in-Refused : goal.returns-in-Refused
-returns-in-Refused c = lodged_refuses _ _ _ _ _ _ c.check_room.ensures c.check_lodged-checked.ensures _ _ c.in-Refused.is c.refuse.ensures
+pub returns-in-Err : goal.returns-in-Err
+returns-in-Err c = lodged_refuses _ _ _ _ _ _ c.check_room.ensures c.check_lodged-checked.ensures _ _ c.in-Err.is c.refuse.ensures

@@ -6,10 +6,10 @@ use Rattle.plan.proofs.PlanLaws.{passed_readable}
 use mathlib.Core.Path.{sym}
 use Rattle.elimination.proofs.single.eliminate_plan.Goals as goal
 
-pub returns-in-Refused : goal.returns-in-Refused
-returns-in-Refused c =
+pub returns-in-Err : goal.returns-in-Err
+returns-in-Err c =
     rw (c.refused.ensures.0, c.refused.ensures.1)
-    (eliminates_so c.args.by _ _ _ _ _ _ (answers_refused _ _ _ _ _ _ (room_checked _ _ _ _ _ _ c.check_room.ensures c.check_lodged-checked.ensures) _ c.in-Refused.is))
+    (eliminates_so c.args.by _ _ _ _ _ _ (answers_refused _ _ _ _ _ _ (room_checked _ _ _ _ _ _ c.check_room.ensures c.check_lodged-checked.ensures) _ c.in-Err.is))
 
 pub flags_left-flags-requires : goal.flags_left-flags-requires
 flags_left-flags-requires c =

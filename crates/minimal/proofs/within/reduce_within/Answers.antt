@@ -4,33 +4,33 @@ use mathlib.Core.Path.{sym}
 use Rattle.minimal.proofs.within.reduce_within.Goals as goal
 
 pub slice_bounds-flags-end : goal.slice_bounds-flags-end
-slice_bounds-flags-end c = (marks_left 0 _ _ c.args.out.now _ _ _ c.check_room.ensures c.mark_lodged-checked.ensures _ c.in-Valid.is).within
+slice_bounds-flags-end c = (marks_left 0 _ _ c.args.out.now _ _ _ c.check_room.ensures c.mark_lodged-checked.ensures _ c.in-Ok.is).within
 
 pub slice_bounds-mask_of-end : goal.slice_bounds-mask_of-end
-slice_bounds-mask_of-end c = sym (marks_left 0 _ _ c.args.out.now _ _ _ c.check_room.ensures c.mark_lodged-checked.ensures _ c.in-Valid.is).fits
+slice_bounds-mask_of-end c = sym (marks_left 0 _ _ c.args.out.now _ _ _ c.check_room.ensures c.mark_lodged-checked.ensures _ c.in-Ok.is).fits
 
 pub overflow_sub-unmarked : goal.overflow_sub-unmarked
-overflow_sub-unmarked c = marks_few 0 _ _ c.args.out.now _ _ _ c.check_room.ensures c.mark_lodged-checked.ensures _ c.in-Valid.is _ _ c.mask_of.ensures c.count-marked.ensures
+overflow_sub-unmarked c = marks_few 0 _ _ c.args.out.now _ _ _ c.check_room.ensures c.mark_lodged-checked.ensures _ c.in-Ok.is _ _ c.mask_of.ensures c.count-marked.ensures
 
 pub returns-then-limit-unmarked : goal.returns-then-limit-unmarked
-returns-then-limit-unmarked c = last_refuses _ _ _ _ _ _ _ c.check_room.ensures c.mark_lodged-checked.ensures _ c.in-Valid.is _ _ c.mask_of.ensures c.count-marked.ensures _ c.if-limit-unmarked.true c.refused-then-limit-unmarked.ensures
+returns-then-limit-unmarked c = last_refuses _ _ _ _ _ _ _ c.check_room.ensures c.mark_lodged-checked.ensures _ c.in-Ok.is _ _ c.mask_of.ensures c.count-marked.ensures _ c.if-limit-unmarked.true c.refused-then-limit-unmarked.ensures
 
-pub slice_bounds-flags-end-in-Valid : goal.slice_bounds-flags-end-in-Valid
-slice_bounds-flags-end-in-Valid c = (marks_left 0 _ _ c.args.out.now _ _ _ c.check_room.ensures c.mark_lodged-checked.ensures _ c.in-Valid.is).within
+pub slice_bounds-flags-end-in-Ok : goal.slice_bounds-flags-end-in-Ok
+slice_bounds-flags-end-in-Ok c = (marks_left 0 _ _ c.args.out.now _ _ _ c.check_room.ensures c.mark_lodged-checked.ensures _ c.in-Ok.is).within
 
 pub slice_bounds-minimal-end : goal.slice_bounds-minimal-end
-slice_bounds-minimal-end c = sym (marks_left 0 _ _ c.args.out.now _ _ _ c.check_room.ensures c.mark_lodged-checked.ensures _ c.in-Valid.is).fits
+slice_bounds-minimal-end c = sym (marks_left 0 _ _ c.args.out.now _ _ _ c.check_room.ensures c.mark_lodged-checked.ensures _ c.in-Ok.is).fits
 
 pub slice_bounds-kept-end : goal.slice_bounds-kept-end
-slice_bounds-kept-end c = (room_for_flags 0 _ _ c.args.out.now _ _ _ c.check_room.ensures c.mark_lodged-checked.ensures _ c.in-Valid.is c.minimal-kept.ensures).0
+slice_bounds-kept-end c = (room_for_flags 0 _ _ c.args.out.now _ _ _ c.check_room.ensures c.mark_lodged-checked.ensures _ c.in-Ok.is c.minimal-kept.ensures).0
 
 pub slice_bounds-finish-end : goal.slice_bounds-finish-end
-slice_bounds-finish-end c = (room_for_flags 0 _ _ c.args.out.now _ _ _ c.check_room.ensures c.mark_lodged-checked.ensures _ c.in-Valid.is c.minimal-kept.ensures).1
+slice_bounds-finish-end c = (room_for_flags 0 _ _ c.args.out.now _ _ _ c.check_room.ensures c.mark_lodged-checked.ensures _ c.in-Ok.is c.minimal-kept.ensures).1
 
-pub returns-in-Refused : goal.returns-in-Refused
-returns-in-Refused c = first_refuses _ _ _ _ _ _ _ c.check_room.ensures c.mark_lodged-checked.ensures _ _ c.in-Refused.is c.refused.ensures
+pub returns-in-Err : goal.returns-in-Err
+returns-in-Err c = first_refuses _ _ _ _ _ _ _ c.check_room.ensures c.mark_lodged-checked.ensures _ _ c.in-Err.is c.refused.ensures
 
 pub returns-else-limit-unmarked : goal.returns-else-limit-unmarked
 returns-else-limit-unmarked c =
-    minimises _ _ _ _ _ _ _ c.check_room.ensures c.mark_lodged-checked.ensures _ c.in-Valid.is _ _ c.mask_of.ensures c.count-marked.ensures _
+    minimises _ _ _ _ _ _ _ c.check_room.ensures c.mark_lodged-checked.ensures _ c.in-Ok.is _ _ c.mask_of.ensures c.count-marked.ensures _
     c.requires c.if-limit-unmarked.false c.minimal-kept.ensures _ _ c.finish-left.ensures

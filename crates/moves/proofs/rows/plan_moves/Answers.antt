@@ -3,8 +3,8 @@ use mathlib.Core.List.{[]}
 use Rattle.moves.proofs.RowLaws.{moves_refused, moves_readable, moves_written}
 use Rattle.moves.proofs.rows.plan_moves.Goals as goal
 
-pub returns-in-Refused : goal.returns-in-Refused
-returns-in-Refused c = moves_refused _ _ _ _ _ c.check_read-read.ensures _ _ c.in-Refused.is
+pub returns-in-Err : goal.returns-in-Err
+returns-in-Err c = moves_refused _ _ _ _ _ c.check_read-read.ensures _ _ c.in-Err.is
 
 pub write_rows-requires : goal.write_rows-requires
 write_rows-requires c = moves_readable _ _ [] [] _ c.check_read-read.ensures [] c.in_default.is

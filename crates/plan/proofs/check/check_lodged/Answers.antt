@@ -4,24 +4,24 @@ use mathlib.Core.Path.{refl}
 use Rattle.plan.proofs.CheckedLaws.{read_refused, besides_refused, not_valid, valid}
 use Rattle.plan.proofs.check.check_lodged.Goals as goal
 
-pub returns-in-Refused : goal.returns-in-Refused
-returns-in-Refused c = rw (c.refused.ensures.0, c.refused.ensures.1) (read_refused _ c.requires _ _ _ _ c.check_read-read.ensures _ c.in-Refused.is)
+pub returns-in-Err : goal.returns-in-Err
+returns-in-Err c = rw (c.refused.ensures.0, c.refused.ensures.1) (read_refused _ c.requires _ _ _ _ c.check_read-read.ensures _ c.in-Err.is)
 
-pub returns-in-Refused-besides : goal.returns-in-Refused-besides
-returns-in-Refused-besides c = rw (c.refused-in-Refused-besides.ensures.0, c.refused-in-Refused-besides.ensures.1) (besides_refused _ c.requires _ _ _ _ c.check_read-read.ensures c.in_default.is _ c.in-Refused-besides.is)
+pub returns-in-Err-besides : goal.returns-in-Err-besides
+returns-in-Err-besides c = rw (c.refused-in-Err-besides.ensures.0, c.refused-in-Err-besides.ensures.1) (besides_refused _ c.requires _ _ _ _ c.check_read-read.ensures c.in_default.is _ c.in-Err-besides.is)
 
 pub slice_bounds-walk-end : goal.slice_bounds-walk-end
 slice_bounds-walk-end c = lent_length _ _ _ c.initial-values.ensures c.size-n.ensures.1
 
-pub returns-in-At : goal.returns-in-At
-returns-in-At c =
+pub returns-in-Some : goal.returns-in-Some
+returns-in-Some c =
     let asked = c in
-    rw (c.refused-in-At.ensures.0, c.refused-in-At.ensures.1)
+    rw (c.refused-in-Some.ensures.0, c.refused-in-Some.ensures.1)
     (not_valid _ asked.requires _ _ _ _ asked.check_read-read.ensures asked.in_default.is asked.in_default-besides.is _ _ _ _ _ asked.initial-values.ensures c.size-n.ensures.0
-    (rw c.size-n.ensures.0 refl) c.walk-walked.ensures _ c.in-At.is)
+    (rw c.size-n.ensures.0 refl) c.walk-walked.ensures _ c.in-Some.is)
 
-pub returns-in-Nowhere : goal.returns-in-Nowhere
-returns-in-Nowhere c =
+pub returns-in-None : goal.returns-in-None
+returns-in-None c =
     let asked = c in
     valid _ asked.requires _ _ _ _ asked.check_read-read.ensures asked.in_default.is asked.in_default-besides.is _ _ _ _ _ asked.initial-values.ensures c.size-n.ensures.0
-    (rw c.size-n.ensures.0 refl) c.walk-walked.ensures _ c.in-Nowhere.is refl
+    (rw c.size-n.ensures.0 refl) c.walk-walked.ensures _ c.in-None.is refl

@@ -9,9 +9,9 @@ pub returns-then-limit-plan : goal.returns-then-limit-plan
 unfolding list_checks
 returns-then-limit-plan c = sym (answer_fires _ _ _ (rw (lt-ltb _ _ c.if-limit-plan.true)))
 
-pub returns-in-At : goal.returns-in-At
+pub returns-in-Some : goal.returns-in-Some
 unfolding list_checks
-returns-in-At c = sym (answer_passes _ _ (rw (le-ltb _ _ c.if-limit-plan.false)) ∙ answer_fires _ _ _ (sym c.unknown_action-unknown.ensures ∙ c.in-At.is))
+returns-in-Some c = sym (answer_passes _ _ (rw (le-ltb _ _ c.if-limit-plan.false)) ∙ answer_fires _ _ _ (sym c.unknown_action-unknown.ensures ∙ c.in-Some.is))
 
 pub returns : goal.returns
 unfolding list_checks

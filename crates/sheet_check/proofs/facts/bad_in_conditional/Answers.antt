@@ -6,10 +6,10 @@ use Rattle.sheet_check.proofs.facts.bad_in_conditional.Goals as goal
 pub loop-i-init : goal.loop-i-init
 loop-i-init c = refl
 
-pub returns-in-At : goal.returns-in-At
-returns-in-At c =
+pub returns-in-Some : goal.returns-in-Some
+returns-in-Some c =
     let found = c in
-    sym (effect_bad _ _ _ _ _ _ found.loop-i-test.true found.bad_in_effect-found.ensures c.in-At.is) ∙ found.loop-i.invariant
+    sym (effect_bad _ _ _ _ _ _ found.loop-i-test.true found.bad_in_effect-found.ensures c.in-Some.is) ∙ found.loop-i.invariant
 
 pub returns-then-end-at : goal.returns-then-end-at
 returns-then-end-at c =

@@ -23,7 +23,7 @@ loop-k-preserved c =
         after-word.word.ensures.0,
         here.invariant.0,
       ),
-      c.put.auto.words ∙ here.invariant.1,
+      c.put.auto.elements ∙ here.invariant.1,
     )
 
 pub returns : goal.returns

@@ -3,8 +3,8 @@ use Rattle.step.proofs.StepLaws.{steps_refused, steps_tried}
 use Rattle.std.proofs.Common.{rules}
 use Rattle.step.proofs.one.step.Goals as goal
 
-pub returns-in-Passed : goal.returns-in-Passed
-returns-in-Passed c = steps_tried _ _ _ _ _ _ c.check_sheet.ensures c.in-Passed.is c.try_step.ensures
+pub returns-in-Ok : goal.returns-in-Ok
+returns-in-Ok c = steps_tried _ _ _ _ _ _ c.check_sheet.ensures c.in-Ok.is c.try_step.ensures
 
-pub returns-in-Refused : goal.returns-in-Refused
-returns-in-Refused c = steps_refused _ _ _ _ _ c.check_sheet.ensures c.in-Refused.is
+pub returns-in-Err : goal.returns-in-Err
+returns-in-Err c = steps_refused _ _ _ _ _ c.check_sheet.ensures c.in-Err.is

@@ -2,7 +2,6 @@
 use mathlib.Core.Path.{sym}
 use native.Mathlib.Omega.{arith}
 use Rattle.tally.proofs.TallyLaws.{full_of_steps, full_of_cost, counted}
-use Rattle.std.proofs.Common.{rules}
 use Rattle.tally.proofs.Tally.add.Goals as goal
 
 pub returns-then-self-ge-STEPS : goal.returns-then-self-ge-STEPS

@@ -28,7 +28,7 @@ loop-k-smaller c =
 
 pub loop-k-preserved : goal.loop-k-preserved
 loop-k-preserved c =
-    (run_more c.loop-k.invariant.0 _ c.read_number-one.ensures c.in-Space.is _ c.put.ensures, omega (arith, c.loop-k-test.true), c.put.auto.words ∙ c.loop-k.invariant.2)
+    (run_more c.loop-k.invariant.0 _ c.read_number-one.ensures c.in-Space.is _ c.put.ensures, omega (arith, c.loop-k-test.true), c.put.auto.elements ∙ c.loop-k.invariant.2)
 
 pub returns-in_default : goal.returns-in_default
 returns-in_default c =

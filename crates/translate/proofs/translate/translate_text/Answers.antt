@@ -3,10 +3,10 @@ use mathlib.Core.Path.{refl}
 use Rattle.translate.proofs.TranslateLaws.{gives_refusal, gives_sheet}
 use Rattle.translate.proofs.translate.translate_text.Goals as goal
 
-pub returns-in-Refused : goal.returns-in-Refused
-returns-in-Refused c =
+pub returns-in-Err : goal.returns-in-Err
+returns-in-Err c =
     let (gives, short) = gives_refusal _ _ _ _ refl c.translate-sheet.ensures.checks _ _
-    c.in-Refused.is c.put_refusal-said.ensures.prints
+    c.in-Err.is c.put_refusal-said.ensures.prints
     c.put_refusal-said.ensures.refusal_len_bound in
     record { gives = gives; text_len_bound = short }
 
