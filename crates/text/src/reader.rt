@@ -31,7 +31,8 @@ pub enum TextError {
     Long,
 }
 
-// A reader: the number of its line, and how many words it has stored.
+// A reader: the number of its line, and how many words it has stored. Those are lent to each step and not held here, so
+// that the step's contract says what it left of them.
 #[derive(Clone, Copy, PartialEq, Eq, Debug)]
 pub struct Reader {
     pub mode: Mode,

@@ -38,18 +38,17 @@ module _ {words out out' : List ℕ} (text : List ℕ) (room : ℕ) (all : room 
       left error.Long answered = record { words_left = refl; answered = answered }
 
 -- an input, by what the code finds of it, with its words at the front of ws
-module _ {words out between out' : List ℕ} (bytes : List ℕ) where
+module _ {words out out' : List ℕ} (bytes : List ℕ) where
   -- its refusal
   pub refusal_lent : (r : Refusal) (number place : ℕ) → Refused (told_refusal r) ≡ opening 0 bytes → number ≡ (told_refusal r).number → place ≡ (told_refusal r).place
-      → between ≡ sets out 0 (number ∷ place ∷ []) → out' ≡ sets between 2 (0 ∷ 0 ∷ []) → OpensLent bytes words words out out'
-  refusal_lent r number place found numbered placed first last =
-      subst (λ x. OpenLent x words words out out') found (record { words_left = refl; answered = last ∙ ap (λ k. sets k 2 (0 ∷ 0 ∷ [])) first ∙ rw (numbered, placed) })
+      → out' ≡ sets out 0 (number ∷ place ∷ 0 ∷ 0 ∷ []) → OpensLent bytes words words out out'
+  refusal_lent r number place found numbered placed told = subst (λ x. OpenLent x words words out out') found (record { words_left = refl; answered = rw (numbered, placed) at told })
 
   -- the sheet w and its list l
   pub record_lent : {words' : List ℕ} (e : Extent) (room : ℕ) (ws w l part : List ℕ) → opening_of 0 (Ok e) ws ≡ opening 0 bytes → most_words ≤ room → ws ≡ unpacked bytes room → w ≡ take e.task ws → l ≡ take e.plan (drop (e.task + 1) ws)
-      → part ≡ take (length w + 1 + length l) ws → words' ≡ sets words 0 part → between ≡ sets out 0 (0 ∷ 0 ∷ []) → out' ≡ sets between 2 (length w ∷ length l ∷ [])
+      → part ≡ take (length w + 1 + length l) ws → words' ≡ sets words 0 part → out' ≡ sets out 0 (0 ∷ 0 ∷ length w ∷ length l ∷ [])
       → OpensLent bytes words words' out out'
-  record_lent {words'} e room ws w l part found roomy unpacks sheet list fronts stored first last =
+  record_lent {words'} e room ws w l part found roomy unpacks sheet list fronts stored told =
       let opens : Lodged w l (take 0 (drop (e.task + 1 + e.plan) ws)) ≡ opening 0 bytes = rw (sheet, list) found in
       let all : part ≡ w ++ (length l ∷ l) = fronts ∙ record_front bytes ws room roomy unpacks w l _ opens in
-      subst (λ x. OpenLent x words words' out out') opens (record { words_left = stored ∙ ap (sets words 0) all; answered = last ∙ ap (λ k. sets k 2 (length w ∷ length l ∷ [])) first })
+      subst (λ x. OpenLent x words words' out out') opens (record { words_left = stored ∙ ap (sets words 0) all; answered = told })

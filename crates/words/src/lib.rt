@@ -1,28 +1,24 @@
 // The words of the forms that programs read, a text of words and an input, written to lent words, with what was found.
 #![tactic(auto)]
 
-ghost use Rattle.std.specs.Prelude.{◌≡◌, [], ◌∷◌};
+ghost use Rattle.std.specs.Prelude.{◌≡◌};
 ghost use Rattle.text.specs.Text.{stopped};
 ghost use Rattle.words.specs.Found.{found_words, ReadsLent, OpensLent};
 
 use access::{front, put_all};
-use lent::write_pair;
 use program::opened::open_input;
 use records::framing::WORDS;
 use text::limits::MOST;
 use text::reader::{TextError, read_whole};
 
-// Where the lengths of a sheet and of its list stand, after the refusal's number and place.
-const LENGTHS_AT: usize = 2;
-
 // What is wrong with a text, as two numbers.
-fn told(e: TextError) -> (u64, u64)
-    ensures { result.0 ∷ result.1 ∷ [] ≡ found_words (stopped e) }
+fn told(e: TextError) -> [u64; 2]
+    ensures { result ≡ found_words (stopped e) }
 {
     match e {
-        TextError::NoWord(line) => (1, line),
-        TextError::NoRoom(line) => (2, line),
-        TextError::Long => (3, 0),
+        TextError::NoWord(line) => [1, line],
+        TextError::NoRoom(line) => [2, line],
+        TextError::Long => [3, 0],
     }
 }
 
@@ -38,12 +34,9 @@ pub fn read_text(text: &[u8], words: &mut [u32], out: &mut [u64])
         Ok(n) => {
             let read = front(&found, n);
             put_all(words, read);
-            write_pair(out, 0, 0, read.len() as u64);
+            put_all(out, &[0, read.len() as u64]);
         }
-        Err(e) => {
-            let (number, place) = told(e);
-            write_pair(out, 0, number, place);
-        }
+        Err(e) => put_all(out, &told(e)),
     }
 }
 
@@ -56,16 +49,15 @@ pub fn open_record(bytes: &[u8], words: &mut [u32], out: &mut [u64])
 {
     let mut found = [0u32; WORDS];
     match open_input(bytes, 0, &mut found) {
-        Err(refusal) => {
-            write_pair(out, 0, refusal.number() as u64, refusal.place() as u64);
-            write_pair(out, LENGTHS_AT, 0, 0);
-        }
+        Err(refusal) => put_all(
+            out,
+            &[refusal.number() as u64, refusal.place() as u64, 0, 0],
+        ),
         Ok(extent) => {
             let sheet = extent.task_words(&found).len();
             let list = extent.plan_words(&found).len();
             put_all(words, front(&found, sheet + 1 + list));
-            write_pair(out, 0, 0, 0);
-            write_pair(out, LENGTHS_AT, sheet as u64, list as u64);
+            put_all(out, &[0, 0, sheet as u64, list as u64]);
         }
     }
 }
