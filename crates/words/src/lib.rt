@@ -11,7 +11,7 @@ use records::framing::WORDS;
 use text::limits::MOST;
 use text::reader::{TextError, read_whole};
 
-// What is wrong with a text, as two numbers.
+// What is wrong with a text, as the two numbers that `hollchiku_read_words` hands to programs in other languages.
 fn told(e: TextError) -> [u64; 2]
     ensures { result ≡ found_words (stopped e) }
 {
