@@ -1,28 +1,25 @@
 // What the program prints for the bytes of its input, put into lent bytes.
 ghost use Rattle.std.specs.Prelude.{◌≤◌, length};
-ghost use Rattle.std.proofs.Common.{lit≤};
 ghost use Rattle.program.specs.Printed.{HasDone};
-ghost use Rattle.claim_report.specs.Licensed.{licensed};
+ghost use Rattle.program.specs.Between.Room.{TextPut};
 ghost use Rattle.claim_report.specs.Between.LicenceRoom.{licence_room};
 ghost use Rattle.license.specs.License.{printed};
 
 use claim_report::put_licensed;
-use program::answered;
-use program::answered::Program;
-use program::input::Done;
+use program::input::{Done, read};
+use program::opened::open_input;
+use program::output::put_refusal;
+use records::framing::{ALONE, WORDS};
 use std::io::Read;
 
-struct License;
-
-impl Program for License {
-    ghost answered = { licensed };
-
-    ghost room = { licence_room };
-
-    ghost has_line = { lit≤ tt };
-
-    fn put_answer(words: &[u32], plan: &[u32], out: &mut [u8]) -> usize {
-        put_licensed(words, plan, out)
+// Licenses the plan, unless the input is refused before.
+fn license_input(bytes: &[u8], out: &mut [u8]) -> usize
+    ensures { TextPut licence_room out.old out.new result (printed bytes.now) }
+{
+    let mut words = [0u32; WORDS];
+    match open_input(bytes, 0, &mut words) {
+        Err(refusal) => put_refusal(out, 0, refusal),
+        Ok(extent) => put_licensed(extent.task_words(&words), extent.plan_words(&words), out),
     }
 }
 
@@ -31,5 +28,8 @@ pub(crate) fn answer_input<R: Read>(reader: &mut R, bytes: &mut [u8], out: &mut 
     requires { licence_room ≤ length out.old }
     ensures { HasDone 0 printed bytes.new result out.old out.new }
 {
-    answered::answer_input::<License, R>(reader, bytes, out)
+    let input = read(reader, bytes, 0, ALONE);
+    let n = input.count;
+    let written = license_input(&bytes[..n], out);
+    Done { input, written }
 }

@@ -1,10 +1,8 @@
 // What every program that reads a task and a plan shares (document 01, "Worked lists", on the program).
 // input: the reading. pack: words as bytes. long: the refusal of a plan that is too long to be read. opened: what a
-// program finds of its input, by all these. output: the lines of a tally and of a refusal, and the writing. answered:
-// what a program answers to its input.
+// program finds of its input, by all these. output: the lines of a tally and of a refusal, and the writing.
 #![tactic(auto)]
 
-pub mod answered;
 pub mod input;
 mod long;
 pub mod opened;

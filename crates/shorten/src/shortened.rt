@@ -1,28 +1,25 @@
 // What the program prints for the bytes of its input, put into lent bytes.
 ghost use Rattle.std.specs.Prelude.{◌≤◌, length};
-ghost use Rattle.std.proofs.Common.{lit≤};
 ghost use Rattle.program.specs.Printed.{HasDone};
-ghost use Rattle.report.specs.Shortened.{shortened};
+ghost use Rattle.program.specs.Between.Room.{TextPut};
 ghost use Rattle.report.specs.Between.Reported.{report_room};
 ghost use Rattle.shorten.specs.Shorten.{printed};
 
-use program::answered;
-use program::answered::Program;
-use program::input::Done;
+use program::input::{Done, read};
+use program::opened::open_input;
+use program::output::put_refusal;
+use records::framing::{ALONE, WORDS};
 use report::shortened::put_shortened;
 use std::io::Read;
 
-struct Shorten;
-
-impl Program for Shorten {
-    ghost answered = { shortened };
-
-    ghost room = { report_room };
-
-    ghost has_line = { lit≤ tt };
-
-    fn put_answer(words: &[u32], plan: &[u32], out: &mut [u8]) -> usize {
-        put_shortened(words, plan, out)
+// Shortens the plan, unless the input is refused before.
+fn shorten_input(bytes: &[u8], out: &mut [u8]) -> usize
+    ensures { TextPut report_room out.old out.new result (printed bytes.now) }
+{
+    let mut words = [0u32; WORDS];
+    match open_input(bytes, 0, &mut words) {
+        Err(refusal) => put_refusal(out, 0, refusal),
+        Ok(extent) => put_shortened(extent.task_words(&words), extent.plan_words(&words), out),
     }
 }
 
@@ -31,5 +28,8 @@ pub(crate) fn answer_input<R: Read>(reader: &mut R, bytes: &mut [u8], out: &mut 
     requires { report_room ≤ length out.old }
     ensures { HasDone 0 printed bytes.new result out.old out.new }
 {
-    answered::answer_input::<Shorten, R>(reader, bytes, out)
+    let input = read(reader, bytes, 0, ALONE);
+    let n = input.count;
+    let written = shorten_input(&bytes[..n], out);
+    Done { input, written }
 }

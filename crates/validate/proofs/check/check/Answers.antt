@@ -1,7 +1,7 @@
--- `put_answer` meets its contract: the check of the plan, and what is printed of its answer. Assumes nothing.
-use lib.Dec.{lit≤}
+-- `check` meets its contract: the check of the plan, and what is printed of its answer. Assumes nothing.
 use Rattle.validate.proofs.ValidateLaws.{checked_tally, checked_refusal}
-use Rattle.validate.proofs.check.ValidateProgram.put_answer.Goals as goal
+use lib.Dec.{lit≤}
+use Rattle.validate.proofs.check.check.Goals as goal
 
 pub returns-in-Ok : goal.returns-in-Ok
 returns-in-Ok c = checked_tally _ _ _ _ c.check_plan-checked.ensures _ c.in-Ok.is c.put_tally.ensures.prints (c.put_tally.ensures.short_line (lit≤ tt))

@@ -1,0 +1,17 @@
+-- `shorten_input` meets its contract: the input is refused, or the plan is shortened. Assumes nothing.
+use native.Mathlib.Omega.{arith}
+use mathlib.Core.Path.{refl}
+use Rattle.program.specs.Between.Room.{TextPut}
+use Rattle.report.specs.Between.Reported.{report_room}
+use Rattle.program.proofs.ReplyLaws.{reply_refused, reply_lodged}
+use Rattle.shorten.proofs.shortened.shorten_input.Goals as goal
+
+pub returns-in-Err : goal.returns-in-Err
+returns-in-Err c =
+    let put = c.put_refusal.ensures in
+    reply_refused _ _ _ _ (TextPut report_room _ _ _) _ c.in-Err.ensures.opens (put.prints, omega (arith, put.refusal_len_bound))
+
+pub returns-in-Ok : goal.returns-in-Ok
+returns-in-Ok c =
+    reply_lodged _ _ _ _ (TextPut report_room _ _ _) _ c.in-Ok.extent _ _ _ c.in-Ok.ensures.opens c.task_words.ensures c.plan_words.ensures refl
+    c.put_shortened.ensures
