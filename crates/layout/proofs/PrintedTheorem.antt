@@ -12,8 +12,9 @@ use Rattle.lines.specs.Lines.{spaced}
 use Rattle.sheet.specs.Limits.{limits}
 use Rattle.sheet.specs.Layout.{actions}
 use Rattle.sheet.specs.Decode.{table}
-use Rattle.records.specs.declared.frame.Frame.{Frame}
-use Rattle.records.specs.declared.frame.Frame.TheVariants.{Broken, Long, Whole}
+use Rattle.std.specs.Prelude.{Result, Ok, Err}
+use Rattle.records.specs.declared.frame.Extent.{Extent}
+use Rattle.records.specs.declared.frame.Fault.{Fault}
 use Rattle.records.specs.RecordForm.{word_bytes, unpacked, input_form}
 use Rattle.records.specs.Bytes.{all_bytes, WordSized}
 use Rattle.records.proofs.BytesTheorem.{bytes_read_back, all_bytes_length}
@@ -111,17 +112,16 @@ record_lays n ws =
 plain_lays : (ws : List ℕ) → Lays ws (rows ws)
 plain_lays ws = subst (λ l. Lays l (rows ws)) (append-nil ws) (subst (Lays (ws ++ [])) (append-nil (rows ws)) (rows_lay ws lays.Lays.nothing))
 
-text_lays : (f : Frame) (ws : List ℕ) → Lays ws (text_framed f ws)
+text_lays : (f : Result Extent Fault) (ws : List ℕ) → Lays ws (text_framed f ws)
 unfolding text_whole
-text_lays Broken ws = plain_lays ws
-text_lays (Long n) ws = plain_lays ws
-text_lays (Whole n m end) ws = by_case (ltb limits.actions (actions (take n ws)))
+text_lays (Err f) ws = plain_lays ws
+text_lays (Ok x) ws = by_case (ltb limits.actions (actions (take x.task ws)))
   where
-    by_case : (b : Bool) → Lays ws (cond b (rows ws) (record_text n ws))
+    by_case : (b : Bool) → Lays ws (cond b (rows ws) (record_text x.task ws))
     by_case true = plain_lays ws
-    by_case false = record_lays n ws
+    by_case false = record_lays x.task ws
 
-pub printed_read_back : (f : Frame) (ws : List ℕ) (room : ℕ) → WordSized ws → length ws ≤ room → reading room (text_framed f ws) ≡ Words ws
+pub printed_read_back : (f : Result Extent Fault) (ws : List ℕ) (room : ℕ) → WordSized ws → length ws ≤ room → reading room (text_framed f ws) ≡ Words ws
 printed_read_back f ws room small low = round_trip ws (text_framed f ws) (text_lays f ws) small room low
 
 -- so the text that is shown of the bytes of words is read as those words

@@ -14,8 +14,9 @@ use Rattle.lines.proofs.NumeralLaws.{numeral_length}
 use Rattle.sheet.specs.Limits.{limits}
 use Rattle.sheet.specs.Layout.{actions}
 use Rattle.sheet.specs.Decode.{table}
-use Rattle.records.specs.declared.frame.Frame.{Frame}
-use Rattle.records.specs.declared.frame.Frame.TheVariants as frame
+use Rattle.std.specs.Prelude.{Result, Ok, Err}
+use Rattle.records.specs.declared.frame.Extent.{Extent}
+use Rattle.records.specs.declared.frame.Fault.{Fault}
 use Rattle.records.specs.Bytes.{WordSized, nothing, word}
 use Rattle.text.specs.Limits.{most}
 use Rattle.word_rows.specs.Rows.{rows_within, rows}
@@ -97,12 +98,11 @@ record_length n {ws} small few =
     let wide : 1024 ≤ 10 ^ 4 = lit≤ tt in
     omega (arith, length-append (laid_out 0 (sections w) w) (laid_out 0 (list_sections l) l), parts_length n ws, actions_length w 0 (actions w) (omega arith))
 
-pub text_fits : (f : Frame) (ws : List ℕ) → WordSized ws → length ws ≤ most → length (text_framed f ws) ≤ text_bytes
+pub text_fits : (f : Result Extent Fault) (ws : List ℕ) → WordSized ws → length ws ≤ most → length (text_framed f ws) ≤ text_bytes
 unfolding text_whole
-text_fits frame.Broken ws small low = omega (arith, rows_length small)
-text_fits (frame.Long n) ws small low = omega (arith, rows_length small)
-text_fits (frame.Whole n m end) ws small low = by_case (ltb limits.actions (actions (take n ws))) refl
+text_fits (Err f) ws small low = omega (arith, rows_length small)
+text_fits (Ok x) ws small low = by_case (ltb limits.actions (actions (take x.task ws))) refl
   where
-    by_case : (b : Bool) → ltb limits.actions (actions (take n ws)) ≡ b → length (cond b (rows ws) (record_text n ws)) ≤ text_bytes
+    by_case : (b : Bool) → ltb limits.actions (actions (take x.task ws)) ≡ b → length (cond b (rows ws) (record_text x.task ws)) ≤ text_bytes
     by_case true e = omega (arith, rows_length small)
-    by_case false e = omega (arith, record_length n small (ltb-false limits.actions (actions (take n ws)) e))
+    by_case false e = omega (arith, record_length x.task small (ltb-false limits.actions (actions (take x.task ws)) e))

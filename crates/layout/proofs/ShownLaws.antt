@@ -10,7 +10,9 @@ use Rattle.lines.proofs.PrintLaws.{prints_nothing}
 use Rattle.sheet.specs.Limits.{limits}
 use Rattle.sheet.specs.Layout.{actions}
 use Rattle.sheet.proofs.TableLaws.{table_take}
-use Rattle.records.specs.declared.frame.Frame.{Frame}
+use Rattle.std.specs.Prelude.{Result}
+use Rattle.records.specs.declared.frame.Extent.{Extent}
+use Rattle.records.specs.declared.frame.Fault.{Fault}
 use Rattle.records.specs.RecordForm.{word_bytes, word_at, unpacked, input_form}
 use Rattle.text.specs.Limits.{most}
 use Rattle.word_rows.specs.Rows.{rows}
@@ -30,12 +32,8 @@ module _ (n : ℕ) (ws task : List ℕ) (count : ℕ) (these : task ≡ take n w
   unfolding text_whole
   whole_record few p = rw (text_whole, same_count, le-ltb limits.actions count few) p
 
--- the text of words, by the form of their bytes
-pub framed_as : {out out' : List ℕ} {e : ℕ} (ws : List ℕ) (f g : Frame) → f ≡ g → Prints (text_framed g ws) 0 out out' e → Prints (text_framed f ws) 0 out out' e
-framed_as {out} {out'} {e} ws f g is p = subst (λ x. Prints (text_framed x ws) 0 out out' e) (sym is) p
-
 -- the words of bytes, at the front of an array
-pub text_put : {out out' : List ℕ} {e : ℕ} (bytes space words : List ℕ) (f : Frame) (room : ℕ) → length bytes ≤ word_bytes * most → room ≡ most → space ≡ unpacked bytes room
+pub text_put : {out out' : List ℕ} {e : ℕ} (bytes space words : List ℕ) (f : Result Extent Fault) (room : ℕ) → length bytes ≤ word_bytes * most → room ≡ most → space ≡ unpacked bytes room
     → words ≡ take (length bytes / word_bytes) space → f ≡ input_form 0 bytes → Prints (text_framed f words) 0 out out' e → Prints (text_of bytes) 0 out out' e
 unfolding text_of
 text_put {out} {out'} {e} bytes space words f room few all unpacks are framed p =

@@ -3,11 +3,10 @@ ghost use Rattle.std.specs.Prelude.{◌*◌, ◌≤◌, length};
 ghost use Rattle.lines.specs.Prints.{Prints};
 ghost use Rattle.records.specs.RecordForm.{word_bytes};
 ghost use Rattle.text.specs.Limits.{most};
-ghost use Rattle.layout.specs.Shown.{text_whole, text_framed, text_of, shown};
+ghost use Rattle.layout.specs.Shown.{text_whole, text_of, shown};
 
 use crate::sections::put_record;
 use access::front;
-use records::frame::Frame;
 use records::framing::frame_input;
 use records::unpack::unpack;
 use records::word::WORD;
@@ -26,21 +25,6 @@ fn put_whole(out: &mut [u8], words: &[u32], task: usize) -> usize
     put_record(out, words, task)
 }
 
-// Puts words by the form of their bytes.
-fn put_framed(out: &mut [u8], framed: Frame, words: &[u32]) -> usize
-    ensures { Prints (text_framed framed words.now) 0 out.old out.new result }
-{
-    match framed {
-        Frame::Broken => put_rows(out, 0, words),
-        Frame::Long { task: _ } => put_rows(out, 0, words),
-        Frame::Whole {
-            task,
-            plan: _,
-            end: _,
-        } => put_whole(out, words, task),
-    }
-}
-
 // Puts the words of bytes.
 fn put_bytes(out: &mut [u8], bytes: &[u8]) -> usize
     requires { length bytes.now ≤ word_bytes * most }
@@ -49,7 +33,10 @@ fn put_bytes(out: &mut [u8], bytes: &[u8]) -> usize
     let mut space = [0u32; MOST];
     unpack(bytes, &mut space);
     let words = front(&space, bytes.len() / WORD);
-    put_framed(out, frame_input(bytes, 0), words)
+    match frame_input(bytes, 0) {
+        Ok(extent) => put_whole(out, words, extent.task),
+        Err(_) => put_rows(out, 0, words),
+    }
 }
 
 // Shows bytes: the text of the words that they are, or nothing where they are too many or the last breaks off.

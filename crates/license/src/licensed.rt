@@ -5,12 +5,10 @@ ghost use Rattle.program.specs.Between.Room.{TextPut};
 ghost use Rattle.claim_report.specs.Between.LicenceRoom.{licence_room};
 ghost use Rattle.license.specs.License.{printed};
 
-use access::front;
 use claim_report::put_licensed;
 use program::input::{Done, read};
-use program::opened::{Opened, open_input};
+use program::opened::open_input;
 use program::output::put_refusal;
-use program::parts::plan_part;
 use records::framing::{ALONE, WORDS};
 use std::io::Read;
 
@@ -19,14 +17,9 @@ fn license_input(bytes: &[u8], out: &mut [u8]) -> usize
     ensures { TextPut licence_room out.old out.new result (printed bytes.now) }
 {
     let mut words = [0u32; WORDS];
-    let opened = open_input(bytes, 0, &mut words);
-    match opened {
-        Opened::Refused(refusal) => put_refusal(out, 0, refusal),
-        Opened::Lodged { task, plan } => put_licensed(
-            front(&words, task),
-            plan_part(&words, task, plan),
-            out,
-        ),
+    match open_input(bytes, 0, &mut words) {
+        Err(refusal) => put_refusal(out, 0, refusal),
+        Ok(extent) => put_licensed(extent.task_words(&words), extent.plan_words(&words), out),
     }
 }
 

@@ -2,14 +2,13 @@
 -- Assumes nothing.
 use Rattle.std.specs.Prelude.{Err, Ok}
 use Prim.Native.Nat.{ℕ, ◌<◌}
-use mathlib.Core.Path.{◌≡◌, refl, sym, ◌∙◌, ap}
+use mathlib.Core.Path.{◌≡◌, refl, sym, ◌∙◌}
 use mathlib.Core.Option.{Option, none, some}
 use mathlib.Core.List.{List, []}
 use lib.ListN.{length}
 use borrow.Author.Tests.{lt-ltb}
 use Rattle.refusal.specs.declared.Refusal.{Refusal}
 use Rattle.refusal.specs.declared.Refusal.TheVariants.{PlanLength}
-use Rattle.refusal.specs.Refusal.{Verdict}
 use Rattle.refusal.specs.Refusal.{Told, told_refusal, told}
 use Rattle.refusal.specs.Check.{answer}
 use Rattle.refusal.proofs.CheckLaws.{answer_fires}
@@ -29,11 +28,11 @@ module _ (w : List ℕ) where
   long_plan e = rw (e, long_refusal)
 
   -- the task is refused, or passes
-  pub long_refused : (v : Verdict) (r : Refusal) → told v ≡ answer (sheet_checks w) → v ≡ Err r → long_refusal w ≡ told_refusal r
-  long_refused v r sheet refuses = long_sheet (told_refusal r) (sym sheet ∙ ap told refuses)
+  pub long_refused : (r : Refusal) → told (Err r) ≡ answer (sheet_checks w) → long_refusal w ≡ told_refusal r
+  long_refused r refuses = long_sheet (told_refusal r) (sym refuses)
 
-  pub long_passed : (v : Verdict) → told v ≡ answer (sheet_checks w) → v ≡ Ok tt → long_refusal w ≡ told_refusal (PlanLength most_steps)
-  long_passed v sheet passes = long_plan (sym sheet ∙ ap told passes)
+  pub long_passed : told (Ok tt) ≡ answer (sheet_checks w) → long_refusal w ≡ told_refusal (PlanLength most_steps)
+  long_passed passes = long_plan (sym passes)
 
   -- the check of a plan answers so wherever the plan has too many steps, whatever they are
   pub as_checked : (l : List ℕ) → most_steps < length l → answer (plan_checks w l) ≡ some (long_refusal w)

@@ -12,7 +12,8 @@ use Rattle.sheet.specs.Decode.{table}
 use Rattle.sheet.proofs.TableLaws.{table_at, table_take, table_part, table_nothing}
 use Rattle.sheet.proofs.Parts.{Measured, accepted_measured}
 use Rattle.plan.specs.Readable.{Readable}
-use Rattle.records.specs.declared.frame.Frame.TheVariants.{Whole}
+use Rattle.std.specs.Prelude.{Ok}
+use Rattle.records.specs.declared.frame.Extent.{Extent}
 use Rattle.records.specs.RecordForm.{word_bytes, word_at, length_at, task_length, outside, input_form, unpacked, plan_words}
 use Rattle.records.specs.Bytes.{input_of, word}
 use Rattle.program.specs.Opening.{Lodged, opening}
@@ -56,10 +57,13 @@ module _ (w l : List ℕ) (readable : Readable w l) where
   abbrev end : ℕ
   end = word_bytes * (length w + 1) + word_bytes * (length l + 0)
 
-  form : input_form 0 (input_of w l) ≡ Whole (length w) (length l) end
+  abbrev extent : Extent
+  extent = record { task = length w; plan = length l; end = end }
+
+  form : input_form 0 (input_of w l) ≡ Ok extent
   form =
       let whole = form_whole 0 (input_of w l) (length w) says_task fits (omega (arith, bytes_count)) (length l) says_plan readable.few end refl (omega (arith, bytes_count)) in
-      input_ends 0 (input_of w l) _ refl (length w) (length l) end whole (omega (arith, bytes_count))
+      input_ends 0 (input_of w l) extent (sym whole) (omega (arith, bytes_count))
 
   task_back : unpacked (input_of w l) (length w) ≡ w
   task_back =
@@ -75,4 +79,4 @@ module _ (w l : List ℕ) (readable : Readable w l) where
       ∙ take_all (length l) l (omega arith)
 
   pub record_opened : opening 0 (input_of w l) ≡ Lodged w l []
-  record_opened = opening_whole 0 (input_of w l) (length w) (length l) end form ∙ rw (task_back, plan_back, table_nothing)
+  record_opened = opening_whole 0 (input_of w l) extent form ∙ rw (task_back, plan_back, table_nothing)

@@ -7,8 +7,10 @@ use mathlib.Core.List.{List, ◌++◌}
 use lib.ListN.{length, take, length-append}
 use lib.Seq.{take_all}
 use Rattle.refusal.specs.Refusal.{Told}
-use Rattle.records.specs.declared.frame.Frame.{Frame}
-use Rattle.records.specs.declared.frame.Frame.TheVariants.{Broken, Long, Whole}
+use Rattle.std.specs.Prelude.{Result, Ok, Err}
+use Rattle.records.specs.declared.frame.Extent.{Extent}
+use Rattle.records.specs.declared.frame.Fault.{Fault}
+use Rattle.records.specs.declared.frame.Fault.TheVariants.{Broken, Long}
 use Rattle.records.specs.RecordForm.{record_form}
 use Rattle.records.specs.Between.Needed.{bytes_to_read}
 use Rattle.program.specs.Long.{long_refusal}
@@ -23,21 +25,21 @@ use Rattle.program.proofs.OpeningLaws.{opening_broken, opening_long}
 
 -- once all bytes that must be read are there, with one beyond the record, no further byte changes what is found
 module _ (further : ℕ) (xs ys : List ℕ) (read : bytes_to_read further 1 xs ≤ length xs) where
-  later : (f : Frame) → record_form further xs ≡ f → record_form further (xs ++ ys) ≡ f
+  later : (f : Result Extent Fault) → record_form further xs ≡ f → record_form further (xs ++ ys) ≡ f
   later f is = settled further 1 xs ys read ∙ is
 
-  by_form : (f : Frame) → record_form further xs ≡ f → opening further (xs ++ ys) ≡ opening further xs
-  by_form Broken is =
-      opening_broken further (xs ++ ys) (input_from further (xs ++ ys) _ refl Broken (later Broken is)) ∙ sym (opening_broken further xs (input_from further xs _ refl Broken is))
-  by_form (Long n) is =
+  by_form : (f : Result Extent Fault) → record_form further xs ≡ f → opening further (xs ++ ys) ≡ opening further xs
+  by_form (Err Broken) is =
+      opening_broken further (xs ++ ys) (input_from further (xs ++ ys) (Err Broken) (sym (later (Err Broken) is))) ∙ sym (opening_broken further xs (input_from further xs (Err Broken) (sym is)))
+  by_form (Err (Long n)) is =
       let task : TaskThere xs n = rw is at (form_says further xs) in
-      opening_long further (xs ++ ys) n (input_from further (xs ++ ys) _ refl (Long n) (later (Long n) is))
+      opening_long further (xs ++ ys) n (input_from further (xs ++ ys) (Err (Long n)) (sym (later (Err (Long n)) is)))
       ∙ ap (λ words. Refused (long_refusal words)) (words_stay xs ys n (omega arith))
-      ∙ sym (opening_long further xs n (input_from further xs _ refl (Long n) is))
-  by_form (Whole n m end) is =
-      let past_end : bytes_to_read further 1 xs ≡ end + 1 = whole_reads further 1 xs n m end is in
-      opening_broken further (xs ++ ys) (input_runs_on further (xs ++ ys) _ refl n m end (later (Whole n m end) is) (omega (arith, length-append xs ys)))
-      ∙ sym (opening_broken further xs (input_runs_on further xs _ refl n m end is (omega arith)))
+      ∙ sym (opening_long further xs n (input_from further xs (Err (Long n)) (sym is)))
+  by_form (Ok x) is =
+      let past_end : bytes_to_read further 1 xs ≡ x.end + 1 = whole_reads further 1 xs x is in
+      opening_broken further (xs ++ ys) (input_runs_on further (xs ++ ys) x (sym (later (Ok x) is)) (omega (arith, length-append xs ys)))
+      ∙ sym (opening_broken further xs (input_runs_on further xs x (sym is) (omega arith)))
 
 opening_settled : (further : ℕ) (xs ys : List ℕ) → bytes_to_read further 1 xs ≤ length xs → opening further (xs ++ ys) ≡ opening further xs
 opening_settled further xs ys read = by_form further xs ys read (record_form further xs) refl

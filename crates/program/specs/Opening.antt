@@ -1,9 +1,9 @@
 -- What a program finds of its input before it answers: its refusal, or the task, the plan and the further words that it
 -- answers. Assumes nothing.
-use Rattle.std.specs.Prelude.{ℕ, List}
+use Rattle.std.specs.Prelude.{ℕ, List, Ok, Err}
 use Rattle.refusal.specs.declared.Refusal.TheVariants.{Length}
 use Rattle.refusal.specs.Refusal.{Told, told_refusal}
-use Rattle.records.specs.declared.frame.Frame.TheVariants.{Broken, Long, Whole}
+use Rattle.records.specs.declared.frame.Fault.TheVariants.{Broken, Long}
 use Rattle.records.specs.RecordForm.{unpacked, plan_words, further_words, input_form}
 use Rattle.program.specs.Long.{long_refusal}
 
@@ -16,7 +16,9 @@ pub data Opening : Type 0 where
 unfoldable pub opening : ℕ → List ℕ → Opening
 opening further bytes =
     elim (input_form further bytes) [
-      | Broken ↦ Refused (told_refusal Length)
-      | Long n ↦ Refused (long_refusal (unpacked bytes n))
-      | Whole n m end ↦ Lodged (unpacked bytes n) (plan_words bytes n m) (further_words bytes n m further)
+      | Err Broken ↦ Refused (told_refusal Length)
+      | Err (Long n) ↦ Refused (long_refusal (unpacked bytes n))
+      | Ok x ↦
+          Lodged (unpacked bytes x.task) (plan_words bytes x.task x.plan)
+          (further_words bytes x.task x.plan further)
     ]

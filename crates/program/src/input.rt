@@ -6,21 +6,23 @@ use records::framing::{WORDS, bytes_to_read};
 use records::word::WORD;
 use std::io::Read;
 
-// How many bytes have been read, and whether the input ended before all that were asked for.
-#[derive(Clone, Copy)]
+// How many bytes have been read, and whether the input ended before all that were asked for. No Result: the count holds
+// either way, and `HasRead` and `HasDone` speak of it.
+#[derive(Clone, Copy, PartialEq, Eq, Debug)]
 pub struct Input {
     pub count: usize,
     pub ended: bool,
 }
 
 // What a program has read, and how many bytes its answer has.
-#[derive(Clone, Copy)]
+#[derive(Clone, Copy, PartialEq, Eq, Debug)]
 pub struct Done {
     pub input: Input,
     pub written: usize,
 }
 
 // Reads until the bytes lent are full, the input ends or a read fails, and answers how many bytes are at their front.
+// No `read_exact`: what it has read says nothing after a failure, and each turn goes on as far as its read gave.
 fn read_full<R: Read>(reader: &mut R, bytes: &mut [u8]) -> usize
     ensures { IsPrefixLen result bytes.new }
 {

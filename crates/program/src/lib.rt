@@ -1,7 +1,6 @@
 // What every program that reads a task and a plan shares (document 01, "Worked lists", on the program).
-// input: the reading. pack: words as bytes. parts: the plan and what is behind it among the words. long: the refusal of
-// a plan that is too long to be read. opened: what a program finds of its input, by all these. output: the lines of a
-// tally and of a refusal, and the writing.
+// input: the reading. pack: words as bytes. long: the refusal of a plan that is too long to be read. opened: what a
+// program finds of its input, by all these. output: the lines of a tally and of a refusal, and the writing.
 #![tactic(auto)]
 
 pub mod input;
@@ -9,4 +8,3 @@ mod long;
 pub mod opened;
 pub mod output;
 pub mod pack;
-pub mod parts;

@@ -11,9 +11,8 @@ use sheet_check::check::check_sheet;
 pub(crate) fn refuse_long(words: &[u32]) -> Refusal
     ensures { told_refusal result ≡ long_refusal words.now }
 {
-    let sheet = check_sheet(words);
-    if let Err(refusal) = sheet {
-        return refusal;
+    match check_sheet(words) {
+        Err(refusal) => refusal,
+        Ok(()) => Refusal::PlanLength(Plan::STEPS),
     }
-    Refusal::PlanLength(Plan::STEPS)
 }

@@ -11,10 +11,12 @@ use borrow.Author.Tests.{ltb-true, ltb-false, lt-ltb, le-ltb}
 use Rattle.sheet.specs.Limits.{limits}
 use Rattle.sheet.proofs.CauseLaws.{neither}
 use Rattle.plan.specs.Limits.{most_steps}
-use Rattle.records.specs.declared.frame.Ending.{Ending}
-use Rattle.records.specs.declared.frame.Ending.TheVariants as ending
-use Rattle.records.specs.declared.frame.Frame.{Frame}
-use Rattle.records.specs.declared.frame.Frame.TheVariants.{Broken, Long, Whole}
+use Rattle.std.specs.Prelude.{Result, Ok, Err}
+use Rattle.records.specs.declared.frame.Extent.{Extent}
+use Rattle.records.specs.declared.frame.NoEnd.{NoEnd}
+use Rattle.records.specs.declared.frame.NoEnd.TheVariants as no_end
+use Rattle.records.specs.declared.frame.Fault.{Fault}
+use Rattle.records.specs.declared.frame.Fault.TheVariants.{Broken, Long}
 use Rattle.sheet.specs.Layout.{header}
 use Rattle.records.specs.RecordForm.{word_bytes, word_at, task_length, outside, plan_length, plan_start, header_bytes, record_ending, as_record, record_form, as_input, input_form}
 use Rattle.records.specs.Between.Needed.{needed_for, bytes_to_read, most_bytes}
@@ -25,95 +27,95 @@ inside_limits n e = let (low, high) = neither (ltb n header) (ltb limits.words n
 
 -- where a record ends, by those tests
 module _ (further : ℕ) (bytes : List ℕ) where
-  pub ending_header : length bytes < header_bytes → record_ending further bytes ≡ ending.Untold header_bytes
+  pub ending_header : length bytes < header_bytes → record_ending further bytes ≡ Err (no_end.Untold header_bytes)
   unfolding record_ending
   ending_header short = rw (lt-ltb _ _ short)
 
   module _ (header : header_bytes ≤ length bytes) (n : ℕ) (says : n ≡ task_length bytes) where
-    pub ending_outside : outside n ≡ true → record_ending further bytes ≡ ending.Unfit
+    pub ending_outside : outside n ≡ true → record_ending further bytes ≡ Err no_end.Unfit
     unfolding record_ending
     ending_outside e = rw (le-ltb _ _ header, ← says, e)
 
     module _ (inside : outside n ≡ false) where
-      pub ending_cut : length bytes < word_bytes * (n + 1) → record_ending further bytes ≡ ending.Untold (word_bytes * (n + 1))
+      pub ending_cut : length bytes < word_bytes * (n + 1) → record_ending further bytes ≡ Err (no_end.Untold (word_bytes * (n + 1)))
       unfolding record_ending
       ending_cut short = rw (le-ltb _ _ header, ← says, inside, lt-ltb _ _ short)
 
       module _ (there : word_bytes * (n + 1) ≤ length bytes) (m : ℕ) (then : m ≡ word_at bytes n) where
-        pub ending_long : most_steps < m → record_ending further bytes ≡ ending.Long n
+        pub ending_long : most_steps < m → record_ending further bytes ≡ Err (no_end.Long n)
         unfolding record_ending
         ending_long long = rw (le-ltb _ _ header, ← says, inside, le-ltb _ _ there, ← then, lt-ltb _ _ long)
 
-        pub ending_found : m ≤ most_steps → record_ending further bytes ≡ ending.Ends n m (word_bytes * (n + 1) + word_bytes * (m + further))
+        pub ending_found : m ≤ most_steps → record_ending further bytes ≡ Ok (record { task = n; plan = m; end = word_bytes * (n + 1) + word_bytes * (m + further) })
         unfolding record_ending
         ending_found few = rw (le-ltb _ _ header, ← says, inside, le-ltb _ _ there, ← then, le-ltb _ _ few)
 
 -- the form of a record, and how many bytes must be read, by where it ends
-module _ (further : ℕ) (bytes : List ℕ) (found : Ending) (ends : found ≡ record_ending further bytes) where
-  pub form_from : (e : Ending) → found ≡ e → record_form further bytes ≡ as_record bytes e
+module _ (further : ℕ) (bytes : List ℕ) where
+  pub form_from : (e : Result Extent NoEnd) → e ≡ record_ending further bytes → record_form further bytes ≡ as_record bytes e
   unfolding record_form
-  form_from e is = ap (as_record bytes) (sym ends ∙ is)
+  form_from e ends = ap (as_record bytes) (sym ends)
 
-  pub form_breaks_off : (n m end : ℕ) → found ≡ ending.Ends n m end → length bytes < end → record_form further bytes ≡ Broken
-  form_breaks_off n m end is short = form_from (ending.Ends n m end) is ∙ rw (lt-ltb _ _ short)
+  pub form_breaks_off : (x : Extent) → Ok x ≡ record_ending further bytes → length bytes < x.end → record_form further bytes ≡ Err Broken
+  form_breaks_off x ends short = form_from (Ok x) ends ∙ rw (lt-ltb _ _ short)
 
-  pub form_reaches : (n m end : ℕ) → found ≡ ending.Ends n m end → end ≤ length bytes → record_form further bytes ≡ Whole n m end
-  form_reaches n m end is whole = form_from (ending.Ends n m end) is ∙ rw (le-ltb _ _ whole)
+  pub form_reaches : (x : Extent) → Ok x ≡ record_ending further bytes → x.end ≤ length bytes → record_form further bytes ≡ Ok x
+  form_reaches x ends whole = form_from (Ok x) ends ∙ rw (le-ltb _ _ whole)
 
-  pub reads_from : (beyond : ℕ) (e : Ending) → found ≡ e → bytes_to_read further beyond bytes ≡ needed_for beyond e
+  pub reads_from : (beyond : ℕ) (e : Result Extent NoEnd) → e ≡ record_ending further bytes → bytes_to_read further beyond bytes ≡ needed_for beyond e
   unfolding bytes_to_read
-  reads_from beyond e is = ap (needed_for beyond) (sym ends ∙ is)
+  reads_from beyond e ends = ap (needed_for beyond) (sym ends)
 
 -- a length behind the task is past word 3
 header_there : (bytes : List ℕ) (n : ℕ) → outside n ≡ false → word_bytes * (n + 1) ≤ length bytes → header_bytes ≤ length bytes
 header_there bytes n inside there = let (low, high) = inside_limits n inside in omega arith
 
 module _ (further : ℕ) (bytes : List ℕ) (n : ℕ) (says : n ≡ task_length bytes) where
-  pub form_outside : header_bytes ≤ length bytes → outside n ≡ true → record_form further bytes ≡ Broken
-  form_outside header e = form_from further bytes _ refl ending.Unfit (ending_outside further bytes header n says e)
+  pub form_outside : header_bytes ≤ length bytes → outside n ≡ true → record_form further bytes ≡ Err Broken
+  form_outside header e = form_from further bytes (Err no_end.Unfit) (sym (ending_outside further bytes header n says e))
 
   module _ (inside : outside n ≡ false) (there : word_bytes * (n + 1) ≤ length bytes) (m : ℕ) (then : m ≡ word_at bytes n) where
-    pub form_long : most_steps < m → record_form further bytes ≡ Long n
+    pub form_long : most_steps < m → record_form further bytes ≡ Err (Long n)
     form_long long =
-        form_from further bytes _ refl (ending.Long n) (ending_long further bytes (header_there bytes n inside there) n says inside there m then long)
+        form_from further bytes (Err (no_end.Long n)) (sym (ending_long further bytes (header_there bytes n inside there) n says inside there m then long))
 
     pub form_whole : m ≤ most_steps → (end : ℕ) → end ≡ word_bytes * (n + 1) + word_bytes * (m + further) → end ≤ length bytes
-        → record_form further bytes ≡ Whole n m end
+        → record_form further bytes ≡ Ok (record { task = n; plan = m; end = end })
     form_whole few end ends whole =
         let found = ending_found further bytes (header_there bytes n inside there) n says inside there m then few in
-        form_reaches further bytes _ refl n m end (found ∙ rw (← ends)) whole
+        form_reaches further bytes (record { task = n; plan = m; end = end }) (sym (found ∙ rw (← ends))) whole
 
 module _ (further beyond : ℕ) (bytes : List ℕ) where
   pub reads_header : length bytes < header_bytes → bytes_to_read further beyond bytes ≡ header_bytes
-  reads_header short = reads_from further bytes _ refl beyond (ending.Untold header_bytes) (ending_header further bytes short)
+  reads_header short = reads_from further bytes beyond (Err (no_end.Untold header_bytes)) (sym (ending_header further bytes short))
 
   module _ (header : header_bytes ≤ length bytes) (n : ℕ) (says : n ≡ task_length bytes) where
     pub reads_outside : outside n ≡ true → bytes_to_read further beyond bytes ≡ 0
-    reads_outside e = reads_from further bytes _ refl beyond ending.Unfit (ending_outside further bytes header n says e)
+    reads_outside e = reads_from further bytes beyond (Err no_end.Unfit) (sym (ending_outside further bytes header n says e))
 
     module _ (inside : outside n ≡ false) where
       pub reads_start : length bytes < word_bytes * (n + 1) → bytes_to_read further beyond bytes ≡ word_bytes * (n + 1)
       reads_start short =
-          reads_from further bytes _ refl beyond (ending.Untold (word_bytes * (n + 1))) (ending_cut further bytes header n says inside short)
+          reads_from further bytes beyond (Err (no_end.Untold (word_bytes * (n + 1)))) (sym (ending_cut further bytes header n says inside short))
 
       module _ (there : word_bytes * (n + 1) ≤ length bytes) (m : ℕ) (then : m ≡ word_at bytes n) where
         pub reads_long : most_steps < m → bytes_to_read further beyond bytes ≡ 0
-        reads_long long = reads_from further bytes _ refl beyond (ending.Long n) (ending_long further bytes header n says inside there m then long)
+        reads_long long = reads_from further bytes beyond (Err (no_end.Long n)) (sym (ending_long further bytes header n says inside there m then long))
 
         pub reads_end : m ≤ most_steps → bytes_to_read further beyond bytes ≡ word_bytes * (n + 1) + word_bytes * (m + further) + beyond
-        reads_end few = reads_from further bytes _ refl beyond (ending.Ends n m _) (ending_found further bytes header n says inside there m then few)
+        reads_end few = reads_from further bytes beyond (Ok (record { task = n; plan = m; end = word_bytes * (n + 1) + word_bytes * (m + further) })) (sym (ending_found further bytes header n says inside there m then few))
 
 -- the form of an input by that of its record: a whole one runs on, or ends
-module _ (further : ℕ) (bytes : List ℕ) (framed : Frame) (frames : framed ≡ record_form further bytes) where
-  pub input_from : (f : Frame) → framed ≡ f → input_form further bytes ≡ as_input bytes f
+module _ (further : ℕ) (bytes : List ℕ) where
+  pub input_from : (f : Result Extent Fault) → f ≡ record_form further bytes → input_form further bytes ≡ as_input bytes f
   unfolding input_form
-  input_from f is = ap (as_input bytes) (sym frames ∙ is)
+  input_from f frames = ap (as_input bytes) (sym frames)
 
-  pub input_runs_on : (n m end : ℕ) → framed ≡ Whole n m end → end < length bytes → input_form further bytes ≡ Broken
-  input_runs_on n m end is on = input_from (Whole n m end) is ∙ rw (lt-ltb _ _ on)
+  pub input_runs_on : (x : Extent) → Ok x ≡ record_form further bytes → x.end < length bytes → input_form further bytes ≡ Err Broken
+  input_runs_on x frames on = input_from (Ok x) frames ∙ rw (lt-ltb _ _ on)
 
-  pub input_ends : (n m end : ℕ) → framed ≡ Whole n m end → length bytes ≤ end → input_form further bytes ≡ Whole n m end
-  input_ends n m end is over = input_from (Whole n m end) is ∙ rw (le-ltb _ _ over)
+  pub input_ends : (x : Extent) → Ok x ≡ record_form further bytes → length bytes ≤ x.end → input_form further bytes ≡ Ok x
+  input_ends x frames over = input_from (Ok x) frames ∙ rw (le-ltb _ _ over)
 
 -- what an ending says of the bytes: no more are needed to tell more than go to the plan's length; a task of n words is there, with a length behind it; and that
 -- is the length m of a plan
@@ -122,17 +124,17 @@ pub record TaskThere (bytes : List ℕ) (n : ℕ) : Type 0 where
   pub inside : outside n ≡ false
   pub there : word_bytes * (n + 1) ≤ length bytes
 
-pub record EndThere (further : ℕ) (bytes : List ℕ) (n m end : ℕ) : Type 0 where
-  pub task : TaskThere bytes n
-  pub plan : m ≡ word_at bytes n
-  pub few : m ≤ most_steps
-  pub ends : end ≡ word_bytes * (n + 1) + word_bytes * (m + further)
+pub record EndThere (further : ℕ) (bytes : List ℕ) (x : Extent) : Type 0 where
+  pub task : TaskThere bytes x.task
+  pub plan : x.plan ≡ word_at bytes x.task
+  pub few : x.plan ≤ most_steps
+  pub ends : x.end ≡ word_bytes * (x.task + 1) + word_bytes * (x.plan + further)
 
-abbrev pub Tells : ℕ → List ℕ → Ending → Type 0
-Tells further bytes (ending.Untold k) = k ≤ word_bytes * (limits.words + 1)
-Tells further bytes ending.Unfit = Unit
-Tells further bytes (ending.Long n) = TaskThere bytes n
-Tells further bytes (ending.Ends n m end) = EndThere further bytes n m end
+abbrev pub Tells : ℕ → List ℕ → Result Extent NoEnd → Type 0
+Tells further bytes (Err (no_end.Untold k)) = k ≤ word_bytes * (limits.words + 1)
+Tells further bytes (Err no_end.Unfit) = Unit
+Tells further bytes (Err (no_end.Long n)) = TaskThere bytes n
+Tells further bytes (Ok x) = EndThere further bytes x
 
 pub ending_tells : (further : ℕ) (bytes : List ℕ) → Tells further bytes (record_ending further bytes)
 ending_tells further bytes = by_header (ltb (length bytes) header_bytes) refl
@@ -167,32 +169,32 @@ ending_tells further bytes = by_header (ltb (length bytes) header_bytes) refl
     by_header false e = by_limits (ltb-false _ _ e) (outside n) refl
 
 -- no more bytes are ever read than the longest record has, with those beyond it
-module _ (further beyond : ℕ) (bytes : List ℕ) (found : Ending) (ends : found ≡ record_ending further bytes) where
-  told_by : (e : Ending) → found ≡ e → Tells further bytes e
-  told_by e is = rw (sym ends ∙ is) at (ending_tells further bytes)
+module _ (further beyond : ℕ) (bytes : List ℕ) where
+  told_by : (e : Result Extent NoEnd) → e ≡ record_ending further bytes → Tells further bytes e
+  told_by e ends = rw (sym ends) at (ending_tells further bytes)
 
-  pub untold_low : (k : ℕ) → found ≡ ending.Untold k → k ≤ most_bytes further beyond
-  untold_low k is = omega (arith, told_by (ending.Untold k) is)
+  pub untold_low : (k : ℕ) → Err (no_end.Untold k) ≡ record_ending further bytes → k ≤ most_bytes further beyond
+  untold_low k ends = omega (arith, told_by (Err (no_end.Untold k)) ends)
 
-  pub end_low : (n m end : ℕ) → found ≡ ending.Ends n m end → end + beyond ≤ most_bytes further beyond
-  end_low n m end is =
-      let there : EndThere further bytes n m end = told_by (ending.Ends n m end) is in
-      let (low, high) = inside_limits n there.task.inside in
+  pub end_low : (x : Extent) → Ok x ≡ record_ending further bytes → x.end + beyond ≤ most_bytes further beyond
+  end_low x ends =
+      let there : EndThere further bytes x = told_by (Ok x) ends in
+      let (low, high) = inside_limits x.task there.task.inside in
       omega (arith, there.few, there.ends)
 
 -- a form says the same
-abbrev pub Says : ℕ → List ℕ → Frame → Type 0
-Says further bytes Broken = Unit
-Says further bytes (Long n) = TaskThere bytes n
-Says further bytes (Whole n m end) = EndThere further bytes n m end
+abbrev pub Says : ℕ → List ℕ → Result Extent Fault → Type 0
+Says further bytes (Err Broken) = Unit
+Says further bytes (Err (Long n)) = TaskThere bytes n
+Says further bytes (Ok x) = EndThere further bytes x
 
-as_record_says : (further : ℕ) (bytes : List ℕ) (e : Ending) → Tells further bytes e → Says further bytes (as_record bytes e)
-as_record_says further bytes (ending.Untold k) tells = tt
-as_record_says further bytes ending.Unfit tells = tt
-as_record_says further bytes (ending.Long n) tells = tells
-as_record_says further bytes (ending.Ends n m end) tells = by_case (ltb (length bytes) end)
+as_record_says : (further : ℕ) (bytes : List ℕ) (e : Result Extent NoEnd) → Tells further bytes e → Says further bytes (as_record bytes e)
+as_record_says further bytes (Err (no_end.Untold k)) tells = tt
+as_record_says further bytes (Err no_end.Unfit) tells = tt
+as_record_says further bytes (Err (no_end.Long n)) tells = tells
+as_record_says further bytes (Ok x) tells = by_case (ltb (length bytes) x.end)
   where
-    by_case : (b : Bool) → Says further bytes (cond b Broken (Whole n m end))
+    by_case : (b : Bool) → Says further bytes (cond b (Err Broken) (Ok x))
     by_case true = tt
     by_case false = tells
 
@@ -201,20 +203,20 @@ unfolding record_form
 form_says further bytes = as_record_says further bytes (record_ending further bytes) (ending_tells further bytes)
 
 -- of a record that is whole, all of it must be read, and the bytes beyond it
-pub whole_reads : (further beyond : ℕ) (bytes : List ℕ) (n m end : ℕ) → record_form further bytes ≡ Whole n m end → bytes_to_read further beyond bytes ≡ end + beyond
-whole_reads further beyond bytes n m end is =
-    let there : EndThere further bytes n m end = rw is at (form_says further bytes) in
+pub whole_reads : (further beyond : ℕ) (bytes : List ℕ) (x : Extent) → record_form further bytes ≡ Ok x → bytes_to_read further beyond bytes ≡ x.end + beyond
+whole_reads further beyond bytes x is =
+    let there : EndThere further bytes x = rw is at (form_says further bytes) in
     let task = there.task in
-    let (low, high) = inside_limits n task.inside in
-    reads_end further beyond bytes (omega (arith, task.there)) n task.says task.inside task.there m there.plan there.few ∙ omega arith
+    let (low, high) = inside_limits x.task task.inside in
+    reads_end further beyond bytes (omega (arith, task.there)) x.task task.says task.inside task.there x.plan there.plan there.few ∙ omega arith
 
 -- the form of an input says the same
-as_input_says : (further : ℕ) (bytes : List ℕ) (f : Frame) → Says further bytes f → Says further bytes (as_input bytes f)
-as_input_says further bytes Broken says = tt
-as_input_says further bytes (Long n) says = says
-as_input_says further bytes (Whole n m end) says = by_case (ltb end (length bytes))
+as_input_says : (further : ℕ) (bytes : List ℕ) (f : Result Extent Fault) → Says further bytes f → Says further bytes (as_input bytes f)
+as_input_says further bytes (Err Broken) says = tt
+as_input_says further bytes (Err (Long n)) says = says
+as_input_says further bytes (Ok x) says = by_case (ltb x.end (length bytes))
   where
-    by_case : (b : Bool) → Says further bytes (cond b Broken (Whole n m end))
+    by_case : (b : Bool) → Says further bytes (cond b (Err Broken) (Ok x))
     by_case true = tt
     by_case false = says
 

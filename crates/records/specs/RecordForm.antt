@@ -2,14 +2,16 @@
 -- list): a record of little_endian words, the task, as many as its word 3 says, a length, the plan, of that length, and
 -- so many further words as a program asks for, which document 01's does not. Assumes nothing.
 use Rattle.std.specs.Prelude.{ℕ, ◌+◌, ◌*◌, Bool, cond, ◌||◌, List, [], ◌∷◌, length, take, drop, ltb}
+use Rattle.std.specs.Prelude.{Result, Ok, Err}
 use Rattle.sheet.specs.Limits.{limits}
 use Rattle.sheet.specs.Layout.{header}
 use Rattle.sheet.specs.Decode.{table}
 use Rattle.plan.specs.Limits.{most_steps}
-use Rattle.records.specs.declared.frame.Ending.{Ending}
-use Rattle.records.specs.declared.frame.Ending.TheVariants as ending
-use Rattle.records.specs.declared.frame.Frame.{Frame}
-use Rattle.records.specs.declared.frame.Frame.TheVariants.{Broken, Long, Whole}
+use Rattle.records.specs.declared.frame.Extent.{Extent}
+use Rattle.records.specs.declared.frame.NoEnd.{NoEnd}
+use Rattle.records.specs.declared.frame.NoEnd.TheVariants as no_end
+use Rattle.records.specs.declared.frame.Fault.{Fault}
+use Rattle.records.specs.declared.frame.Fault.TheVariants.{Broken, Long}
 
 -- how many bytes a word has, and how many values a byte
 abbrev pub word_bytes : ℕ
@@ -69,33 +71,35 @@ header_bytes = word_bytes * header
 -- found": it is not told while bytes to word 3, or to the plan's length, are lacking ("input cut short"), with how many
 -- there must be to tell more; it is nowhere for "word 3 outside 4 to 8,192" and for "a list over 255"; else it is
 -- found, with the words of the record, be the bytes to it there or not
-unfoldable pub record_ending : ℕ → List ℕ → Ending
+unfoldable pub record_ending : ℕ → List ℕ → Result Extent NoEnd
 record_ending further bytes =
-    cond (ltb (length bytes) header_bytes) (ending.Untold header_bytes)
-    (cond (outside (task_length bytes)) ending.Unfit
-    (cond (ltb (length bytes) (plan_start bytes)) (ending.Untold (plan_start bytes))
-    (cond (ltb most_steps (plan_length bytes)) (ending.Long (task_length bytes))
-    (ending.Ends (task_length bytes) (plan_length bytes) (record_end further bytes)))))
+    cond (ltb (length bytes) header_bytes) (Err (no_end.Untold header_bytes))
+    (cond (outside (task_length bytes)) (Err no_end.Unfit)
+    (cond (ltb (length bytes) (plan_start bytes)) (Err (no_end.Untold (plan_start bytes)))
+    (cond (ltb most_steps (plan_length bytes)) (Err (no_end.Long (task_length bytes)))
+    (Ok (record { task = task_length bytes; plan = plan_length bytes; end = record_end further bytes })))))
 
 -- the form of a record by where it ends. Document 01: "A word 3 outside 4 to 8,192, or input that breaks off": broken,
 -- before the end is told or before it; "After a length above 255 nothing more is read": long; else whole, with its
 -- words and its end
-abbrev pub as_record : List ℕ → Ending → Frame
-as_record bytes (ending.Untold k) = Broken
-as_record bytes ending.Unfit = Broken
-as_record bytes (ending.Long n) = Long n
-as_record bytes (ending.Ends n m end) = cond (ltb (length bytes) end) Broken (Whole n m end)
+abbrev pub as_fault : NoEnd → Fault
+as_fault (no_end.Untold k) = Broken
+as_fault no_end.Unfit = Broken
+as_fault (no_end.Long n) = Long n
+
+abbrev pub as_record : List ℕ → Result Extent NoEnd → Result Extent Fault
+as_record bytes (Err e) = Err (as_fault e)
+as_record bytes (Ok x) = cond (ltb (length bytes) x.end) (Err Broken) (Ok x)
 
 -- the form of the record at the front of bytes, whatever follows it
-unfoldable pub record_form : ℕ → List ℕ → Frame
+unfoldable pub record_form : ℕ → List ℕ → Result Extent Fault
 record_form further bytes = as_record bytes (record_ending further bytes)
 
 -- a record's form where nothing may follow it (document 01: "or runs on"): broken where something does
-abbrev pub as_input : List ℕ → Frame → Frame
-as_input bytes Broken = Broken
-as_input bytes (Long n) = Long n
-as_input bytes (Whole n m end) = cond (ltb end (length bytes)) Broken (Whole n m end)
+abbrev pub as_input : List ℕ → Result Extent Fault → Result Extent Fault
+as_input bytes (Err f) = Err f
+as_input bytes (Ok x) = cond (ltb x.end (length bytes)) (Err Broken) (Ok x)
 
 -- the form of an input of one record
-unfoldable pub input_form : ℕ → List ℕ → Frame
+unfoldable pub input_form : ℕ → List ℕ → Result Extent Fault
 input_form further bytes = as_input bytes (record_form further bytes)

@@ -5,7 +5,7 @@ ghost use Rattle.records.specs.RecordForm.{outside as outside_limits, task_lengt
 ghost use Rattle.records.specs.RecordForm.{record_form, input_form};
 ghost use Rattle.records.specs.Between.Needed.{bytes_to_read, most_bytes};
 
-use crate::frame::{Ending, Frame};
+use crate::frame::{Extent, Fault, NoEnd};
 use crate::word::{WORD, word_at};
 use plan::limits::Plan;
 use sheet::layout::{LENGTH_AT, PAIRS_AT};
@@ -30,75 +30,54 @@ fn task_length(bytes: &[u8]) -> usize
 fn outside(words: usize) -> bool
     ensures { result ≡ outside_limits words }
 {
-    if words < PAIRS_AT {
-        return true;
-    }
-    if Sheet::WORDS < words {
-        return true;
-    }
-    false
+    !(PAIRS_AT..=Sheet::WORDS).contains(&words)
 }
 
 // Where the record at the front of the bytes ends, whatever follows it. Of records that stand one behind the other each
 // is found by the bytes from the end of the one before on.
-pub fn find_end(bytes: &[u8], further: u32) -> Ending
+pub fn find_end(bytes: &[u8], further: u32) -> Result<Extent, NoEnd>
     ensures { result ≡ record_ending further bytes.now }
 {
     let header = WORD * PAIRS_AT;
     if bytes.len() < header {
-        return Ending::Untold { needed: header };
+        return Err(NoEnd::Untold { needed: header });
     }
     let task = task_length(bytes);
     if outside(task) {
-        return Ending::Unfit;
+        return Err(NoEnd::Unfit);
     }
     let start = WORD * (task + 1);
     if bytes.len() < start {
-        return Ending::Untold { needed: start };
+        return Err(NoEnd::Untold { needed: start });
     }
     let plan = word_at(bytes, task) as usize;
     if Plan::STEPS < plan {
-        return Ending::Long { task };
+        return Err(NoEnd::Long { task });
     }
     let end = start + WORD * (plan + further as usize);
-    Ending::Ends { task, plan, end }
+    Ok(Extent { task, plan, end })
 }
 
-// The form of the record at the front of the bytes, whatever follows it.
-pub fn frame_record(bytes: &[u8], further: u32) -> Frame
+// The record at the front of the bytes, whatever follows it.
+pub fn frame_record(bytes: &[u8], further: u32) -> Result<Extent, Fault>
     ensures { result ≡ record_form further bytes.now }
 {
-    let ending = find_end(bytes, further);
-    match ending {
-        Ending::Untold { needed: _ } => Frame::Broken,
-        Ending::Unfit => Frame::Broken,
-        Ending::Long { task } => Frame::Long { task },
-        Ending::Ends { task, plan, end } => {
-            if bytes.len() < end {
-                Frame::Broken
-            } else {
-                Frame::Whole { task, plan, end }
-            }
-        }
+    let extent = find_end(bytes, further)?;
+    if bytes.len() < extent.end {
+        return Err(Fault::Broken);
     }
+    Ok(extent)
 }
 
-// The form of an input of one record, behind which nothing may follow.
-pub fn frame_input(bytes: &[u8], further: u32) -> Frame
+// The record that an input is, behind which nothing may follow.
+pub fn frame_input(bytes: &[u8], further: u32) -> Result<Extent, Fault>
     ensures { result ≡ input_form further bytes.now }
 {
-    let framed = frame_record(bytes, further);
-    match framed {
-        Frame::Broken => Frame::Broken,
-        Frame::Long { task } => Frame::Long { task },
-        Frame::Whole { task, plan, end } => {
-            if end < bytes.len() {
-                Frame::Broken
-            } else {
-                Frame::Whole { task, plan, end }
-            }
-        }
+    let extent = frame_record(bytes, further)?;
+    if extent.end < bytes.len() {
+        return Err(Fault::Broken);
     }
+    Ok(extent)
 }
 
 // How many bytes in all must have been read before the form can be told, as far as those read so far show, with
@@ -106,15 +85,10 @@ pub fn frame_input(bytes: &[u8], further: u32) -> Frame
 pub fn bytes_to_read(bytes: &[u8], further: u32, beyond: u32) -> usize
     ensures { (result ≡ bytes_to_read further beyond bytes.now) × (result ≤ most_bytes further beyond) }
 {
-    let ending = find_end(bytes, further);
-    match ending {
-        Ending::Untold { needed } => needed,
-        Ending::Unfit => 0,
-        Ending::Long { task: _ } => 0,
-        Ending::Ends {
-            task: _,
-            plan: _,
-            end,
-        } => end + beyond as usize,
+    match find_end(bytes, further) {
+        Ok(extent) => extent.end + beyond as usize,
+        Err(NoEnd::Untold { needed }) => needed,
+        Err(NoEnd::Unfit) => 0,
+        Err(NoEnd::Long { task: _ }) => 0,
     }
 }

@@ -8,9 +8,7 @@ use crate::word::word_at;
 pub fn unpack(bytes: &[u8], words: &mut [u32])
     ensures { words.new ≡ unpacked bytes.now (length words.old) }
 {
-    let mut i = 0;
-    while i < words.len() {
-        words[i] = word_at(bytes, i);
-        i += 1;
+    for (i, word) in words.iter_mut().enumerate() {
+        *word = word_at(bytes, i);
     }
 }

@@ -2,7 +2,7 @@
 ghost use Rattle.std.specs.Prelude.{◌≡◌, ◌<◌, ◌^◌};
 ghost use Rattle.records.specs.RecordForm.{word_at};
 
-use access::byte;
+use access::get_or;
 
 // How many bytes a word has, and how many values a byte.
 pub const WORD: usize = 4;
@@ -15,6 +15,10 @@ pub fn word_at(bytes: &[u8], i: usize) -> u32
     ensures { (result ≡ word_at bytes.now i) × (result < 2 ^ 32) }
 {
     let at = WORD * i;
-    let high = byte(bytes, at + 2) as u32 + BYTE * byte(bytes, at + 3) as u32;
-    byte(bytes, at) as u32 + BYTE * (byte(bytes, at + 1) as u32 + BYTE * high)
+    u32::from_le_bytes([
+        get_or(bytes, at, 0),
+        get_or(bytes, at + 1, 0),
+        get_or(bytes, at + 2, 0),
+        get_or(bytes, at + 3, 0),
+    ])
 }

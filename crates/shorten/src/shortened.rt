@@ -5,11 +5,9 @@ ghost use Rattle.program.specs.Between.Room.{TextPut};
 ghost use Rattle.report.specs.Between.Reported.{report_room};
 ghost use Rattle.shorten.specs.Shorten.{printed};
 
-use access::front;
 use program::input::{Done, read};
-use program::opened::{Opened, open_input};
+use program::opened::open_input;
 use program::output::put_refusal;
-use program::parts::plan_part;
 use records::framing::{ALONE, WORDS};
 use report::shortened::put_shortened;
 use std::io::Read;
@@ -19,14 +17,9 @@ fn shorten_input(bytes: &[u8], out: &mut [u8]) -> usize
     ensures { TextPut report_room out.old out.new result (printed bytes.now) }
 {
     let mut words = [0u32; WORDS];
-    let opened = open_input(bytes, 0, &mut words);
-    match opened {
-        Opened::Refused(refusal) => put_refusal(out, 0, refusal),
-        Opened::Lodged { task, plan } => put_shortened(
-            front(&words, task),
-            plan_part(&words, task, plan),
-            out,
-        ),
+    match open_input(bytes, 0, &mut words) {
+        Err(refusal) => put_refusal(out, 0, refusal),
+        Ok(extent) => put_shortened(extent.task_words(&words), extent.plan_words(&words), out),
     }
 }
 

@@ -8,18 +8,20 @@ use mathlib.Core.Path.{◌≡◌, refl, sym, ◌∙◌, ap, subst}
 use mathlib.Core.Bool.{Bool, true, false, cond, ◌&&◌}
 use mathlib.Core.Option.{Option, none, some}
 use mathlib.Core.List.{List, [], ◌∷◌, ◌++◌, append_assoc, append-nil}
-use lib.ListN.{length, take, get_or, set, length-append, length-set}
+use lib.ListN.{length, take, drop, get_or, set, length-append, length-set, take-append-drop}
 use lib.Seq.{take-suc, take-suc-set}
-use lib.Dec.{ltb, leb}
-use borrow.Author.Tests.{ltb-true, ltb-false, lt-ltb, le-ltb, le-leb, lt-leb}
+use lib.Dec.{ltb}
+use borrow.Author.Tests.{ltb-true, ltb-false, lt-ltb, le-ltb}
 use Rattle.refusal.proofs.PlaceLaws.{one_fewer, none_left}
+use Rattle.std.specs.Prelude.{Option as Given, Some, None, Result, Ok, Err, IfOk, SomeIff, ok_or}
 use Rattle.text.specs.declared.reader.Mode.{Mode}
-use Rattle.text.specs.declared.reader.Mode.TheVariants as mode
 use Rattle.text.specs.declared.reader.Reader.{Reader}
-use Rattle.ascii.specs.Bytes.{ascii_zero, ascii_nine, ends_line, split, all_digits, decimal_from}
-use Rattle.text.specs.Text.{begins_comment, blank, not_empty, fields, Field, fields_from, word_from, Reading, Words, NoWord, NoRoom, Long, in_front, read, reading, found_in}
+use Rattle.text.specs.declared.reader.TextError.{TextError}
+use Rattle.text.specs.declared.reader.TextError.TheVariants as error
+use Rattle.ascii.specs.Bytes.{ascii_zero, ascii_digit, ends_line, split, all_digits, decimal_from}
+use Rattle.text.specs.Text.{begins_comment, blank, not_empty, fields, Field, fields_from, word_from, Reading, Words, NoWord, NoRoom, Long, in_front, read, reading, found_in, stopped}
 use Rattle.text.specs.Limits.{most_text}
-use Rattle.text.specs.Between.Reading.{ends_field, after_blank, field_left, after_field, read_field, all_in_front, still, at_blank, at_comment, at_word, Reads, Starts, Stores}
+use Rattle.text.specs.Between.Reading.{ends_field, after_blank, field_left, after_field, word_behind, read_field, all_in_front, still, left_of, at_blank, at_comment, at_word, Reads, Starts, Stores}
 use Rattle.text.proofs.TextLaws.{none_left_of_field, blank_at_line_end, comment_at_line_end, comment_on, blank_at_comment, blank_at_blank, field_at_other, after_field_at_other, blank_at_other, field_ends, goes_on}
 
 -- more digits make no smaller number
@@ -34,18 +36,12 @@ unfolding word_from
 no_word v bs e = rw e
 
 module _ (v b : ℕ) (bs : List ℕ) where
-  low_no_word : b < ascii_zero → word_from v (b ∷ bs) ≡ none
+  -- it is no digit
+  no_digit_no_word : ascii_digit b ≡ false → word_from v (b ∷ bs) ≡ none
   unfolding all_digits
-  low_no_word low = no_word v (b ∷ bs) (rw (lt-leb ascii_zero b low))
+  no_digit_no_word e = no_word v (b ∷ bs) (rw e)
 
-  high_no_word : ascii_nine < b → word_from v (b ∷ bs) ≡ none
-  unfolding all_digits
-  high_no_word high = no_word v (b ∷ bs) (by_case (leb ascii_zero b))
-    where
-      by_case : (t : Bool) → (t && leb b ascii_nine && all_digits bs) ≡ false
-      by_case true = rw (lt-leb b ascii_nine high)
-      by_case false = refl
-
+  -- the number is too large
   large_no_word : 2 ^ 32 ≤ 10 * v + (b - ascii_zero) → word_from v (b ∷ bs) ≡ none
   unfolding word_from decimal_from
   large_no_word large = let past : 2 ^ 32 ≤ decimal_from (10 * v + (b - ascii_zero)) bs = omega (arith, decimal_grows (10 * v + (b - ascii_zero)) bs) in by_case (all_digits (b ∷ bs)) past
@@ -55,9 +51,27 @@ module _ (v b : ℕ) (bs : List ℕ) where
       by_case true past = rw (le-ltb (decimal_from (10 * v + (b - ascii_zero)) bs) (2 ^ 32) past)
       by_case false past = refl
 
-  grown_word : ascii_zero ≤ b → b ≤ ascii_nine → word_from v (b ∷ bs) ≡ word_from (10 * v + (b - ascii_zero)) bs
+  grown_word : ascii_digit b ≡ true → word_from v (b ∷ bs) ≡ word_from (10 * v + (b - ascii_zero)) bs
   unfolding word_from decimal_from all_digits
-  grown_word low high = rw (le-leb ascii_zero b low, le-leb b ascii_nine high)
+  grown_word e = rw e
+
+-- the digits so far with one byte more, by what is found of them
+pub behind_no_digit : (v b : ℕ) → ascii_digit b ≡ false → (rest : List ℕ) → word_behind None rest ≡ word_from v (b ∷ rest)
+behind_no_digit v b e rest = sym (no_digit_no_word v b rest e)
+
+pub behind_large : (v b : ℕ) → 2 ^ 32 ≤ 10 * v → (rest : List ℕ) → word_behind None rest ≡ word_from v (b ∷ rest)
+behind_large v b large rest = sym (large_no_word v b rest (omega arith))
+
+pub behind_digit : (v b tens digit : ℕ) (o : Given ℕ) → ascii_digit b ≡ true → tens ≡ v * 10 → digit ≡ b - ascii_zero → SomeIff o (tens + digit < 2 ^ 32) (tens + digit)
+    → (rest : List ℕ) → word_behind o rest ≡ word_from v (b ∷ rest)
+behind_digit v b tens digit None is ten one large rest = sym (large_no_word v b rest (large_at (ltb (tens + digit) (2 ^ 32)) refl))
+  where
+    large_at : (t : Bool) → ltb (tens + digit) (2 ^ 32) ≡ t → 2 ^ 32 ≤ 10 * v + (b - ascii_zero)
+    large_at true e = absurd (large (ltb-true _ _ e))
+    large_at false e = let past : 2 ^ 32 ≤ tens + digit = ltb-false _ _ e in omega arith
+behind_digit v b tens digit (Some x) is ten one (fits, counts) rest =
+    let grown : 10 * v + (b - ascii_zero) ≡ x = omega (arith, counts) in
+    sym (grown_word v b rest is ∙ ap (λ y. word_from y rest) grown)
 
 -- digits alone are a word where their value is
 pub whole_word : (v : ℕ) → v < 2 ^ 32 → word_from v [] ≡ some v
@@ -96,42 +110,47 @@ unfolding all_in_front
 all_in_front_one_more [] x r = refl
 all_in_front_one_more (y ∷ xs) x r = ap (in_front y) (all_in_front_one_more xs x r)
 
--- a reader at a field that is no word, or for which there is no room
-abbrev at_no_word : ℕ → ℕ → Reader
-at_no_word n k = record { mode = mode.NoWord; line = n; count = k }
-
-abbrev at_no_room : ℕ → ℕ → Reader
-at_no_room n k = record { mode = mode.NoRoom; line = n; count = k }
-
--- a reader that has read nothing, and one that reads bytes after others
-pub reads_nothing : (r : Reader) (ws : List ℕ) → Reads r ws [] r ws
+-- a reader that has read nothing; one that reads bytes after others; and one that stopped, whatever follows
+pub reads_nothing : (r : Reader) (ws : List ℕ) → Reads r ws [] (Ok r) ws
 reads_nothing r ws = record { same = λ rest. refl; lines = omega arith }
 
-pub reads_both : {r r' r'' : Reader} {ws ws' ws'' xs : List ℕ} (ys : List ℕ) → Reads r ws xs r' ws' → Reads r' ws' ys r'' ws'' → Reads r ws (xs ++ ys) r'' ws''
-reads_both {r} {xs = xs} ys first second =
+pub reads_both : {r r' : Reader} {o : Result Reader TextError} {ws ws' ws'' xs : List ℕ} (ys : List ℕ) → Reads r ws xs (Ok r') ws' → Reads r' ws' ys o ws'' → Reads r ws (xs ++ ys) o ws''
+reads_both {r} {r'} {o} {xs = xs} ys first second =
     record {
       same = λ rest. second.same rest ∙ first.same (ys ++ rest) ∙ ap (still r _) (sym (append_assoc xs ys rest));
-      lines = rw length-append (omega (arith, first.lines, second.lines));
+      lines = by_case o second.lines;
     }
+  where
+    by_case : (o : Result Reader TextError) → IfOk o (λ r''. r''.line ≤ r'.line + length ys) → IfOk o (λ r''. r''.line ≤ r.line + length (xs ++ ys))
+    by_case (Ok r'') low = rw length-append (omega (arith, first.lines, low))
+    by_case (Err e) low = tt
+
+pub reads_no_more : {r : Reader} {e : TextError} {ws ws' xs : List ℕ} (ys : List ℕ) → Reads r ws xs (Err e) ws' → Reads r ws (xs ++ ys) (Err e) ws'
+reads_no_more {r} {xs = xs} ys stops = record { same = λ rest. stops.same (ys ++ rest) ∙ ap (still r _) (sym (append_assoc xs ys rest)); lines = tt }
+
+-- a reader behind the digits that were found, or stopped where none were
+abbrev pub grown : ℕ → ℕ → Result ℕ TextError → Result Reader TextError
+grown n k (Ok x) = Ok (at_word x n k)
+grown n k (Err e) = Err e
 
 module _ (n k b : ℕ) (ws : List ℕ) where
-  pub skips_line_end : ends_line b ≡ true → Reads (at_blank n k) ws (b ∷ []) (at_blank (n + 1) k) ws
+  pub skips_line_end : ends_line b ≡ true → Reads (at_blank n k) ws (b ∷ []) (Ok (at_blank (n + 1) k)) ws
   unfolding still
   skips_line_end e = record { same = λ rest. ap (λ fs. all_in_front (take k ws) (read (length ws - k) fs)) (sym (blank_at_line_end n b rest e)); lines = omega arith }
 
-  pub skips_comment : ends_line b ≡ false → begins_comment b ≡ true → Reads (at_blank n k) ws (b ∷ []) (at_comment n k) ws
+  pub skips_comment : ends_line b ≡ false → begins_comment b ≡ true → Reads (at_blank n k) ws (b ∷ []) (Ok (at_comment n k)) ws
   unfolding still
   skips_comment on e = record { same = λ rest. ap (λ fs. all_in_front (take k ws) (read (length ws - k) fs)) (sym (blank_at_comment n b rest on e)); lines = omega arith }
 
-  pub skips_blank : ends_line b ≡ false → begins_comment b ≡ false → blank b ≡ true → Reads (at_blank n k) ws (b ∷ []) (at_blank n k) ws
+  pub skips_blank : ends_line b ≡ false → begins_comment b ≡ false → blank b ≡ true → Reads (at_blank n k) ws (b ∷ []) (Ok (at_blank n k)) ws
   unfolding still
   skips_blank on is e = record { same = λ rest. ap (λ fs. all_in_front (take k ws) (read (length ws - k) fs)) (sym (blank_at_blank n b rest on is e)); lines = omega arith }
 
-  pub passes_line_end : ends_line b ≡ true → Reads (at_comment n k) ws (b ∷ []) (at_blank (n + 1) k) ws
+  pub passes_line_end : ends_line b ≡ true → Reads (at_comment n k) ws (b ∷ []) (Ok (at_blank (n + 1) k)) ws
   unfolding still
   passes_line_end e = record { same = λ rest. ap (λ fs. all_in_front (take k ws) (read (length ws - k) fs)) (sym (comment_at_line_end n b rest e)); lines = omega arith }
 
-  pub passes_on : ends_line b ≡ false → Reads (at_comment n k) ws (b ∷ []) (at_comment n k) ws
+  pub passes_on : ends_line b ≡ false → Reads (at_comment n k) ws (b ∷ []) (Ok (at_comment n k)) ws
   unfolding still
   passes_on on = record { same = λ rest. ap (λ fs. all_in_front (take k ws) (read (length ws - k) fs)) (sym (comment_on n b rest on)); lines = omega arith }
 
@@ -145,30 +164,21 @@ module _ (n k b : ℕ) (ws : List ℕ) where
         ap (λ bs. all_in_front (take k ws) (read_field (length ws - k) n (word_from v bs) (after_field n (b ∷ rest)))) (field_at_other n b rest on is other)
         ∙ ap (λ fs. all_in_front (take k ws) (read_field (length ws - k) n (word_from v (b ∷ field_left rest)) fs)) (after_field_at_other n b rest on is other)
 
-    grows_no_word : (v : ℕ) → ((rest : List ℕ) → word_from v (b ∷ field_left rest) ≡ none) → Reads (at_word v n k) ws (b ∷ []) (at_no_word n k) ws
+    pub grows_to : (v : ℕ) (o : Given ℕ) → ((rest : List ℕ) → word_behind o rest ≡ word_from v (b ∷ rest)) → (r : Result ℕ TextError) → r ≡ ok_or o (error.NoWord n)
+        → Reads (at_word v n k) ws (b ∷ []) (grown n k r) ws
     unfolding still read_field
-    grows_no_word v nothing =
-        record {
-          same = λ rest. sym (goes v rest ∙ ap (λ o. all_in_front (take k ws) (read_field (length ws - k) n o (after_field n rest))) (nothing rest) ∙ all_in_front_no_word (take k ws) n);
+    grows_to v None nothing r is =
+        rw is
+        (record {
+          same = λ rest. sym (goes v rest ∙ ap (λ w. all_in_front (take k ws) (read_field (length ws - k) n w (after_field n rest))) (sym (nothing (field_left rest))) ∙ all_in_front_no_word (take k ws) n);
+          lines = tt;
+        })
+    grows_to v (Some x) more r is =
+        rw is
+        (record {
+          same = λ rest. sym (goes v rest ∙ ap (λ w. all_in_front (take k ws) (read_field (length ws - k) n w (after_field n rest))) (sym (more (field_left rest))));
           lines = omega arith;
-        }
-
-    pub grows_low : (v : ℕ) → b < ascii_zero → Reads (at_word v n k) ws (b ∷ []) (at_no_word n k) ws
-    grows_low v low = grows_no_word v (λ rest. low_no_word v b (field_left rest) low)
-
-    pub grows_high : (v : ℕ) → ascii_nine < b → Reads (at_word v n k) ws (b ∷ []) (at_no_word n k) ws
-    grows_high v high = grows_no_word v (λ rest. high_no_word v b (field_left rest) high)
-
-    pub grows_large : (v : ℕ) → 2 ^ 32 ≤ 10 * v + (b - ascii_zero) → Reads (at_word v n k) ws (b ∷ []) (at_no_word n k) ws
-    grows_large v large = grows_no_word v (λ rest. large_no_word v b (field_left rest) large)
-
-    pub grows_digit : (v : ℕ) → ascii_zero ≤ b → b ≤ ascii_nine → Reads (at_word v n k) ws (b ∷ []) (at_word (10 * v + (b - ascii_zero)) n k) ws
-    unfolding still
-    grows_digit v low high =
-        record {
-          same = λ rest. sym (goes v rest ∙ ap (λ o. all_in_front (take k ws) (read_field (length ws - k) n o (after_field n rest))) (grown_word v b (field_left rest) low high));
-          lines = omega arith;
-        }
+        })
 
     -- a field begins
     begins : (rest : List ℕ) → still (at_blank n k) ws (b ∷ rest) ≡ still (at_word 0 n k) ws (b ∷ rest)
@@ -179,8 +189,8 @@ module _ (n k b : ℕ) (ws : List ℕ) where
         ∙ ap (all_in_front (take k ws)) (read_next (length ws - k) n (b ∷ field_left rest) (after_field n rest))
         ∙ sym (goes 0 rest)
 
-    pub skips_into_field : (r : Reader) → Reads (at_word 0 n k) ws (b ∷ []) r ws → Reads (at_blank n k) ws (b ∷ []) r ws
-    skips_into_field r grows = record { same = λ rest. grows.same rest ∙ sym (begins rest); lines = grows.lines }
+    pub skips_into_field : (o : Result Reader TextError) → Reads (at_word 0 n k) ws (b ∷ []) o ws → Reads (at_blank n k) ws (b ∷ []) o ws
+    skips_into_field o grows = record { same = λ rest. grows.same rest ∙ sym (begins rest); lines = grows.lines }
 
 -- a field that is over: its word is stored where there is room
 module _ (v n k : ℕ) (ws rest : List ℕ) (small : v < 2 ^ 32) (over : field_left rest ≡ []) where
@@ -191,7 +201,7 @@ module _ (v n k : ℕ) (ws rest : List ℕ) (small : v < 2 ^ 32) (over : field_l
       ∙ ap (λ o. all_in_front (take k ws) (read_field (length ws - k) n o (after_field n rest))) (whole_word v small)
       ∙ ap (λ fs. all_in_front (take k ws) (read_field (length ws - k) n (some v) fs)) (none_left_of_field n rest over)
 
-  pub closes : k < length ws → still (at_blank n (k + 1)) (set ws k v) rest ≡ still (at_word v n k) ws rest
+  closes : k < length ws → still (at_blank n (k + 1)) (set ws k v) rest ≡ still (at_word v n k) ws rest
   unfolding still read_field
   closes room =
       ap (λ xs. all_in_front xs (read (length (set ws k v) - (k + 1)) (after_blank n rest))) (rw add-one (take-suc-set ws k v room))
@@ -200,55 +210,12 @@ module _ (v n k : ℕ) (ws rest : List ℕ) (small : v < 2 ^ 32) (over : field_l
       ∙ ap (λ m. all_in_front (take k ws) (read_field m n (some v) (after_blank n rest))) (sym (one_fewer k (length ws) room))
       ∙ sym closes_to
 
-  pub closes_full : length ws ≤ k → still (at_no_room n k) ws rest ≡ still (at_word v n k) ws rest
+  closes_full : length ws ≤ k → NoRoom n ≡ still (at_word v n k) ws rest
   unfolding still read_field
   closes_full full =
       sym (closes_to ∙ ap (λ m. all_in_front (take k ws) (read_field m n (some v) (after_blank n rest))) (none_left k (length ws) full) ∙ all_in_front_no_room (take k ws) n)
 
--- a word is stored, and the byte that ends its field is read behind it
-module _ (v n k b : ℕ) (ws ws' : List ℕ) (room : Bool) (stores : Stores ws k v room ws') (ends : ends_field b ≡ true) where
-  pub stores_then_skips : room ≡ true → (r : Reader) → Reads (at_blank n (k + 1)) ws' (b ∷ []) r ws' → Reads (at_word v n k) ws (b ∷ []) r ws'
-  stores_then_skips is r skips =
-      record {
-        same = λ rest.
-            skips.same rest
-            ∙ ap (λ l. still (at_blank n (k + 1)) l (b ∷ rest)) stores.stored
-            ∙ closes v n k ws (b ∷ rest) stores.small (field_ends b rest ends) (ltb-true k (length ws) (sym stores.room ∙ is));
-        lines = skips.lines;
-      }
-
-  pub stops_full : room ≡ false → Reads (at_word v n k) ws (b ∷ []) (at_no_room n k) ws'
-  unfolding still
-  stops_full is = record { same = λ rest. closes_full v n k ws (b ∷ rest) stores.small (field_ends b rest ends) (ltb-false k (length ws) (sym stores.room ∙ is)); lines = omega arith }
-
--- where a reader's mode is known
-module _ (r : Reader) (m : Mode) (is : r.mode ≡ m) where
-  pub reads_in_mode : {ws bytes ws' : List ℕ} {r' : Reader} → Reads (record { mode = m; line = r.line; count = r.count }) ws bytes r' ws' → Reads r ws bytes r' ws'
-  reads_in_mode {ws} {bytes} {ws'} {r'} reads = subst (λ x. Reads (record { mode = x; line = r.line; count = r.count }) ws bytes r' ws') (sym is) reads
-
-  pub still_in_mode : (ws rest : List ℕ) → still (record { mode = m; line = r.line; count = r.count }) ws rest ≡ still r ws rest
-  still_in_mode ws rest = ap (λ x. still (record { mode = x; line = r.line; count = r.count }) ws rest) (sym is)
-
--- a reader that has stopped stays where it is
-module _ (r : Reader) (b : ℕ) (ws : List ℕ) where
-  pub stays_at_no_word : r.mode ≡ mode.NoWord → Reads r ws (b ∷ []) r ws
-  unfolding still
-  stays_at_no_word is = record { same = λ rest. sym (still_in_mode r mode.NoWord is ws rest) ∙ still_in_mode r mode.NoWord is ws (b ∷ rest); lines = omega arith }
-
-  pub stays_at_no_room : r.mode ≡ mode.NoRoom → Reads r ws (b ∷ []) r ws
-  unfolding still
-  stays_at_no_room is = record { same = λ rest. sym (still_in_mode r mode.NoRoom is ws rest) ∙ still_in_mode r mode.NoRoom is ws (b ∷ rest); lines = omega arith }
-
--- what there was room for
-pub room_for : (ws : List ℕ) (k v : ℕ) (room : Bool) (ws' : List ℕ) → Stores ws k v room ws' → room ≡ true → k < length ws
-room_for ws k v room ws' stores is = ltb-true k (length ws) (sym stores.room ∙ is)
-
--- one byte more of some bytes
-pub reads_one_more : (r r' r'' : Reader) (ws ws' ws'' bytes : List ℕ) (i : ℕ) → i < length bytes
-    → Reads r ws (take i bytes) r' ws' → Reads r' ws' (get_or bytes i 0 ∷ []) r'' ws'' → Reads r ws (take (i + 1) bytes) r'' ws''
-reads_one_more r r' r'' ws ws' ws'' bytes i low first second = rw (add-one, take-suc bytes i 0 low) (reads_both (get_or bytes i 0 ∷ []) first second)
-
--- at the end of a text
+-- at the end of a text, in white space and in a comment
 pub ends_blank : (n k : ℕ) (ws : List ℕ) → Words (take k ws) ≡ still (at_blank n k) ws []
 unfolding still split fields fields_from not_empty read
 ends_blank n k ws = sym (all_in_front_words (take k ws) [] ∙ ap Words (append-nil (take k ws)))
@@ -257,28 +224,49 @@ pub ends_comment : (n k : ℕ) (ws : List ℕ) → Words (take k ws) ≡ still (
 unfolding still split fields_from read
 ends_comment n k ws = sym (all_in_front_words (take k ws) [] ∙ ap Words (append-nil (take k ws)))
 
-pub ends_no_word : (n k : ℕ) (ws : List ℕ) → NoWord n ≡ still (at_no_word n k) ws []
-unfolding still
-ends_no_word n k ws = refl
+pub stores_room : (v n k : ℕ) (ws : List ℕ) → v < 2 ^ 32 → k < length ws → Stores n k v ws (Ok (at_blank n (k + 1))) (set ws k v)
+stores_room v n k ws small room = record { same = λ rest over. closes v n k ws rest small over room; goes_on = refl }
 
-pub ends_no_room : (n k : ℕ) (ws : List ℕ) → NoRoom n ≡ still (at_no_room n k) ws []
-unfolding still
-ends_no_room n k ws = refl
+pub stores_none : (v n k : ℕ) (ws : List ℕ) → v < 2 ^ 32 → length ws ≤ k → Stores n k v ws (Err (error.NoRoom n)) ws
+stores_none v n k ws small full = record { same = λ rest over. closes_full v n k ws rest small over full; goes_on = tt }
 
-module _ (v n k : ℕ) (ws ws' : List ℕ) (room : Bool) (stores : Stores ws k v room ws') where
-  nothing_left : field_left [] ≡ []
-  unfolding split
-  nothing_left = refl
+-- there was no room for a word; or it is stored, and the byte that ends its field is read behind it
+module _ (v n k b : ℕ) (ws ws' : List ℕ) where
+  module _ (e : TextError) (stores : Stores n k v ws (Err e) ws') where
+    pub stores_then_stops : ends_field b ≡ true → Reads (at_word v n k) ws (b ∷ []) (Err e) ws'
+    stores_then_stops ends = record { same = λ rest. stores.same (b ∷ rest) (field_ends b rest ends); lines = tt }
 
-  pub ends_word : room ≡ true → Words (take (k + 1) ws') ≡ still (at_word v n k) ws []
-  ends_word is =
-      ends_blank n (k + 1) ws'
-      ∙ ap (λ l. still (at_blank n (k + 1)) l []) stores.stored
-      ∙ closes v n k ws [] stores.small nothing_left (ltb-true k (length ws) (sym stores.room ∙ is))
+    pub ends_full : stopped e ≡ still (at_word v n k) ws []
+    unfolding split
+    ends_full = stores.same [] refl
 
-  pub ends_full : room ≡ false → NoRoom n ≡ still (at_word v n k) ws []
-  unfolding still
-  ends_full is = closes_full v n k ws [] stores.small nothing_left (ltb-false k (length ws) (sym stores.room ∙ is))
+  module _ (r : Reader) (stores : Stores n k v ws (Ok r) ws') where
+    stored_same : (rest : List ℕ) → field_left rest ≡ [] → still (at_blank r.line r.count) ws' rest ≡ still (at_word v n k) ws rest
+    stored_same rest over = ap (λ x. still (at_blank x.line x.count) ws' rest) stores.goes_on ∙ ap (λ x. still x ws' rest) (sym stores.goes_on) ∙ stores.same rest over
+
+    pub stores_then_skips : ends_field b ≡ true → (next : Result Reader TextError) → Reads (at_blank r.line r.count) ws' (b ∷ []) next ws' → Reads (at_word v n k) ws (b ∷ []) next ws'
+    stores_then_skips ends next skips =
+        record { same = λ rest. skips.same rest ∙ stored_same (b ∷ rest) (field_ends b rest ends); lines = rw (ap (λ x. x.line) stores.goes_on) at skips.lines }
+
+    pub ends_word : Words (take r.count ws') ≡ still (at_word v n k) ws []
+    unfolding split
+    ends_word = ends_blank r.line r.count ws' ∙ stored_same [] refl
+
+-- where a reader's mode is known
+module _ (r : Reader) (m : Mode) (is : r.mode ≡ m) where
+  pub reads_in_mode : {ws bytes ws' : List ℕ} {o : Result Reader TextError} → Reads (record { mode = m; line = r.line; count = r.count }) ws bytes o ws' → Reads r ws bytes o ws'
+  reads_in_mode {ws} {bytes} {ws'} {o} reads = subst (λ x. Reads (record { mode = x; line = r.line; count = r.count }) ws bytes o ws') (sym is) reads
+
+  pub still_in_mode : (ws rest : List ℕ) → still (record { mode = m; line = r.line; count = r.count }) ws rest ≡ still r ws rest
+  still_in_mode ws rest = ap (λ x. still (record { mode = x; line = r.line; count = r.count }) ws rest) (sym is)
+
+-- one byte more of some bytes, or of all of them where the reader stops there
+module _ (r r' : Reader) (ws ws' ws'' bytes : List ℕ) (i : ℕ) (low : i < length bytes) (first : Reads r ws (take i bytes) (Ok r') ws') where
+  pub reads_one_more : (o : Result Reader TextError) → Reads r' ws' (get_or bytes i 0 ∷ []) o ws'' → Reads r ws (take (i + 1) bytes) o ws''
+  reads_one_more o second = rw (add-one, take-suc bytes i 0 low) (reads_both (get_or bytes i 0 ∷ []) first second)
+
+  pub reads_to_stop : (e : TextError) → Reads r' ws' (get_or bytes i 0 ∷ []) (Err e) ws'' → Reads r ws bytes (Err e) ws''
+  reads_to_stop e second = rw (take-append-drop (i + 1) bytes) at (reads_no_more (drop (i + 1) bytes) (reads_one_more (Err e) second))
 
 -- at its beginning
 pub starts : Starts (at_blank 1 0)
@@ -286,8 +274,8 @@ unfolding still reading all_in_front
 starts = record { whole = λ ws text. ap (λ m. read m (after_blank 1 text)) (sub-zero (length ws)); line = refl }
 
 -- from its beginning to its end a reader reads what a text means
-pub reads_whole : (s r : Reader) (ws ws' text : List ℕ) (found : Reading) → Starts s → Reads s ws text r ws' → found ≡ still r ws' [] → found ≡ reading (length ws) text
-reads_whole s r ws ws' text found starts reads ends = ends ∙ reads.same [] ∙ starts.whole ws (text ++ []) ∙ ap (reading (length ws)) (append-nil text)
+pub reads_whole : (s : Reader) (o : Result Reader TextError) (ws ws' text : List ℕ) (found : Reading) → Starts s → Reads s ws text o ws' → found ≡ left_of o ws' [] → found ≡ reading (length ws) text
+reads_whole s o ws ws' text found starts reads ends = ends ∙ reads.same [] ∙ starts.whole ws (text ++ []) ∙ ap (reading (length ws)) (append-nil text)
 
 -- but for a text that is too long
 module _ (room : ℕ) (text : List ℕ) where

@@ -1,11 +1,12 @@
 -- What a text means: the words that stand in its lines between white space, comments left out, or the line at which
 -- it is no text of words. Assumes nothing.
 use Rattle.std.specs.Prelude.{ℕ, zero, suc, ◌+◌, ◌^◌, Bool, cond, ◌&&◌, ◌||◌, List, [], ◌∷◌, ◌++◌, map, length, take, ltb, eqb}
+use Rattle.std.specs.Prelude.{Result, Ok, Err}
 use Rattle.std.proofs.Math.Option.{Option, none, some}
 use Rattle.ascii.specs.Bytes.{space, ends_line, runs, split, all_digits, decimal_from}
 use Rattle.text.specs.Limits.{most_text}
-use Rattle.text.specs.declared.reader.Ending.{Ending}
-use Rattle.text.specs.declared.reader.Ending.TheVariants as ending
+use Rattle.text.specs.declared.reader.TextError.{TextError}
+use Rattle.text.specs.declared.reader.TextError.TheVariants as error
 
 -- the sign that begins a comment, as ASCII has it
 abbrev pub comment_sign : ℕ
@@ -87,8 +88,11 @@ unfoldable pub found_in : ℕ → List ℕ → Reading
 found_in room text = cond (ltb most_text (length text)) Long (reading room text)
 
 -- what the end of a reading tells, where the words read are stored at the front of ws
-abbrev pub reading_of : Ending → List ℕ → Reading
-reading_of (ending.Words n) ws = Words (take n ws)
-reading_of (ending.NoWord n) ws = NoWord n
-reading_of (ending.NoRoom n) ws = NoRoom n
-reading_of ending.Long ws = Long
+abbrev pub stopped : TextError → Reading
+stopped (error.NoWord n) = NoWord n
+stopped (error.NoRoom n) = NoRoom n
+stopped error.Long = Long
+
+abbrev pub reading_of : Result ℕ TextError → List ℕ → Reading
+reading_of (Ok n) ws = Words (take n ws)
+reading_of (Err e) ws = stopped e

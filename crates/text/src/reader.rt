@@ -1,11 +1,10 @@
 // The reading of a text, byte by byte.
 ghost use Rattle.std.specs.Prelude.{◌≡◌, false, List, [], ◌∷◌, ℕ, ◌+◌, ◌<◌, ◌^◌, length};
-ghost use Rattle.text.specs.Text.{blank as is_blank, found_in, reading_of};
-ghost use Rattle.text.specs.Between.Reading.{ends_field, still, at_blank, at_comment, at_word};
+ghost use Rattle.text.specs.Text.{blank as is_blank, word_from, found_in, reading_of};
+ghost use Rattle.text.specs.Between.Reading.{ends_field, word_behind, still, at_blank, at_comment, at_word};
 ghost use Rattle.text.specs.Between.Reading.{Reads, Starts, Stores};
 
 use crate::limits::TEXT;
-use access::put;
 
 // What counts in a text.
 const LINE_END: u8 = b'\n';
@@ -14,232 +13,189 @@ const SPACE: u8 = b' ';
 
 const COMMENT: u8 = b'#';
 
-// Where a reader stands: in white space, in a comment, behind the digits of a word with the value that they have so
-// far, or where it stopped, at a field that is no word or at a word for which there is no room.
-#[derive(Clone, Copy)]
+// Where a reader stands: in white space, in a comment, or behind the digits of a word with the value that they have so
+// far.
+#[derive(Clone, Copy, PartialEq, Eq, Debug)]
 pub enum Mode {
     Blank,
     Comment,
     Word(u32),
-    NoWord,
-    NoRoom,
 }
 
-// A reader: the number of its line, and how many words it has stored.
-#[derive(Clone, Copy)]
+// Why a text is no text of words: the line of a field that is no word, or of a word for which there is no room; or it
+// is too long to be read.
+#[derive(Clone, Copy, PartialEq, Eq, Debug)]
+pub enum TextError {
+    NoWord(u64),
+    NoRoom(u64),
+    Long,
+}
+
+// A reader: the number of its line, and how many words it has stored. Those are lent to each step and not held here, so
+// that the step's contract says what it left of them.
+#[derive(Clone, Copy, PartialEq, Eq, Debug)]
 pub struct Reader {
     pub mode: Mode,
     pub line: u64,
     pub count: usize,
 }
 
-// What reading a text finds: how many words, or the line at which it stopped, or that it is too long to be read.
-#[derive(Clone, Copy)]
-pub enum Ending {
-    Words(usize),
-    NoWord(u64),
-    NoRoom(u64),
-    Long,
-}
-
 // White space within a line.
 fn blank(byte: u8) -> bool
     ensures { result ≡ is_blank byte }
 {
-    if byte == SPACE {
-        return true;
-    }
-    if byte == b'\t' {
-        return true;
-    }
-    byte == b'\r'
+    matches!(byte, SPACE | b'\t' | b'\r')
 }
 
 // Whether a field is over before this byte.
 fn ends_field(byte: u8) -> bool
     ensures { result ≡ ends_field byte }
 {
-    if byte == LINE_END {
-        return true;
-    }
-    if byte == COMMENT {
-        return true;
-    }
-    blank(byte)
+    matches!(byte, LINE_END | COMMENT) || blank(byte)
 }
 
-// Takes one more byte of a field whose digits so far have this value.
-fn grow(line: u64, count: usize, value: u32, byte: u8) -> Reader
-    requires { ends_field byte ≡ false }
-    ensures { (ws : List ℕ) → Reads (at_word value line count) ws (byte ∷ []) result ws }
+// The value of digits with this byte behind them, if it is a digit and the value fits a word.
+fn with_digit(value: u32, byte: u8) -> Option<u32>
+    ensures { (rest : List ℕ) → word_behind result rest ≡ word_from value (byte ∷ rest) }
 {
-    if byte < b'0' {
-        return Reader {
-            mode: Mode::NoWord,
-            line,
-            count,
-        };
+    if !byte.is_ascii_digit() {
+        return None;
     }
-    if b'9' < byte {
-        return Reader {
-            mode: Mode::NoWord,
-            line,
-            count,
-        };
-    }
-    let grown = 10 * (value as u64) + (byte - b'0') as u64;
-    if (u32::MAX as u64) < grown {
-        return Reader {
-            mode: Mode::NoWord,
-            line,
-            count,
-        };
-    }
-    Reader {
-        mode: Mode::Word(grown as u32),
-        line,
-        count,
-    }
+    value.checked_mul(10)?.checked_add(u32::from(byte - b'0'))
 }
 
-// Takes one more byte in white space.
-fn skip(line: u64, count: usize, byte: u8) -> Reader
-    requires { line + 1 < 2 ^ 64 }
-    ensures { (ws : List ℕ) → Reads (at_blank line count) ws (byte ∷ []) result ws }
-{
-    if byte == LINE_END {
-        return Reader {
+// Each step takes a reader on, or tells why it stops.
+impl Reader {
+    // A reader at the beginning of a text.
+    fn start() -> Reader
+        ensures { Starts result }
+    {
+        Reader {
             mode: Mode::Blank,
-            line: line + 1,
-            count,
-        };
+            line: 1,
+            count: 0,
+        }
     }
-    if byte == COMMENT {
-        return Reader {
+
+    // Goes on to the next line.
+    fn next_line(self) -> Reader
+        requires { self.line + 1 < 2 ^ 64 }
+        ensures { result ≡ at_blank (self.line + 1) self.count }
+    {
+        Reader {
+            mode: Mode::Blank,
+            line: self.line + 1,
+            ..self
+        }
+    }
+
+    // Takes one more byte of a field whose digits so far have this value.
+    fn grow(self, value: u32, byte: u8) -> Result<Reader, TextError>
+        requires { ends_field byte ≡ false }
+        ensures { (ws : List ℕ) → Reads (at_word value self.line self.count) ws (byte ∷ []) result ws }
+    {
+        let grown = with_digit(value, byte).ok_or(TextError::NoWord(self.line))?;
+        Ok(Reader {
+            mode: Mode::Word(grown),
+            ..self
+        })
+    }
+
+    // Takes one more byte in white space.
+    fn skip(self, byte: u8) -> Result<Reader, TextError>
+        requires { self.line + 1 < 2 ^ 64 }
+        ensures { (ws : List ℕ) → Reads (at_blank self.line self.count) ws (byte ∷ []) result ws }
+    {
+        if byte == LINE_END {
+            return Ok(self.next_line());
+        }
+        if byte == COMMENT {
+            return Ok(Reader {
+                mode: Mode::Comment,
+                ..self
+            });
+        }
+        if blank(byte) {
+            return Ok(Reader {
+                mode: Mode::Blank,
+                ..self
+            });
+        }
+        self.grow(0, byte)
+    }
+
+    // Takes one more byte in a comment.
+    fn pass(self, byte: u8) -> Reader
+        requires { self.line + 1 < 2 ^ 64 }
+        ensures { (ws : List ℕ) → Reads (at_comment self.line self.count) ws (byte ∷ []) (Ok result) ws }
+    {
+        if byte == LINE_END {
+            return self.next_line();
+        }
+        Reader {
             mode: Mode::Comment,
-            line,
-            count,
-        };
-    }
-    if blank(byte) {
-        return Reader {
-            mode: Mode::Blank,
-            line,
-            count,
-        };
-    }
-    grow(line, count, 0, byte)
-}
-
-// Takes one more byte in a comment.
-fn pass(line: u64, count: usize, byte: u8) -> Reader
-    requires { line + 1 < 2 ^ 64 }
-    ensures { (ws : List ℕ) → Reads (at_comment line count) ws (byte ∷ []) result ws }
-{
-    if byte == LINE_END {
-        return Reader {
-            mode: Mode::Blank,
-            line: line + 1,
-            count,
-        };
-    }
-    Reader {
-        mode: Mode::Comment,
-        line,
-        count,
-    }
-}
-
-// Stores a word, and answers whether there was room for it.
-fn store(words: &mut [u32], count: usize, value: u32) -> bool
-    ensures { Stores words.old count value result words.new }
-{
-    let is_room = count < words.len();
-    put(words, count, value);
-    is_room
-}
-
-// A reader at the beginning of a text.
-fn start() -> Reader
-    ensures { Starts result }
-{
-    Reader {
-        mode: Mode::Blank,
-        line: 1,
-        count: 0,
-    }
-}
-
-// Takes one more byte.
-fn feed(reader: Reader, byte: u8, words: &mut [u32]) -> Reader
-    requires { reader.line + 1 < 2 ^ 64 }
-    ensures { Reads reader words.old (byte ∷ []) result words.new }
-{
-    let mode = reader.mode;
-    let line = reader.line;
-    let count = reader.count;
-    match mode {
-        Mode::Blank => skip(line, count, byte),
-        Mode::Comment => pass(line, count, byte),
-        Mode::Word(value) => {
-            if ends_field(byte) {
-                if store(words, count, value) {
-                    return skip(line, count + 1, byte);
-                }
-                return Reader {
-                    mode: Mode::NoRoom,
-                    line,
-                    count,
-                };
-            }
-            grow(line, count, value, byte)
+            ..self
         }
-        Mode::NoWord => reader,
-        Mode::NoRoom => reader,
     }
-}
 
-// Takes the next bytes of a text.
-fn feed_all(reader: Reader, bytes: &[u8], words: &mut [u32]) -> Reader
-    requires { reader.line + length bytes.now < 2 ^ 64 }
-    ensures { Reads reader words.old bytes.now result words.new }
-{
-    let mut current = reader;
-    let mut i = 0;
-    while i < bytes.len() {
-        current = feed(current, bytes[i], words);
-        i += 1;
-    }
-    current
-}
-
-// Ends the reading, at the end of the text.
-fn finish(reader: Reader, words: &mut [u32]) -> Ending
-    ensures { reading_of result words.new ≡ still reader words.old [] }
-{
-    let mode = reader.mode;
-    let line = reader.line;
-    let count = reader.count;
-    match mode {
-        Mode::Blank => Ending::Words(count),
-        Mode::Comment => Ending::Words(count),
-        Mode::Word(value) => {
-            if store(words, count, value) {
-                return Ending::Words(count + 1);
-            }
-            Ending::NoRoom(line)
+    // Stores the word of a field that is over.
+    fn store(self, value: u32, words: &mut [u32]) -> Result<Reader, TextError>
+        ensures { Stores self.line self.count value words.old result words.new }
+    {
+        if words.len() <= self.count {
+            return Err(TextError::NoRoom(self.line));
         }
-        Mode::NoWord => Ending::NoWord(line),
-        Mode::NoRoom => Ending::NoRoom(line),
+        words[self.count] = value;
+        Ok(Reader {
+            mode: Mode::Blank,
+            count: self.count + 1,
+            ..self
+        })
+    }
+
+    // Takes one more byte.
+    fn feed(self, byte: u8, words: &mut [u32]) -> Result<Reader, TextError>
+        requires { self.line + 1 < 2 ^ 64 }
+        ensures { Reads self words.old (byte ∷ []) result words.new }
+    {
+        match self.mode {
+            Mode::Blank => self.skip(byte),
+            Mode::Comment => Ok(self.pass(byte)),
+            Mode::Word(value) if ends_field(byte) => self.store(value, words)?.skip(byte),
+            Mode::Word(value) => self.grow(value, byte),
+        }
+    }
+
+    // Takes the next bytes of a text.
+    fn feed_all(self, bytes: &[u8], words: &mut [u32]) -> Result<Reader, TextError>
+        requires { self.line + length bytes.now < 2 ^ 64 }
+        ensures { Reads self words.old bytes.now result words.new }
+    {
+        let mut reader = self;
+        for byte in bytes {
+            reader = reader.feed(*byte, words)?;
+        }
+        Ok(reader)
+    }
+
+    // Ends the reading, at the end of the text, and tells how many words are stored.
+    fn finish(self, words: &mut [u32]) -> Result<usize, TextError>
+        ensures { reading_of result words.new ≡ still self words.old [] }
+    {
+        match self.mode {
+            Mode::Blank => Ok(self.count),
+            Mode::Comment => Ok(self.count),
+            Mode::Word(value) => Ok(self.store(value, words)?.count),
+        }
     }
 }
 
-// Reads a whole text.
-pub fn read_whole(text: &[u8], words: &mut [u32]) -> Ending
+// Reads a whole text: its words go to the front of `words`, and how many they are is returned.
+pub fn read_whole(text: &[u8], words: &mut [u32]) -> Result<usize, TextError>
     ensures { reading_of result words.new ≡ found_in (length words.old) text.now }
 {
     if TEXT < text.len() {
-        return Ending::Long;
+        return Err(TextError::Long);
     }
-    finish(feed_all(start(), text, words), words)
+    Reader::start().feed_all(text, words)?.finish(words)
 }

@@ -4,12 +4,10 @@ ghost use Rattle.program.specs.Between.Room.{line_room, TextPut};
 ghost use Rattle.program.specs.Printed.{HasDone};
 ghost use Rattle.validate.specs.Validate.{checked, printed};
 
-use access::front;
 use plan::check::check_plan;
 use program::input::{Done, read};
-use program::opened::{Opened, open_input};
+use program::opened::open_input;
 use program::output::{put_refusal, put_tally};
-use program::parts::plan_part;
 use records::framing::{ALONE, WORDS};
 use std::io::Read;
 
@@ -31,14 +29,9 @@ fn check_input(bytes: &[u8], out: &mut [u8]) -> usize
     ensures { TextPut line_room out.old out.new result (printed bytes.now) }
 {
     let mut words = [0u32; WORDS];
-    let opened = open_input(bytes, 0, &mut words);
-    match opened {
-        Opened::Refused(refusal) => put_refusal(out, 0, refusal),
-        Opened::Lodged { task, plan } => check(
-            front(&words, task),
-            plan_part(&words, task, plan),
-            out,
-        ),
+    match open_input(bytes, 0, &mut words) {
+        Err(refusal) => put_refusal(out, 0, refusal),
+        Ok(extent) => check(extent.task_words(&words), extent.plan_words(&words), out),
     }
 }
 

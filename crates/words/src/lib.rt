@@ -1,18 +1,26 @@
 // The words of the forms that programs read, a text of words and an input, written to lent words, with what was found.
 #![tactic(auto)]
 
-ghost use Rattle.words.specs.Found.{ReadsLent, OpensLent};
+ghost use Rattle.std.specs.Prelude.{◌≡◌};
+ghost use Rattle.text.specs.Text.{stopped};
+ghost use Rattle.words.specs.Found.{found_words, ReadsLent, OpensLent};
 
 use access::{front, put_all};
-use lent::write_pair;
-use program::opened::{Opened, open_input};
-use program::parts::plan_part;
+use program::opened::open_input;
 use records::framing::WORDS;
 use text::limits::MOST;
-use text::reader::{Ending, read_whole};
+use text::reader::{TextError, read_whole};
 
-// Where the lengths of a sheet and of its list stand, after the refusal's number and place.
-const LENGTHS_AT: usize = 2;
+// What is wrong with a text, as the two numbers that `hollchiku_read_words` hands to programs in other languages.
+fn told(e: TextError) -> [u64; 2]
+    ensures { result ≡ found_words (stopped e) }
+{
+    match e {
+        TextError::NoWord(line) => [1, line],
+        TextError::NoRoom(line) => [2, line],
+        TextError::Long => [3, 0],
+    }
+}
 
 // Reads a text of words: they go to the front of `words`; 0 and how many they are go to `out`, or what is wrong: 1 and
 // the line of a field that is no word, 2 and the line of a word for which no text has room, 3 and 0 where the text is
@@ -22,16 +30,13 @@ pub fn read_text(text: &[u8], words: &mut [u32], out: &mut [u64])
         out.old out.new }
 {
     let mut found = [0u32; MOST];
-    let ending = read_whole(text, &mut found);
-    match ending {
-        Ending::Words(n) => {
+    match read_whole(text, &mut found) {
+        Ok(n) => {
             let read = front(&found, n);
             put_all(words, read);
-            write_pair(out, 0, 0, read.len() as u64);
+            put_all(out, &[0, read.len() as u64]);
         }
-        Ending::NoWord(line) => write_pair(out, 0, 1, line),
-        Ending::NoRoom(line) => write_pair(out, 0, 2, line),
-        Ending::Long => write_pair(out, 0, 3, 0),
+        Err(e) => put_all(out, &told(e)),
     }
 }
 
@@ -43,18 +48,16 @@ pub fn open_record(bytes: &[u8], words: &mut [u32], out: &mut [u64])
         out.old out.new }
 {
     let mut found = [0u32; WORDS];
-    let opened = open_input(bytes, 0, &mut found);
-    match opened {
-        Opened::Refused(refusal) => {
-            write_pair(out, 0, refusal.number() as u64, refusal.place() as u64);
-            write_pair(out, LENGTHS_AT, 0, 0);
-        }
-        Opened::Lodged { task, plan } => {
-            let sheet = front(&found, task).len();
-            let list = plan_part(&found, task, plan).len();
+    match open_input(bytes, 0, &mut found) {
+        Err(refusal) => put_all(
+            out,
+            &[refusal.number() as u64, refusal.place() as u64, 0, 0],
+        ),
+        Ok(extent) => {
+            let sheet = extent.task_words(&found).len();
+            let list = extent.plan_words(&found).len();
             put_all(words, front(&found, sheet + 1 + list));
-            write_pair(out, 0, 0, 0);
-            write_pair(out, LENGTHS_AT, sheet as u64, list as u64);
+            put_all(out, &[0, 0, sheet as u64, list as u64]);
         }
     }
 }

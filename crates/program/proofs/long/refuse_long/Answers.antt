@@ -4,7 +4,7 @@ use Rattle.program.proofs.LongLaws.{long_refused, long_passed}
 use Rattle.program.proofs.long.refuse_long.Goals as goal
 
 pub returns-in-Err : goal.returns-in-Err
-returns-in-Err c = sym (long_refused _ _ _ c.check_sheet-sheet.ensures c.in-Err.is)
+returns-in-Err c = sym (long_refused _ _ c.in-Err.ensures)
 
-pub returns : goal.returns
-returns c = sym (long_passed _ _ c.check_sheet-sheet.ensures c.in_default.is)
+pub returns-in-Ok : goal.returns-in-Ok
+returns-in-Ok c = sym (long_passed _ c.in-Ok.ensures)

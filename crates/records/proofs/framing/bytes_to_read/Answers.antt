@@ -1,29 +1,24 @@
 -- `bytes_to_read` meets its contract: each ending of the record is a case, and what is read of a record within its limits is within the most bytes. Assumes
 -- nothing.
 use native.Mathlib.Omega.{arith}
-use mathlib.Core.Path.{sym}
+use mathlib.Core.Path.{sym, ◌∙◌, ap}
+use Rattle.std.specs.Prelude.{Err}
 use Rattle.records.proofs.FormLaws.{reads_from, untold_low, end_low}
 use Rattle.records.proofs.framing.bytes_to_read.Goals as goal
 
 pub overflow_add-result : goal.overflow_add-result
-overflow_add-result c =
-    let found = c in
-    omega (arith, end_low found.args.further found.args.beyond _ _ found.find_end-ending.ensures _ _ _ c.in-Ends.is)
+overflow_add-result c = omega (arith, end_low c.args.further c.args.beyond _ _ c.in-Ok.ensures)
 
-pub returns-in-Untold : goal.returns-in-Untold
-returns-in-Untold c =
-    let found = c.find_end-ending.ensures in
-    let is = c.in-Untold.is in
-    (sym (reads_from _ _ _ found _ _ is), untold_low _ _ _ _ found _ is)
+pub returns-in-Ok : goal.returns-in-Ok
+returns-in-Ok c = (sym (reads_from _ _ _ _ c.in-Ok.ensures), end_low _ _ _ _ c.in-Ok.ensures)
 
-pub returns-in-Unfit : goal.returns-in-Unfit
-returns-in-Unfit c = (sym (reads_from _ _ _ c.find_end-ending.ensures _ _ c.in-Unfit.is), omega arith)
+pub returns-in-Err-Untold : goal.returns-in-Err-Untold
+returns-in-Err-Untold c =
+    let ends = ap Err (sym c.in-Err-Untold.field-0-is) ∙ c.in-Err-Untold.ensures in
+    (sym (reads_from _ _ _ _ ends), untold_low _ _ _ _ ends)
 
-pub returns-in-Long : goal.returns-in-Long
-returns-in-Long c = (sym (reads_from _ _ _ c.find_end-ending.ensures _ _ c.in-Long.is), omega arith)
+pub returns-in-Err-Unfit : goal.returns-in-Err-Unfit
+returns-in-Err-Unfit c = (sym (reads_from _ _ _ _ (ap Err (sym c.in-Err-Unfit.field-0-is) ∙ c.in-Err-Unfit.ensures)), omega arith)
 
-pub returns-in-Ends : goal.returns-in-Ends
-returns-in-Ends c =
-    let found = c.find_end-ending.ensures in
-    let is = c.in-Ends.is in
-    (sym (reads_from _ _ _ found _ _ is), end_low _ _ _ _ found _ _ _ is)
+pub returns-in-Err-Long : goal.returns-in-Err-Long
+returns-in-Err-Long c = (sym (reads_from _ _ _ _ (ap Err (sym c.in-Err-Long.field-0-is) ∙ c.in-Err-Long.ensures)), omega arith)

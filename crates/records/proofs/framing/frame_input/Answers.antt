@@ -1,16 +1,14 @@
--- `frame_input` meets its contract: each form of the record is a case, and a whole one runs on or ends. Assumes nothing.
+-- `frame_input` meets its contract: a record that can't be read is no input, and one that is whole runs on or ends. Assumes nothing.
+use mathlib.Core.Path.{sym, ◌∙◌}
+use Rattle.std.proofs.result.Match.{err_is}
 use Rattle.records.proofs.FormLaws.{input_from, input_runs_on, input_ends}
-use mathlib.Core.Path.{sym}
 use Rattle.records.proofs.framing.frame_input.Goals as goal
 
-pub returns-in-Broken : goal.returns-in-Broken
-returns-in-Broken c = sym (input_from _ _ _ c.frame_record-framed.ensures _ c.in-Broken.is)
+pub returns-in_err-extent : goal.returns-in_err-extent
+returns-in_err-extent c = err_is _ _ c.from_residual.ensures.1 ∙ sym (input_from _ _ _ c.in_err-extent.ensures)
 
-pub returns-in-Long : goal.returns-in-Long
-returns-in-Long c = sym (input_from _ _ _ c.frame_record-framed.ensures _ c.in-Long.is)
+pub returns-then-extent-bytes : goal.returns-then-extent-bytes
+returns-then-extent-bytes c = sym (input_runs_on _ _ _ c.in_ok-extent.ensures c.if-extent-bytes.true)
 
-pub returns-then-end-bytes : goal.returns-then-end-bytes
-returns-then-end-bytes c = sym (input_runs_on _ _ _ c.frame_record-framed.ensures _ _ _ c.in-Whole.is c.if-end-bytes.true)
-
-pub returns-else-end-bytes : goal.returns-else-end-bytes
-returns-else-end-bytes c = sym (input_ends _ _ _ c.frame_record-framed.ensures _ _ _ c.in-Whole.is c.if-end-bytes.false)
+pub returns : goal.returns
+returns c = sym (input_ends _ _ _ c.in_ok-extent.ensures c.if-extent-bytes.false)

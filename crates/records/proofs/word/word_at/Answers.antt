@@ -1,4 +1,4 @@
--- `word_at` meets its contract: the four bytes that are read are those of the word, and with each below 256 no sum wraps. Assumes nothing.
+-- `word_at` meets its contract: the four bytes that are read are those of the word. Assumes nothing.
 use Prim.Native.Nat.{◌*◌}
 use native.Mathlib.Omega.{arith}
 use mathlib.Core.Path.{refl}

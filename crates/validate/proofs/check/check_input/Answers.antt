@@ -5,9 +5,9 @@ use Rattle.program.proofs.ReplyLaws.{reply_refused, reply_lodged}
 use Rattle.validate.proofs.check.check_input.Goals as goal
 
 pub returns-in-Err : goal.returns-in-Err
-returns-in-Err c = reply_refused _ _ _ _ c.open_input-opened.ensures.words_after _ _ (TextPut line_room _ _ _) _ c.in-Err.is (c.put_refusal.ensures.prints, c.put_refusal.ensures.refusal_len_bound)
+returns-in-Err c = reply_refused _ _ _ _ (TextPut line_room _ _ _) _ c.in-Err.ensures.opens (c.put_refusal.ensures.prints, c.put_refusal.ensures.refusal_len_bound)
 
-pub returns-in-Lodged : goal.returns-in-Lodged
-returns-in-Lodged c =
-    reply_lodged _ _ _ _ c.open_input-opened.ensures.words_after _ _ (TextPut line_room _ _ _) _ _ _ _ _ c.in-Lodged.is c.front.ensures c.plan_part.ensures refl
+pub returns-in-Ok : goal.returns-in-Ok
+returns-in-Ok c =
+    reply_lodged _ _ _ _ (TextPut line_room _ _ _) _ c.in-Ok.extent _ _ _ c.in-Ok.ensures.opens c.task_words.ensures c.plan_words.ensures refl
     c.check.ensures

@@ -2,10 +2,10 @@
 use mathlib.Core.Path.{sym, ◌∙◌}
 use borrow.Author.Tests.{eq-eqb, ne_eqb}
 use Rattle.text.proofs.ReaderLaws.{skips_line_end, skips_comment, skips_blank, skips_into_field}
-use Rattle.text.proofs.reader.skip.Goals as goal
+use Rattle.text.proofs.reader.Reader.skip.Goals as goal
 
 pub returns-then-byte-eq-LINE_END : goal.returns-then-byte-eq-LINE_END
-returns-then-byte-eq-LINE_END c = λ ws. skips_line_end _ _ _ ws (eq-eqb _ _ c.if-byte-eq-LINE_END.true)
+returns-then-byte-eq-LINE_END c = λ ws. rw c.next_line.ensures (skips_line_end _ _ _ ws (eq-eqb _ _ c.if-byte-eq-LINE_END.true))
 
 pub returns-then-byte-eq-COMMENT : goal.returns-then-byte-eq-COMMENT
 returns-then-byte-eq-COMMENT c = λ ws. skips_comment _ _ _ ws (ne_eqb _ _ c.if-byte-eq-LINE_END.false) (eq-eqb _ _ c.if-byte-eq-COMMENT.true)
