@@ -7,6 +7,7 @@ ghost use Rattle.license.specs.License.{printed};
 
 use access::front;
 use claim_report::put_licensed;
+use lines::Page;
 use program::input::{Done, read};
 use program::opened::{Opened, open_input};
 use program::output::put_refusal;
@@ -15,17 +16,17 @@ use records::framing::{ALONE, WORDS};
 use std::io::Read;
 
 // Licenses the plan, unless the input is refused before.
-fn license_input(bytes: &[u8], out: &mut [u8]) -> usize
-    ensures { TextPut licence_room out.old out.new result (printed bytes.now) }
+fn license_input(page: &mut Page, bytes: &[u8])
+    ensures { TextPut licence_room page.old page.new (printed bytes.now) }
 {
     let mut words = [0u32; WORDS];
     let opened = open_input(bytes, 0, &mut words);
     match opened {
-        Opened::Refused(refusal) => put_refusal(out, 0, refusal),
+        Opened::Refused(refusal) => put_refusal(page, refusal),
         Opened::Lodged { task, plan } => put_licensed(
+            page,
             front(&words, task),
             plan_part(&words, task, plan),
-            out,
         ),
     }
 }
@@ -33,10 +34,15 @@ fn license_input(bytes: &[u8], out: &mut [u8]) -> usize
 // Reads the input from `reader` to the front of `bytes`, and puts what is printed for it to the front of `out`.
 pub(crate) fn answer_input<R: Read>(reader: &mut R, bytes: &mut [u8], out: &mut [u8]) -> Done
     requires { licence_room ≤ length out.old }
-    ensures { HasDone 0 printed bytes.new result out.old out.new }
+    ensures done { HasDone 0 printed bytes.new result out.old out.new }
+    ensures within { result.written ≤ length out.new }
 {
     let input = read(reader, bytes, 0, ALONE);
     let n = input.count;
-    let written = license_input(&bytes[..n], out);
-    Done { input, written }
+    let mut page = Page::new(out);
+    license_input(&mut page, &bytes[..n]);
+    Done {
+        input,
+        written: page.end,
+    }
 }

@@ -15,7 +15,7 @@ use Rattle.lines.specs.Lines.{numeral, spaced}
 use Rattle.lines.specs.Prints.{Prints}
 
 -- past the end nothing is stored
-sets_past : (l vs : List ℕ) (i : ℕ) → length l ≤ i → sets l i vs ≡ l
+pub sets_past : (l vs : List ℕ) (i : ℕ) → length l ≤ i → sets l i vs ≡ l
 sets_past l [] i h = refl
 sets_past l (v ∷ vs) i h = rw (set_out l i v h) (sets_past l vs (suc i) (omega arith))
 
@@ -29,7 +29,7 @@ from_end l vs i = by_case (leb i (length l)) refl
         let past : min i (length l) ≡ length l = omega (arith, leb-false i (length l) e) in
         rw past (sets_past l vs (length l) (omega arith) ∙ sym (sets_past l vs i (omega (arith, leb-false i (length l) e))))
 
-sets_both : (l ts us : List ℕ) (i : ℕ) → sets (sets l i ts) (min (i + length ts) (length l)) us ≡ sets l i (ts ++ us)
+pub sets_both : (l ts us : List ℕ) (i : ℕ) → sets (sets l i ts) (min (i + length ts) (length l)) us ≡ sets l i (ts ++ us)
 sets_both l [] us i = let same : i + 0 ≡ i = omega arith in rw same (from_end l us i)
 sets_both l (t ∷ ts) us i =
     let shifted : i + suc (length ts) ≡ suc i + length ts = omega arith in
@@ -60,7 +60,7 @@ pub prints_within : {t : List ℕ} {at : ℕ} {before after : List ℕ} {end : �
 prints_within p = omega (arith, p.ends, prints_length p)
 
 -- the last of numbers that each stand behind a space
-spaced_last : (xs : List ℕ) (x : ℕ) → spaced (xs ++ (x ∷ [])) ≡ spaced xs ++ (space ∷ numeral x)
+pub spaced_last : (xs : List ℕ) (x : ℕ) → spaced (xs ++ (x ∷ [])) ≡ spaced xs ++ (space ∷ numeral x)
 unfolding spaced
 spaced_last [] x = ap (λ t. space ∷ t) (append-nil (numeral x))
 spaced_last (y ∷ xs) x = ap (λ t. space ∷ t) (ap (λ t. numeral y ++ t) (spaced_last xs x) ∙ sym (append_assoc (numeral y) (spaced xs) (space ∷ numeral x)))

@@ -6,6 +6,7 @@ ghost use Rattle.report.specs.Between.Reported.{report_room};
 ghost use Rattle.shorten.specs.Shorten.{printed};
 
 use access::front;
+use lines::Page;
 use program::input::{Done, read};
 use program::opened::{Opened, open_input};
 use program::output::put_refusal;
@@ -15,17 +16,17 @@ use report::shortened::put_shortened;
 use std::io::Read;
 
 // Shortens the plan, unless the input is refused before.
-fn shorten_input(bytes: &[u8], out: &mut [u8]) -> usize
-    ensures { TextPut report_room out.old out.new result (printed bytes.now) }
+fn shorten_input(page: &mut Page, bytes: &[u8])
+    ensures { TextPut report_room page.old page.new (printed bytes.now) }
 {
     let mut words = [0u32; WORDS];
     let opened = open_input(bytes, 0, &mut words);
     match opened {
-        Opened::Refused(refusal) => put_refusal(out, 0, refusal),
+        Opened::Refused(refusal) => put_refusal(page, refusal),
         Opened::Lodged { task, plan } => put_shortened(
+            page,
             front(&words, task),
             plan_part(&words, task, plan),
-            out,
         ),
     }
 }
@@ -33,10 +34,15 @@ fn shorten_input(bytes: &[u8], out: &mut [u8]) -> usize
 // Reads the input from `reader` to the front of `bytes`, and puts what is printed for it to the front of `out`.
 pub(crate) fn answer_input<R: Read>(reader: &mut R, bytes: &mut [u8], out: &mut [u8]) -> Done
     requires { report_room ≤ length out.old }
-    ensures { HasDone 0 printed bytes.new result out.old out.new }
+    ensures done { HasDone 0 printed bytes.new result out.old out.new }
+    ensures within { result.written ≤ length out.new }
 {
     let input = read(reader, bytes, 0, ALONE);
     let n = input.count;
-    let written = shorten_input(&bytes[..n], out);
-    Done { input, written }
+    let mut page = Page::new(out);
+    shorten_input(&mut page, &bytes[..n]);
+    Done {
+        input,
+        written: page.end,
+    }
 }

@@ -9,6 +9,7 @@ ghost use Rattle.translate.specs.Translate.{translated, translated_input, HasTra
 use crate::answer::{Answered, refuse};
 use crate::input::{Input, read_input};
 use access::front;
+use lines::Page;
 use program::output::put_refusal;
 use program::pack::pack;
 use sheet::limits::Sheet;
@@ -25,11 +26,15 @@ fn translate_text(text: &[u8], out: &mut [u8], errors: &mut [u8]) -> Answered
     let sheet = translate(text, &mut words);
     match sheet {
         Translated::Refused(refusal) => {
-            let said = put_refusal(errors, 0, refusal);
+            let mut page = Page::new(errors);
+            put_refusal(&mut page, refusal);
+            let said = page.end;
             Answered { written: 0, said }
         }
         Translated::Written(n) => {
-            let written = pack(front(&words, n), out);
+            let mut page = Page::new(out);
+            pack(&mut page, front(&words, n));
+            let written = page.end;
             Answered { written, said: 0 }
         }
     }

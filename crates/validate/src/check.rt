@@ -5,6 +5,7 @@ ghost use Rattle.program.specs.Printed.{HasDone};
 ghost use Rattle.validate.specs.Validate.{checked, printed};
 
 use access::front;
+use lines::Page;
 use plan::check::{Answer, check_plan};
 use program::input::{Done, read};
 use program::opened::{Opened, open_input};
@@ -14,30 +15,30 @@ use records::framing::{ALONE, WORDS};
 use std::io::Read;
 
 // Checks a plan.
-fn check(words: &[u32], plan: &[u32], out: &mut [u8]) -> usize
-    ensures { TextPut line_room out.old out.new result
+fn check(page: &mut Page, words: &[u32], plan: &[u32])
+    ensures { TextPut line_room page.old page.new
         (checked words.now plan.now) }
 {
     let checked = check_plan(words, plan);
     let answer = checked.answer;
     match answer {
-        Answer::Valid(tally) => put_tally(out, 0, b"lodged", tally),
-        Answer::Refused(refusal) => put_refusal(out, 0, refusal),
+        Answer::Valid(tally) => put_tally(page, b"lodged", tally),
+        Answer::Refused(refusal) => put_refusal(page, refusal),
     }
 }
 
 // Checks the plan, unless the input is refused before it.
-fn check_input(bytes: &[u8], out: &mut [u8]) -> usize
-    ensures { TextPut line_room out.old out.new result (printed bytes.now) }
+fn check_input(page: &mut Page, bytes: &[u8])
+    ensures { TextPut line_room page.old page.new (printed bytes.now) }
 {
     let mut words = [0u32; WORDS];
     let opened = open_input(bytes, 0, &mut words);
     match opened {
-        Opened::Refused(refusal) => put_refusal(out, 0, refusal),
+        Opened::Refused(refusal) => put_refusal(page, refusal),
         Opened::Lodged { task, plan } => check(
+            page,
             front(&words, task),
             plan_part(&words, task, plan),
-            out,
         ),
     }
 }
@@ -45,10 +46,15 @@ fn check_input(bytes: &[u8], out: &mut [u8]) -> usize
 // Reads the input from `reader` to the front of `bytes`, and puts what is printed for it to the front of `out`.
 pub(crate) fn answer_input<R: Read>(reader: &mut R, bytes: &mut [u8], out: &mut [u8]) -> Done
     requires { line_room ≤ length out.old }
-    ensures { HasDone 0 printed bytes.new result out.old out.new }
+    ensures done { HasDone 0 printed bytes.new result out.old out.new }
+    ensures within { result.written ≤ length out.new }
 {
     let input = read(reader, bytes, 0, ALONE);
     let n = input.count;
-    let written = check_input(&bytes[..n], out);
-    Done { input, written }
+    let mut page = Page::new(out);
+    check_input(&mut page, &bytes[..n]);
+    Done {
+        input,
+        written: page.end,
+    }
 }

@@ -7,9 +7,9 @@ pub returns-in-Valid : goal.returns-in-Valid
 returns-in-Valid c =
     let licenses = c.license-licence.ensures.answer in
     let is = c.in-Valid.is in
-    licensed_report _ _ _ _ _ refl licenses _ is c.put_claim-at.ensures (c.put_report.ensures _ (reports_licensed _ _ _ _ _ refl licenses _ is))
+    licensed_report _ _ _ _ _ refl licenses _ is c.put_claim.ensures (c.put_report.ensures _ (reports_licensed _ _ _ _ _ refl licenses _ is))
 
 pub returns-in-Refused : goal.returns-in-Refused
 returns-in-Refused c =
     let put = c.put_refusal.ensures in
-    licensed_refusal _ _ _ _ _ refl c.license-licence.ensures.answer _ c.in-Refused.is put.prints put.refusal_len_bound
+    licensed_refusal _ _ _ _ _ refl c.license-licence.ensures.answer _ c.in-Refused.is put.puts put.refusal_len_bound

@@ -10,4 +10,4 @@ returns-in-Valid c =
     shortened_report _ _ _ _ _ refl minimises _ is (c.put_report.ensures _ (reports_minimal _ _ _ _ _ refl minimises _ is))
 
 pub returns-in-Refused : goal.returns-in-Refused
-returns-in-Refused c = shortened_refusal _ _ _ _ _ refl c.minimal_reduction-reduced.ensures.answer _ c.in-Refused.is c.put_refusal.ensures.prints c.put_refusal.ensures.refusal_len_bound
+returns-in-Refused c = shortened_refusal _ _ _ _ _ refl c.minimal_reduction-reduced.ensures.answer _ c.in-Refused.is c.put_refusal.ensures.puts c.put_refusal.ensures.refusal_len_bound
