@@ -1,33 +1,29 @@
 // What the program prints for the bytes of its input, put into lent bytes.
 ghost use Rattle.std.specs.Prelude.{◌≤◌, length};
+ghost use Rattle.std.proofs.Common.{lit≤};
 ghost use Rattle.program.specs.Printed.{HasDone};
-ghost use Rattle.program.specs.Between.Room.{TextPut};
+ghost use Rattle.claim_report.specs.Licensed.{licensed};
 ghost use Rattle.claim_report.specs.Between.LicenceRoom.{licence_room};
 ghost use Rattle.license.specs.License.{printed};
 
-use access::front;
 use claim_report::put_licensed;
 use lines::Page;
-use program::input::{Done, read};
-use program::opened::{Opened, open_input};
-use program::output::put_refusal;
-use program::parts::plan_part;
-use records::framing::{ALONE, WORDS};
+use program::answer::{Service, answer};
+use program::input::Done;
 use std::io::Read;
 
-// Licenses the plan, unless the input is refused before.
-fn license_input(page: &mut Page, bytes: &[u8])
-    ensures { TextPut licence_room page.old page.new (printed bytes.now) }
-{
-    let mut words = [0u32; WORDS];
-    let opened = open_input(bytes, 0, &mut words);
-    match opened {
-        Opened::Refused(refusal) => put_refusal(page, refusal),
-        Opened::Lodged { task, plan } => put_licensed(
-            page,
-            front(&words, task),
-            plan_part(&words, task, plan),
-        ),
+// The claim and the report of a plan that is licensed.
+struct Licensing;
+
+impl Service for Licensing {
+    ghost text = { licensed };
+
+    ghost room = { licence_room };
+
+    ghost refusal_fits = { lit≤ tt };
+
+    fn put(&self, page: &mut Page, words: &[u32], plan: &[u32]) {
+        put_licensed(page, words, plan);
     }
 }
 
@@ -37,12 +33,5 @@ pub(crate) fn answer_input<R: Read>(reader: &mut R, bytes: &mut [u8], out: &mut 
     ensures done { HasDone 0 printed bytes.new result out.old out.new }
     ensures within { result.written ≤ length out.new }
 {
-    let input = read(reader, bytes, 0, ALONE);
-    let n = input.count;
-    let mut page = Page::new(out);
-    license_input(&mut page, &bytes[..n]);
-    Done {
-        input,
-        written: page.end,
-    }
+    answer(&Licensing, reader, bytes, out)
 }

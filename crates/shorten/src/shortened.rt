@@ -1,33 +1,29 @@
 // What the program prints for the bytes of its input, put into lent bytes.
 ghost use Rattle.std.specs.Prelude.{◌≤◌, length};
+ghost use Rattle.std.proofs.Common.{lit≤};
 ghost use Rattle.program.specs.Printed.{HasDone};
-ghost use Rattle.program.specs.Between.Room.{TextPut};
+ghost use Rattle.report.specs.Shortened.{shortened};
 ghost use Rattle.report.specs.Between.Reported.{report_room};
 ghost use Rattle.shorten.specs.Shorten.{printed};
 
-use access::front;
 use lines::Page;
-use program::input::{Done, read};
-use program::opened::{Opened, open_input};
-use program::output::put_refusal;
-use program::parts::plan_part;
-use records::framing::{ALONE, WORDS};
+use program::answer::{Service, answer};
+use program::input::Done;
 use report::shortened::put_shortened;
 use std::io::Read;
 
-// Shortens the plan, unless the input is refused before.
-fn shorten_input(page: &mut Page, bytes: &[u8])
-    ensures { TextPut report_room page.old page.new (printed bytes.now) }
-{
-    let mut words = [0u32; WORDS];
-    let opened = open_input(bytes, 0, &mut words);
-    match opened {
-        Opened::Refused(refusal) => put_refusal(page, refusal),
-        Opened::Lodged { task, plan } => put_shortened(
-            page,
-            front(&words, task),
-            plan_part(&words, task, plan),
-        ),
+// The report of a plan that is shortened.
+struct Shortening;
+
+impl Service for Shortening {
+    ghost text = { shortened };
+
+    ghost room = { report_room };
+
+    ghost refusal_fits = { lit≤ tt };
+
+    fn put(&self, page: &mut Page, words: &[u32], plan: &[u32]) {
+        put_shortened(page, words, plan);
     }
 }
 
@@ -37,12 +33,5 @@ pub(crate) fn answer_input<R: Read>(reader: &mut R, bytes: &mut [u8], out: &mut 
     ensures done { HasDone 0 printed bytes.new result out.old out.new }
     ensures within { result.written ≤ length out.new }
 {
-    let input = read(reader, bytes, 0, ALONE);
-    let n = input.count;
-    let mut page = Page::new(out);
-    shorten_input(&mut page, &bytes[..n]);
-    Done {
-        input,
-        written: page.end,
-    }
+    answer(&Shortening, reader, bytes, out)
 }

@@ -1,45 +1,34 @@
 // What the program prints for the bytes of its input, put into lent bytes.
 ghost use Rattle.std.specs.Prelude.{◌≤◌, length};
-ghost use Rattle.program.specs.Between.Room.{line_room, TextPut};
+ghost use Rattle.std.proofs.Common.{lit≤};
 ghost use Rattle.program.specs.Printed.{HasDone};
+ghost use Rattle.program.specs.Between.Room.{line_room, TextPut};
 ghost use Rattle.validate.specs.Validate.{checked, printed};
 
-use access::front;
 use lines::Page;
 use plan::check::{Answer, check_plan};
-use program::input::{Done, read};
-use program::opened::{Opened, open_input};
+use program::answer::{Service, answer};
+use program::input::Done;
 use program::output::{put_refusal, put_tally};
-use program::parts::plan_part;
-use records::framing::{ALONE, WORDS};
 use std::io::Read;
 
-// Checks a plan.
-fn check(page: &mut Page, words: &[u32], plan: &[u32])
-    ensures { TextPut line_room page.old page.new
-        (checked words.now plan.now) }
-{
-    let checked = check_plan(words, plan);
-    let answer = checked.answer;
-    match answer {
-        Answer::Valid(tally) => put_tally(page, b"lodged", tally),
-        Answer::Refused(refusal) => put_refusal(page, refusal),
-    }
-}
+// The tally of a plan that is checked.
+struct Checking;
 
-// Checks the plan, unless the input is refused before it.
-fn check_input(page: &mut Page, bytes: &[u8])
-    ensures { TextPut line_room page.old page.new (printed bytes.now) }
-{
-    let mut words = [0u32; WORDS];
-    let opened = open_input(bytes, 0, &mut words);
-    match opened {
-        Opened::Refused(refusal) => put_refusal(page, refusal),
-        Opened::Lodged { task, plan } => check(
-            page,
-            front(&words, task),
-            plan_part(&words, task, plan),
-        ),
+impl Service for Checking {
+    ghost text = { checked };
+
+    ghost room = { line_room };
+
+    ghost refusal_fits = { lit≤ tt };
+
+    fn put(&self, page: &mut Page, words: &[u32], plan: &[u32]) {
+        let checked = check_plan(words, plan);
+        let answer = checked.answer;
+        match answer {
+            Answer::Valid(tally) => put_tally(page, b"lodged", tally),
+            Answer::Refused(refusal) => put_refusal(page, refusal),
+        }
     }
 }
 
@@ -49,12 +38,5 @@ pub(crate) fn answer_input<R: Read>(reader: &mut R, bytes: &mut [u8], out: &mut 
     ensures done { HasDone 0 printed bytes.new result out.old out.new }
     ensures within { result.written ≤ length out.new }
 {
-    let input = read(reader, bytes, 0, ALONE);
-    let n = input.count;
-    let mut page = Page::new(out);
-    check_input(&mut page, &bytes[..n]);
-    Done {
-        input,
-        written: page.end,
-    }
+    answer(&Checking, reader, bytes, out)
 }
