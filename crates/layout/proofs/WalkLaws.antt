@@ -1,9 +1,9 @@
 -- A walk along words, section by section: one section, two walks one after the other, the actions, and the words that no section takes. Assumes nothing.
-use Prim.Native.Nat.{ℕ, ◌+◌, ◌-◌, ◌≤◌, ◌<◌, max}
+use Prim.Native.Nat.{ℕ, ◌+◌, ◌-◌, ◌≤◌, ◌<◌}
 use native.Mathlib.Nat.{sub-zero}
-use mathlib.Core.Path.{◌≡◌, refl, sym, ◌∙◌, ap, subst}
+use mathlib.Core.Path.{◌≡◌, refl, ◌∙◌, ap, subst}
 use mathlib.Core.List.{List, [], ◌∷◌, ◌++◌, append_assoc}
-use lib.ListN.{length, take, drop}
+use lib.ListN.{take}
 use Rattle.refusal.proofs.PlaceLaws.{one_fewer, none_left}
 use Rattle.ascii.specs.Bytes.{ascii}
 use Rattle.lines.specs.Puts.{Puts}

@@ -1,5 +1,4 @@
 -- `put_comment` meets its contract: a sign, and a line. Assumes nothing.
-use mathlib.Core.Path.{refl}
 use Rattle.lines.specs.Lines.{spaced}
 use Rattle.lines.proofs.PutsLaws.{puts_both}
 use Rattle.layout.proofs.sections.put_comment.Goals as goal
