@@ -6,8 +6,9 @@ use mathlib.Core.Path.{◌≡◌, sym, ◌∙◌, ap, subst}
 use mathlib.Core.Option.{none, some}
 use mathlib.Core.List.{List, ◌++◌}
 use lib.ListN.{length, length-map, length-append}
-use Rattle.lines.specs.Prints.{Prints}
-use Rattle.lines.proofs.PrintLaws.{prints_both}
+use Rattle.lines.specs.Puts.{Puts}
+use Rattle.lines.specs.declared.Page.{Page}
+use Rattle.lines.proofs.PutsLaws.{puts_both}
 use Rattle.refusal.specs.declared.Refusal.{Refusal}
 use Rattle.refusal.specs.Refusal.{told_refusal}
 use Rattle.refusal.specs.Check.{answer}
@@ -35,9 +36,9 @@ use Rattle.claim_report.specs.Licensed.{claim_line, licensed}
 use Rattle.claim_report.specs.Between.LicenceRoom.{licence_room}
 
 -- the line of a claim is that of its case
-pub claim_put : {claim case : Claim} {at : ℕ} {before after : List ℕ} {end : ℕ} → claim ≡ case → Prints (claim_line case) at before after end
-    → length (claim_line case) ≤ line_room → PutsLines 1 (claim_line claim) at before after end
-claim_put is prints short = rw is (record { prints = prints; short = omega (arith, short) })
+pub claim_put : {claim case : Claim} {before after : Page} → claim ≡ case → Puts (claim_line case) before after
+    → length (claim_line case) ≤ line_room → PutsLines 1 (claim_line claim) before after
+claim_put is puts short = rw is (record { puts = puts; short = omega (arith, short) })
 
 module _ (w l before : List ℕ) (r : Licensing) (after : List ℕ) (room : length before ≡ most_steps) (answered : Licenses w l before r after) where
   licenses : LicensesOf w l before r after
@@ -57,24 +58,24 @@ module _ (w l before : List ℕ) (r : Licensing) (after : List ℕ) (room : leng
         let fits : length (licensed_of w l) ≡ length l = licence.valid_left.fits ∙ length-map l (action w) in
         told_reported _ w l _ before r.told after licenses.answers kept is licenses.lodged licenses.marks fits readable.few
 
-    pub licensed_report : {out between out' : List ℕ} {middle end : ℕ} → PutsLines 1 (claim_line r.claim) 0 out between middle
-        → PutsLines (3 + length l) (report w l (licensed_of w l)) middle between out' end → TextPut licence_room out out' end (licensed w l)
+    pub licensed_report : {page between page' : Page} → PutsLines 1 (claim_line r.claim) page between
+        → PutsLines (3 + length l) (report w l (licensed_of w l)) between page' → TextPut licence_room page page' (licensed w l)
     unfolding licensed
-    licensed_report {out} {between} {out'} {middle} {end} first rest =
+    licensed_report {page} {between} first rest =
         let claimed : r.claim ≡ claim_of w l = rw passes at licenses.claims in
-        let claims : PutsLines 1 (claim_line (claim_of w l)) 0 out between middle = rw claimed at first in
+        let claims : PutsLines 1 (claim_line (claim_of w l)) page between = rw claimed at first in
         let long = length-append (claim_line (claim_of w l)) (report w l (licensed_of w l)) in
         let fits : length (claim_line (claim_of w l) ++ report w l (licensed_of w l)) ≤ licence_room = omega (arith, long, claims.short, rest.short, readable.few) in
         let here : answer (reduction_checks w l most_steps) ≡ none = subst (λ n. answer (reduction_checks w l n) ≡ none) room passes in
-        rw (licensed, here) (prints_both claims.prints rest.prints, fits)
+        rw (licensed, here) (puts_both claims.puts rest.puts, fits)
 
   -- or refused
-  pub licensed_refusal : (refusal : Refusal) → r.told.answer ≡ Err refusal → {out out' : List ℕ} {end : ℕ}
-      → Prints (refusal_line (told_refusal refusal)) 0 out out' end → length (refusal_line (told_refusal refusal)) ≤ line_room
-      → TextPut licence_room out out' end (licensed w l)
+  pub licensed_refusal : (refusal : Refusal) → r.told.answer ≡ Err refusal → {page page' : Page}
+      → Puts (refusal_line (told_refusal refusal)) page page' → length (refusal_line (told_refusal refusal)) ≤ line_room
+      → TextPut licence_room page page' (licensed w l)
   unfolding licensed
-  licensed_refusal refusal is prints short =
+  licensed_refusal refusal is puts short =
       let fires : answer (reduction_checks w l (length before)) ≡ some (told_refusal refusal) = sym licenses.answers.refusal ∙ ap told_answer is in
       let fits : length (refusal_line (told_refusal refusal)) ≤ licence_room = omega (arith, short) in
       let here : answer (reduction_checks w l most_steps) ≡ some (told_refusal refusal) = subst (λ n. answer (reduction_checks w l n) ≡ some (told_refusal refusal)) room fires in
-      rw (licensed, here) (prints, fits)
+      rw (licensed, here) (puts, fits)

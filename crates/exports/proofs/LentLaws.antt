@@ -10,7 +10,7 @@ use lib.ListN.{length, take, drop, take-append-drop}
 use lib.Seq.{sets, sets-eq}
 use Rattle.refusal.specs.declared.Refusal.{Refusal}
 use Rattle.refusal.specs.Refusal.{Verdict}
-use Rattle.refusal.specs.Refusal.{told}
+use Rattle.refusal.specs.Refusal.{told, verdict_in, count_in}
 use Rattle.plan.specs.Checked.{Answer}
 use Rattle.plan.specs.Checked.{plan_checks, told_answer, told_tally, Checks}
 use Rattle.sheet.specs.Limits.{limits}
@@ -78,7 +78,7 @@ told_as : {text output output' : List ℕ} {given : Result ℕ Refusal} → Answ
 told_as {text} {output} checks = subst (λ t. ToldOfBytes text (length output) t (text_sheet text)) (sym checks.answers) (told_of_bytes text (length output))
 
 module _ {text output output' out out' : List ℕ} where
-  pub text_refused : {x : Refusal} → AnswersChecks text output (Err x) output' → out' ≡ sets out 0 (answer_words (told (Err x)) ++ (0 ∷ []))
+  text_refused : {x : Refusal} → AnswersChecks text output (Err x) output' → out' ≡ sets out 0 (answer_words (told (Err x)) ++ (0 ∷ []))
       → TranslatesLent text output output' out out'
   text_refused {x} refuses written =
       record {
@@ -89,7 +89,7 @@ module _ {text output output' out out' : List ℕ} where
         answered = written;
       }
 
-  pub text_written : {n : ℕ} → AnswersChecks text output (Ok n) output' → out' ≡ sets out 0 (answer_words (told (Ok tt)) ++ (n ∷ []))
+  text_written : {n : ℕ} → AnswersChecks text output (Ok n) output' → out' ≡ sets out 0 (answer_words (told (Ok tt)) ++ (n ∷ []))
       → TranslatesLent text output output' out out'
   text_written {n} writes written =
       let counted : n ≡ length (text_sheet text) = writes.leaves.counted in
@@ -102,3 +102,8 @@ module _ {text output output' out out' : List ℕ} where
         sheet_left = left;
         answered = rw counted at written;
       }
+
+  pub text_lent : (given : Result ℕ Refusal) → AnswersChecks text output given output'
+      → out' ≡ sets out 0 (answer_words (told (verdict_in given)) ++ (count_in given ∷ [])) → TranslatesLent text output output' out out'
+  text_lent (Ok n) writes written = text_written writes written
+  text_lent (Err x) refuses written = text_refused refuses written

@@ -8,6 +8,7 @@ ghost use Rattle.words.specs.Found.{ReadsLent, OpensLent};
 
 use claim_report::put_licensed;
 use layout::shown::show;
+use lines::Page;
 use program::pack::pack;
 use report::shortened::put_shortened;
 use words::{open_record, read_text};
@@ -17,7 +18,9 @@ use words::{open_record, read_text};
 pub extern "C" fn hollchiku_pack(words: &[u32], bytes: &mut [u8]) -> u64
     ensures { Prints (all_bytes words.now) 0 bytes.old bytes.new result }
 {
-    pack(words, bytes) as u64
+    let mut page = Page::new(bytes);
+    pack(&mut page, words);
+    page.end as u64
 }
 
 // Reads a text of words: they go to the front of `words`; 0 and how many they are go to `out`, or what is wrong: 1 and
@@ -49,7 +52,9 @@ pub extern "C" fn hollchiku_open(bytes: &[u8], words: &mut [u32], out: &mut [u64
 pub extern "C" fn hollchiku_text_of(bytes: &[u8], text: &mut [u8]) -> u64
     ensures { Prints (shown bytes.now) 0 text.old text.new result }
 {
-    show(bytes, text) as u64
+    let mut page = Page::new(text);
+    show(&mut page, bytes);
+    page.end as u64
 }
 
 // Prints the licence of a plan: the lines that the program `license` prints go to the front of `text`; how many bytes
@@ -59,7 +64,9 @@ pub extern "C" fn hollchiku_license_lines(words: &[u32], plan: &[u32], text: &mu
     ensures { Prints (licensed words.now plan.now) 0
         text.old text.new result }
 {
-    put_licensed(words, plan, text) as u64
+    let mut page = Page::new(text);
+    put_licensed(&mut page, words, plan);
+    page.end as u64
 }
 
 // Prints the minimal reduction of a plan, as the program `shorten` does, in the same form.
@@ -68,5 +75,7 @@ pub extern "C" fn hollchiku_shorten_lines(words: &[u32], plan: &[u32], text: &mu
     ensures { Prints (shortened words.now plan.now) 0
         text.old text.new result }
 {
-    put_shortened(words, plan, text) as u64
+    let mut page = Page::new(text);
+    put_shortened(&mut page, words, plan);
+    page.end as u64
 }

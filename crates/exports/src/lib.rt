@@ -30,11 +30,11 @@ use course::plan_course;
 use elimination::single::Elimination;
 use landmark::marks::marks_mask;
 use lent::{
-    read_state, write_answer, write_counted, write_front, write_pair, write_verdict, write_wide,
+    read_state, write_answer, write_checked, write_counted, write_front, write_pair, write_verdict,
 };
+use mask::Mask;
 use moves::rows::plan_moves;
 use plan::check::check_plan;
-use refusal::Refusal;
 use sheet_check::check::check_sheet;
 use step::one::step;
 use striking::{eliminate, eliminate_both, eliminate_cheaper, license_plan, minimise};
@@ -79,7 +79,7 @@ pub extern "C" fn hollchiku_tally_compare(
         cost: cost_b,
         steps: steps_b,
     };
-    match first.compare(second) {
+    match first.cmp(&second) {
         Ordering::Less => 0,
         Ordering::Equal => 1,
         Ordering::Greater => 2,
@@ -113,12 +113,7 @@ pub extern "C" fn hollchiku_check_plan(
     ensures { ChecksLent words.now plan.now
         state.old state.new out.old out.new }
 {
-    let checked = check_plan(words, plan);
-    let end = checked.state;
-    let values = end.values;
-    let given = checked.answer;
-    put_all(state, &values);
-    write_answer(out, given);
+    write_checked(state, out, check_plan(words, plan));
 }
 
 // The states along a plan go to the front of `states`, one behind the other, each a value for each variable: the
@@ -129,10 +124,7 @@ pub extern "C" fn hollchiku_course(words: &[u32], plan: &[u32], states: &mut [u3
     ensures { CoursesLent words.now plan.now
         states.old states.new out.old out.new }
 {
-    let reached = plan_course(words, plan, states);
-    let verdict = reached.verdict;
-    let count = reached.count;
-    write_counted(out, verdict, count);
+    write_counted(out, plan_course(words, plan, states));
 }
 
 // The moves of a plan: a row of nine words for each step goes to the front of `rows`, one behind the other: its cost; 1
@@ -162,12 +154,16 @@ pub extern "C" fn hollchiku_marks(words: &[u32], plan: &[u32], mask: &mut [u64],
     ensures { MarksLent words.now plan.now
         mask.old mask.new out.old out.new }
 {
-    let marked = marks_mask(words, plan);
-    let verdict = marked.verdict;
-    let marks = marked.mask;
-    let bits = marks.words;
-    write_wide(mask, &bits);
-    write_verdict(out, verdict);
+    match marks_mask(words, plan) {
+        Ok(marks) => {
+            put_all(mask, &marks.words);
+            write_verdict(out, Ok(()));
+        }
+        Err(refusal) => {
+            put_all(mask, &[0u64; Mask::WORDS]);
+            write_verdict(out, Err(refusal));
+        }
+    }
 }
 
 // Elimination: the kept action numbers go to the front of `output`, the four words of their mask to `mask`, and the
@@ -309,8 +305,5 @@ pub extern "C" fn hollchiku_translate(text: &[u8], output: &mut [u32], out: &mut
     ensures { TranslatesLent text.now output.old output.new
         out.old out.new }
 {
-    match translate(text, output) {
-        Ok(words) => write_counted(out, Ok(()), words),
-        Err(refusal) => write_counted(out, Err(refusal), 0),
-    }
+    write_counted(out, translate(text, output));
 }

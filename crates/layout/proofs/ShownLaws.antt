@@ -1,12 +1,10 @@
 -- The text of bytes, by the form that they have, and what is shown of them, by how many they are. Assumes nothing.
 use Prim.Native.Nat.{ℕ, ◌*◌, ◌/◌, ◌%◌, ◌≤◌, ◌<◌}
 use native.Mathlib.Omega.{arith}
-use mathlib.Core.Path.{◌≡◌, sym, ◌∙◌, ap, subst}
-use mathlib.Core.List.{List}
+use mathlib.Core.Path.{◌≡◌, sym, ◌∙◌, ap}
+use mathlib.Core.List.{List, []}
 use lib.ListN.{length, take}
 use borrow.Author.Tests.{lt-ltb, le-ltb, eq-eqb, ne_eqb}
-use Rattle.lines.specs.Prints.{Prints}
-use Rattle.lines.proofs.PrintLaws.{prints_nothing}
 use Rattle.sheet.specs.Limits.{limits}
 use Rattle.sheet.specs.Layout.{actions}
 use Rattle.sheet.proofs.TableLaws.{table_take}
@@ -24,34 +22,34 @@ module _ (n : ℕ) (ws task : List ℕ) (count : ℕ) (these : task ≡ take n w
   same_count : actions (take n ws) ≡ count
   same_count = ap actions (sym these) ∙ sym counted
 
-  pub whole_plain : {out out' : List ℕ} {e : ℕ} → limits.actions < count → Prints (rows ws) 0 out out' e → Prints (text_whole n ws) 0 out out' e
+  pub whole_plain : limits.actions < count → rows ws ≡ text_whole n ws
   unfolding text_whole
-  whole_plain many p = rw (text_whole, same_count, lt-ltb limits.actions count many) p
+  whole_plain many = rw (text_whole, same_count, lt-ltb limits.actions count many)
 
-  pub whole_record : {out out' : List ℕ} {e : ℕ} → count ≤ limits.actions → Prints (record_text n ws) 0 out out' e → Prints (text_whole n ws) 0 out out' e
+  pub whole_record : count ≤ limits.actions → record_text n ws ≡ text_whole n ws
   unfolding text_whole
-  whole_record few p = rw (text_whole, same_count, le-ltb limits.actions count few) p
+  whole_record few = rw (text_whole, same_count, le-ltb limits.actions count few)
 
 -- the words of bytes, at the front of an array
-pub text_put : {out out' : List ℕ} {e : ℕ} (bytes space words : List ℕ) (f : Result Extent Fault) (room : ℕ) → length bytes ≤ word_bytes * most → room ≡ most → space ≡ unpacked bytes room
-    → words ≡ take (length bytes / word_bytes) space → f ≡ input_form 0 bytes → Prints (text_framed f words) 0 out out' e → Prints (text_of bytes) 0 out out' e
+pub text_is : (bytes space words : List ℕ) (f : Result Extent Fault) (room : ℕ) → length bytes ≤ word_bytes * most → room ≡ most → space ≡ unpacked bytes room
+    → words ≡ take (length bytes / word_bytes) space → f ≡ input_form 0 bytes → text_framed f words ≡ text_of bytes
 unfolding text_of
-text_put {out} {out'} {e} bytes space words f room few all unpacks are framed p =
+text_is bytes space words f room few all unpacks are framed =
     let low : length bytes / word_bytes ≤ room = omega arith in
     let these : words ≡ words_in bytes = are ∙ ap (take (length bytes / word_bytes)) unpacks ∙ table_take (word_at bytes) 0 (length bytes / word_bytes) room low in
-    subst (λ t. Prints t 0 out out' e) (ap (λ g. text_framed g words) framed ∙ ap (text_framed (input_form 0 bytes)) these) p
+    ap (λ g. text_framed g words) framed ∙ ap (text_framed (input_form 0 bytes)) these
 
 -- what is shown of bytes, by how many they are
 module _ (bytes : List ℕ) where
-  pub shown_long : (out : List ℕ) → word_bytes * most < length bytes → Prints (shown bytes) 0 out out 0
+  pub shown_long : word_bytes * most < length bytes → [] ≡ shown bytes
   unfolding shown
-  shown_long out long = rw (shown, lt-ltb (word_bytes * most) (length bytes) long) (prints_nothing 0 out 0 (omega arith))
+  shown_long long = rw (shown, lt-ltb (word_bytes * most) (length bytes) long)
 
   module _ (few : length bytes ≤ word_bytes * most) where
-    pub shown_broken : (out : List ℕ) → (length bytes % word_bytes ≡ 0 → ⊥) → Prints (shown bytes) 0 out out 0
+    pub shown_broken : (length bytes % word_bytes ≡ 0 → ⊥) → [] ≡ shown bytes
     unfolding shown
-    shown_broken out broken = rw (shown, le-ltb (word_bytes * most) (length bytes) few, ne_eqb (length bytes % word_bytes) 0 broken) (prints_nothing 0 out 0 (omega arith))
+    shown_broken broken = rw (shown, le-ltb (word_bytes * most) (length bytes) few, ne_eqb (length bytes % word_bytes) 0 broken)
 
-    pub shown_whole : {out out' : List ℕ} {n : ℕ} → length bytes % word_bytes ≡ 0 → Prints (text_of bytes) 0 out out' n → Prints (shown bytes) 0 out out' n
+    pub shown_whole : length bytes % word_bytes ≡ 0 → text_of bytes ≡ shown bytes
     unfolding shown
-    shown_whole whole p = rw (shown, le-ltb (word_bytes * most) (length bytes) few, eq-eqb (length bytes % word_bytes) 0 whole) p
+    shown_whole whole = rw (shown, le-ltb (word_bytes * most) (length bytes) few, eq-eqb (length bytes % word_bytes) 0 whole)

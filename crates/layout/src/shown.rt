@@ -1,12 +1,13 @@
 // The text of the words that bytes are: a task with its plan in sections, other words in plain lines.
 ghost use Rattle.std.specs.Prelude.{◌*◌, ◌≤◌, length};
-ghost use Rattle.lines.specs.Prints.{Prints};
+ghost use Rattle.lines.specs.Puts.{Puts};
 ghost use Rattle.records.specs.RecordForm.{word_bytes};
 ghost use Rattle.text.specs.Limits.{most};
 ghost use Rattle.layout.specs.Shown.{text_whole, text_of, shown};
 
 use crate::sections::put_record;
 use access::front;
+use lines::Page;
 use records::framing::frame_input;
 use records::unpack::unpack;
 use records::word::WORD;
@@ -16,38 +17,34 @@ use text::limits::MOST;
 use word_rows::put_rows;
 
 // Puts words of which the first `task` may be a task, with its plan behind it.
-fn put_whole(out: &mut [u8], words: &[u32], task: usize) -> usize
-    ensures { Prints (text_whole task words.now) 0 out.old out.new result }
+fn put_whole(page: &mut Page, words: &[u32], task: usize)
+    ensures { Puts (text_whole task words.now) page.old page.new }
 {
     if Sheet::ACTIONS < actions(front(words, task)) {
-        return put_rows(out, 0, words);
+        return put_rows(page, words);
     }
-    put_record(out, words, task)
+    put_record(page, words, task);
 }
 
 // Puts the words of bytes.
-fn put_bytes(out: &mut [u8], bytes: &[u8]) -> usize
+fn put_bytes(page: &mut Page, bytes: &[u8])
     requires { length bytes.now ≤ word_bytes * most }
-    ensures { Prints (text_of bytes.now) 0 out.old out.new result }
+    ensures { Puts (text_of bytes.now) page.old page.new }
 {
     let mut space = [0u32; MOST];
     unpack(bytes, &mut space);
     let words = front(&space, bytes.len() / WORD);
     match frame_input(bytes, 0) {
-        Ok(extent) => put_whole(out, words, extent.task),
-        Err(_) => put_rows(out, 0, words),
+        Ok(extent) => put_whole(page, words, extent.task),
+        Err(_) => put_rows(page, words),
     }
 }
 
 // Shows bytes: the text of the words that they are, or nothing where they are too many or the last breaks off.
-pub fn show(bytes: &[u8], out: &mut [u8]) -> usize
-    ensures { Prints (shown bytes.now) 0 out.old out.new result }
+pub fn show(page: &mut Page, bytes: &[u8])
+    ensures { Puts (shown bytes.now) page.old page.new }
 {
-    if WORD * MOST < bytes.len() {
-        return 0;
+    if bytes.len() <= WORD * MOST && bytes.len() % WORD == 0 {
+        put_bytes(page, bytes);
     }
-    if bytes.len() % WORD != 0 {
-        return 0;
-    }
-    put_bytes(out, bytes)
 }

@@ -1,35 +1,37 @@
 // What the program prints for the bytes of its input, put into lent bytes.
 ghost use Rattle.std.specs.Prelude.{◌≤◌, length};
+ghost use Rattle.std.proofs.Common.{lit≤};
 ghost use Rattle.program.specs.Printed.{HasDone};
-ghost use Rattle.program.specs.Between.Room.{TextPut};
+ghost use Rattle.claim_report.specs.Licensed.{licensed};
 ghost use Rattle.claim_report.specs.Between.LicenceRoom.{licence_room};
 ghost use Rattle.license.specs.License.{printed};
 
 use claim_report::put_licensed;
-use program::input::{Done, read};
-use program::opened::open_input;
-use program::output::put_refusal;
-use records::framing::{ALONE, WORDS};
+use lines::Page;
+use program::answer::{Service, answer};
+use program::input::Done;
 use std::io::Read;
 
-// Licenses the plan, unless the input is refused before.
-fn license_input(bytes: &[u8], out: &mut [u8]) -> usize
-    ensures { TextPut licence_room out.old out.new result (printed bytes.now) }
-{
-    let mut words = [0u32; WORDS];
-    match open_input(bytes, 0, &mut words) {
-        Err(refusal) => put_refusal(out, 0, refusal),
-        Ok(extent) => put_licensed(extent.task_words(&words), extent.plan_words(&words), out),
+// The claim and the report of a plan that is licensed.
+struct Licensing;
+
+impl Service for Licensing {
+    ghost text = { licensed };
+
+    ghost room = { licence_room };
+
+    ghost refusal_fits = { lit≤ tt };
+
+    fn put(&self, page: &mut Page, words: &[u32], plan: &[u32]) {
+        put_licensed(page, words, plan);
     }
 }
 
 // Reads the input from `reader` to the front of `bytes`, and puts what is printed for it to the front of `out`.
 pub(crate) fn answer_input<R: Read>(reader: &mut R, bytes: &mut [u8], out: &mut [u8]) -> Done
     requires { licence_room ≤ length out.old }
-    ensures { HasDone 0 printed bytes.new result out.old out.new }
+    ensures done { HasDone 0 printed bytes.new result out.old out.new }
+    ensures within { result.written ≤ length out.new }
 {
-    let input = read(reader, bytes, 0, ALONE);
-    let n = input.count;
-    let written = license_input(&bytes[..n], out);
-    Done { input, written }
+    answer(&Licensing, reader, bytes, out)
 }

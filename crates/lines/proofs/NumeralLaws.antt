@@ -3,15 +3,14 @@
 use Prim.Native.Nat.{ℕ, zero, suc, ◌-◌, ◌/◌, ◌%◌, ◌^◌, ◌≤◌, ◌<◌}
 use native.Mathlib.Omega.{arith}
 use native.Mathlib.Nat.{pow-suc, mod-lt, mod-eq_of_lt, div-lt_iff_lt-mul, le-div_iff_mul-le}
-use mathlib.Core.Path.{◌≡◌, refl, ◌∙◌, subst}
+use mathlib.Core.Path.{◌≡◌, refl}
 use mathlib.Core.Bool.{Bool, true, false}
-use mathlib.Core.List.{List, [], ◌∷◌, ◌++◌}
+use mathlib.Core.List.{[], ◌∷◌, ◌++◌}
 use lib.ListN.{length, length-append}
 use lib.Dec.{ltb, lit<}
 use borrow.Author.Tests.{lt-ltb, le-ltb, ltb-true, ltb-false}
 use Rattle.io.specs.Digits.{hex_digit_ascii, last_digits, IsDigitCount}
 use Rattle.lines.specs.Lines.{digit_sign, numeral_within, numeral}
-use Rattle.lines.specs.Prints.{Prints}
 
 last_sign : (x : ℕ) → hex_digit_ascii (x % 10) ≡ digit_sign (x % 10)
 last_sign x = rw (lt-ltb (x % 10) 10 (mod-lt x (lit< tt)))
@@ -63,11 +62,6 @@ numeral_digits k x fewest = digits_within (suc x) k x (enough k fewest) fewest
         let last : suc (suc j) - 1 ≡ suc j = omega arith in
         let high : 10 ^ (suc j) ≤ x = rw last at (none_less (omega arith)) in
         omega (arith, power_above (suc j))
-
--- so to put those digits is to put the numeral
-pub prints_numeral : {ds : List ℕ} {at : ℕ} {before after : List ℕ} {end : ℕ} (k x : ℕ) → IsDigitCount 10 1 x k → ds ≡ last_digits 10 k x → Prints ds at before after end
-    → Prints (numeral x) at before after end
-prints_numeral {at = at} {before = before} {after = after} {end = end} k x fewest are p = subst (λ t. Prints t at before after end) (are ∙ numeral_digits k x fewest) p
 
 within_length : (n k x : ℕ) → x < 10 ^ k → 1 ≤ k → length (numeral_within n x) ≤ k
 unfolding numeral_within

@@ -1,13 +1,11 @@
--- A text put behind another is both put at once, also where the room ends within one of them; and what that says of texts that are put byte by byte
--- or number by number. By walking along the first text. Assumes nothing.
-use Prim.Native.Nat.{ℕ, suc, ◌+◌, ◌≤◌, ◌<◌, min}
+-- A text put behind another is both put at once, also where the room ends within one of them. By walking along the first text. Assumes nothing.
+use Prim.Native.Nat.{ℕ, suc, ◌+◌, ◌≤◌, min}
 use native.Mathlib.Omega.{arith}
-use native.Mathlib.Numerals.{add-one}
-use mathlib.Core.Path.{◌≡◌, refl, sym, ◌∙◌, ap, subst}
+use mathlib.Core.Path.{◌≡◌, refl, sym, ◌∙◌, ap}
 use mathlib.Core.Bool.{Bool, true, false}
 use mathlib.Core.List.{List, [], ◌∷◌, ◌++◌, append_assoc, append-nil}
-use lib.ListN.{length, get_or, set, take, length-append, length-set}
-use lib.Seq.{sets, set_out, take-suc, length-sets}
+use lib.ListN.{length, set, length-append, length-set}
+use lib.Seq.{sets, set_out, length-sets}
 use lib.Dec.{leb}
 use borrow.Author.Tests.{leb-true, leb-false}
 use Rattle.ascii.specs.Bytes.{space}
@@ -15,7 +13,7 @@ use Rattle.lines.specs.Lines.{numeral, spaced}
 use Rattle.lines.specs.Prints.{Prints}
 
 -- past the end nothing is stored
-sets_past : (l vs : List ℕ) (i : ℕ) → length l ≤ i → sets l i vs ≡ l
+pub sets_past : (l vs : List ℕ) (i : ℕ) → length l ≤ i → sets l i vs ≡ l
 sets_past l [] i h = refl
 sets_past l (v ∷ vs) i h = rw (set_out l i v h) (sets_past l vs (suc i) (omega arith))
 
@@ -29,7 +27,7 @@ from_end l vs i = by_case (leb i (length l)) refl
         let past : min i (length l) ≡ length l = omega (arith, leb-false i (length l) e) in
         rw past (sets_past l vs (length l) (omega arith) ∙ sym (sets_past l vs i (omega (arith, leb-false i (length l) e))))
 
-sets_both : (l ts us : List ℕ) (i : ℕ) → sets (sets l i ts) (min (i + length ts) (length l)) us ≡ sets l i (ts ++ us)
+pub sets_both : (l ts us : List ℕ) (i : ℕ) → sets (sets l i ts) (min (i + length ts) (length l)) us ≡ sets l i (ts ++ us)
 sets_both l [] us i = let same : i + 0 ≡ i = omega arith in rw same (from_end l us i)
 sets_both l (t ∷ ts) us i =
     let shifted : i + suc (length ts) ≡ suc i + length ts = omega arith in
@@ -48,31 +46,15 @@ prints_both {t} {u} {at} {before} first second =
 pub prints_nothing : (at : ℕ) (before : List ℕ) (end : ℕ) → end ≡ min at (length before) → Prints [] at before before end
 prints_nothing at before end is = record { written = refl; ends = is ∙ omega arith }
 
-pub spaced_nothing : (at : ℕ) (before : List ℕ) (end : ℕ) → end ≡ min at (length before) → Prints (spaced []) at before before end
-unfolding spaced
-spaced_nothing at before end is = prints_nothing at before end is
-
 -- no byte is added or lost, and a text ends within them
-pub prints_length : {t : List ℕ} {at : ℕ} {before after : List ℕ} {end : ℕ} → Prints t at before after end → length after ≡ length before
+prints_length : {t : List ℕ} {at : ℕ} {before after : List ℕ} {end : ℕ} → Prints t at before after end → length after ≡ length before
 prints_length {t} {at} {before} p = rw p.written (length-sets before at t)
 
 pub prints_within : {t : List ℕ} {at : ℕ} {before after : List ℕ} {end : ℕ} → Prints t at before after end → end ≤ length after
 prints_within p = omega (arith, p.ends, prints_length p)
 
 -- the last of numbers that each stand behind a space
-spaced_last : (xs : List ℕ) (x : ℕ) → spaced (xs ++ (x ∷ [])) ≡ spaced xs ++ (space ∷ numeral x)
+pub spaced_last : (xs : List ℕ) (x : ℕ) → spaced (xs ++ (x ∷ [])) ≡ spaced xs ++ (space ∷ numeral x)
 unfolding spaced
 spaced_last [] x = ap (λ t. space ∷ t) (append-nil (numeral x))
 spaced_last (y ∷ xs) x = ap (λ t. space ∷ t) (ap (λ t. numeral y ++ t) (spaced_last xs x) ∙ sym (append_assoc (numeral y) (spaced xs) (space ∷ numeral x)))
-
-module _ {at : ℕ} {before between after : List ℕ} {middle end : ℕ} where
-  -- one byte more of a text
-  pub prints_byte : (text : List ℕ) (i : ℕ) → i < length text → Prints (take i text) at before between middle → Prints (get_or text i 0 ∷ []) middle between after end
-      → Prints (take (i + 1) text) at before after end
-  prints_byte text i h first second = rw (add-one i, take-suc text i 0 h) (prints_both first second)
-
-  -- one number more of those that each stand behind a space
-  pub prints_spaced : (numbers : List ℕ) (i : ℕ) {blank : List ℕ} {digits : ℕ} → i < length numbers → Prints (spaced (take i numbers)) at before between middle
-      → Prints (space ∷ []) middle between blank digits → Prints (numeral (get_or numbers i 0)) digits blank after end → Prints (spaced (take (i + 1) numbers)) at before after end
-  prints_spaced numbers i h first second third =
-      rw (add-one i, take-suc numbers i 0 h) (subst (λ t. Prints t at before after end) (sym (spaced_last (take i numbers) (get_or numbers i 0))) (prints_both first (prints_both second third)))

@@ -1,93 +1,100 @@
-// Lines of text in a lent slice of bytes. Each function puts its text behind the first `at` bytes and answers where it
-// ends; what does not fit is dropped, so that none asks for room.
+// Lines of text on a page: lent bytes that take text from the front on. What does not fit is dropped, so that no
+// method asks for room.
 #![tactic(auto)]
 
-ghost use Rattle.lines.specs.Lines.{numeral, spaced, line, row};
-ghost use Rattle.lines.specs.Prints.{Prints};
-ghost use Rattle.std.specs.Prelude.{◌≡◌, [], ◌∷◌, min};
-
-use access::put8;
+ghost use Rattle.std.specs.Prelude.{◌≡◌, ◌≤◌, length, take};
 
 // What begins a number that does not begin its line, and what ends a line.
-const SPACE: u8 = b' ';
+const SPACE: &[u8] = b" ";
 
-const LINE_END: u8 = b'\n';
+const LINE_END: &[u8] = b"\n";
 
 // The most digits of a number.
 const DIGITS: usize = 20;
 
-// The smaller of two numbers.
-fn least(a: usize, b: usize) -> usize
-    ensures { result ≡ min a b }
-{
-    if a < b { a } else { b }
+// Lent bytes, of which those before `end` hold text.
+#[derive(Drop)]
+pub struct Page<'a> {
+    pub bytes: &'a mut [u8],
+    pub end: usize,
+    ghost within: { end ≤ length bytes.now },
 }
 
-// Puts a byte.
-fn put_byte(out: &mut [u8], at: usize, byte: u8) -> usize
-    ensures { Prints (byte ∷ []) at out.old out.new result }
-{
-    put8(out, at, byte);
-    if at < out.len() { at + 1 } else { out.len() }
-}
+impl<'a> Page<'a> {
+    ghost use Rattle.std.specs.Prelude.{List, ℕ, []};
+    ghost use Rattle.std.specs.List.{AllZip};
+    ghost use Rattle.lines.specs.Lines.{numeral, spaced, line, row};
+    ghost use Rattle.lines.specs.Puts.{Puts};
 
-// Puts a text.
-pub fn put_text(out: &mut [u8], at: usize, text: &[u8]) -> usize
-    ensures { Prints text.now at out.old out.new result }
-{
-    let mut end = least(at, out.len());
-    let mut i = 0;
-    while i < text.len() {
-        end = put_byte(out, end, text[i]);
-        i += 1;
+    // A page with no text yet.
+    pub fn new(bytes: &'a mut [u8]) -> Page<'a>
+        ensures same { result.bytes.ghost_name ≡ bytes.entry.ghost_name }
+        ensures kept { result.bytes.now ≡ bytes.old }
+        ensures empty { result.end ≡ 0 }
+    {
+        Page { bytes, end: 0 }
     }
-    end
-}
 
-// Puts a number in decimal.
-pub fn put_number(out: &mut [u8], at: usize, number: u64) -> usize
-    ensures { Prints (numeral number) at out.old out.new result }
-{
-    let mut digits = [0u8; DIGITS];
-    let n = io::decimal(number, &mut digits);
-    put_text(out, at, &digits[..n])
-}
-
-// Puts numbers, each behind a space.
-pub fn put_spaced(out: &mut [u8], at: usize, numbers: &[u64]) -> usize
-    ensures { Prints (spaced numbers.now) at out.old out.new result }
-{
-    let mut end = least(at, out.len());
-    let mut i = 0;
-    while i < numbers.len() {
-        let number = put_byte(out, end, SPACE);
-        end = put_number(out, number, numbers[i]);
-        i += 1;
+    // What has been put.
+    pub fn written(&self) -> &[u8]
+        ensures { result.now ≡ take self.now.end self.now.bytes.now }
+    {
+        &self.bytes[..self.end]
     }
-    end
-}
 
-// Puts numbers, each behind a space, and ends the line.
-fn end_line(out: &mut [u8], at: usize, numbers: &[u64]) -> usize
-    ensures { Prints (line [] numbers.now) at out.old out.new result }
-{
-    let end = put_spaced(out, at, numbers);
-    put_byte(out, end, LINE_END)
-}
+    // Puts a text.
+    pub fn text(&mut self, text: &[u8])
+        ensures { Puts text.now self.old self.new }
+    {
+        let n = text.len().min(self.bytes.len() - self.end);
+        let end = self.end + n;
+        self.bytes[self.end..end].copy_from_slice(&text[..n]);
+        self.end = end;
+    }
 
-// Puts a line of a word and numbers.
-pub fn put_line(out: &mut [u8], at: usize, word: &[u8], numbers: &[u64]) -> usize
-    ensures { Prints (line word.now numbers.now) at
-        out.old out.new result }
-{
-    let end = put_text(out, at, word);
-    end_line(out, end, numbers)
-}
+    // Puts a number in decimal. The digits come from `io`: of `write!` nothing is known where its writer fails, and none
+    // is known not to.
+    pub fn number(&mut self, number: u64)
+        ensures { Puts (numeral number) self.old self.new }
+    {
+        let mut digits = [0; DIGITS];
+        let n = io::decimal(number, &mut digits);
+        self.text(&digits[..n]);
+    }
 
-// Puts a line of numbers.
-pub fn put_row(out: &mut [u8], at: usize, first: u64, others: &[u64]) -> usize
-    ensures { Prints (row first others.now) at out.old out.new result }
-{
-    let end = put_number(out, at, first);
-    end_line(out, end, others)
+    // Puts numbers, each behind a space.
+    pub fn spaced<T: Copy + Into<u64>>(&mut self, numbers: &[T])
+        ensures { (xs : List ℕ) × AllZip T.converts numbers.now xs
+            × Puts (spaced xs) self.old self.new }
+    {
+        for number in numbers {
+            self.text(SPACE);
+            self.number((*number).into());
+        }
+    }
+
+    // Puts numbers, each behind a space, and ends the line.
+    pub fn end_line<T: Copy + Into<u64>>(&mut self, numbers: &[T])
+        ensures { (xs : List ℕ) × AllZip T.converts numbers.now xs
+            × Puts (line [] xs) self.old self.new }
+    {
+        self.spaced(numbers);
+        self.text(LINE_END);
+    }
+
+    // Puts a line of a word and numbers.
+    pub fn line(&mut self, word: &[u8], numbers: &[u64])
+        ensures { Puts (line word.now numbers.now) self.old self.new }
+    {
+        self.text(word);
+        self.end_line(numbers);
+    }
+
+    // Puts a line of numbers.
+    pub fn row(&mut self, first: u64, others: &[u64])
+        ensures { Puts (row first others.now) self.old self.new }
+    {
+        self.number(first);
+        self.end_line(others);
+    }
 }

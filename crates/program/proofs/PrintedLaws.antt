@@ -12,17 +12,20 @@ use Rattle.io.specs.Counts.{IsPrefixLen}
 use Rattle.ascii.specs.Bytes.{ascii}
 use Rattle.lines.specs.Lines.{line}
 use Rattle.lines.specs.Prints.{Prints}
+use Rattle.lines.specs.Puts.{Puts}
+use Rattle.lines.specs.declared.Page.{Page}
+use Rattle.lines.proofs.PutsLaws.{puts_prints}
 use Rattle.refusal.specs.Refusal.{Told}
-use Rattle.program.specs.Between.Room.{line_room}
+use Rattle.program.specs.Between.Room.{line_room, TextPut}
 use Rattle.records.specs.Between.Needed.{bytes_to_read}
 use Rattle.records.proofs.FormLaws.{reads_header}
 use Rattle.records.proofs.FormTheorem.{still_needed}
 use Rattle.program.specs.Printed.{refusal_line, HasRead, HasDone}
 use Rattle.program.specs.declared.input.Input.{Input}
 
-pub refusal_printed : {at : ℕ} {before after : List ℕ} {end : ℕ} (t : Told) {number place : ℕ} → number ≡ t.number → place ≡ t.place
-    → Prints (line (ascii "refused") (number ∷ place ∷ [])) at before after end → Prints (refusal_line t) at before after end
-refusal_printed t numbered placed prints = rw (← numbered, ← placed) prints
+pub refusal_printed : {before after : Page} (t : Told) {number place : ℕ} → number ≡ t.number → place ≡ t.place
+    → Puts (line (ascii "refused") (number ∷ place ∷ [])) before after → Puts (refusal_line t) before after
+refusal_printed t numbered placed puts = rw (← numbered, ← placed) puts
 
 pub refusal_fits : (t : Told) {number place : ℕ} → number ≡ t.number → place ≡ t.place → length (line (ascii "refused") (number ∷ place ∷ [])) ≤ line_room
     → length (refusal_line t) ≤ line_room
@@ -75,10 +78,11 @@ module _ (text before after : List ℕ) (written : ℕ) (room : length text ≤ 
   rest_stays : drop written after ≡ drop written before
   rest_stays = rw (parts, all_written) (drop-append_seam text (drop (length text) before))
 
--- a program that has read, and has printed its answer to what it has read
-pub has_done : (further : ℕ) (text : List ℕ → List ℕ) (bytes : List ℕ) (input : Input) (before after : List ℕ) (written room : ℕ) → room ≤ length before
-    → HasRead further 1 bytes input → length (text (take input.count bytes)) ≤ room → Prints (text (take input.count bytes)) 0 before after written
-    → HasDone further text bytes (record { input = input; written = written }) before after
-has_done further text bytes input before after written room roomy read short prints =
+-- a program that has read, and has printed its answer to what it has read on a page of its own
+pub has_done : (further : ℕ) (text : List ℕ → List ℕ) (bytes : List ℕ) (input : Input) {before after : List ℕ} (room : ℕ) {page page' : Page} → room ≤ length before
+    → HasRead further 1 bytes input → TextPut room page page' (text (take input.count bytes)) → page.bytes.now ≡ before → page.end ≡ 0 → after ≡ page'.bytes.now
+    → HasDone further text bytes (record { input = input; written = page'.end }) before after
+has_done further text bytes input {before} {after} room {page} {page'} roomy read (puts, short) lent empty left =
     let fits : length (text (take input.count bytes)) ≤ length before = omega (arith, short, roomy) in
-    record { read = read; printed = front_text _ before after written fits prints; others = rest_stays _ before after written fits prints }
+    let prints : Prints (text (take input.count bytes)) 0 before after page'.end = puts_prints lent empty puts left in
+    record { read = read; printed = front_text _ before after page'.end fits prints; others = rest_stays _ before after page'.end fits prints }

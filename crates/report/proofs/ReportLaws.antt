@@ -9,8 +9,9 @@ use lib.ListN.{length, get_or, take, length-append}
 use lib.Seq.{take-length}
 use Rattle.ascii.specs.Bytes.{ascii}
 use Rattle.lines.specs.Lines.{numeral, line, row}
-use Rattle.lines.specs.Prints.{Prints}
-use Rattle.lines.proofs.PrintLaws.{prints_nothing, prints_both, prints_within}
+use Rattle.lines.specs.Puts.{Puts}
+use Rattle.lines.specs.declared.Page.{Page}
+use Rattle.lines.proofs.PutsLaws.{puts_nothing, puts_both}
 use Rattle.reduction.specs.Reduction.{Reduction}
 use Rattle.tally.specs.declared.Tally.{Tally}
 use Rattle.mask.specs.declared.Mask.{Mask}
@@ -30,10 +31,10 @@ use Rattle.report.specs.Between.Reported.{MasksSteps, Reports, PutsLines, PutsSt
 abbrev step_line : List ℕ → ℕ → ℕ → List ℕ
 step_line w i a = row i (a ∷ cost_word w a ∷ [])
 
-pub step_printed : (w l : List ℕ) {at : ℕ} {before after : List ℕ} {end : ℕ} (i : ℕ) {a price : ℕ} → a ≡ get_or l i 0 → price ≡ cost_word w a
-    → Prints (row (i + 1) (a ∷ price ∷ [])) at before after end → ShortLine (numeral (i + 1)) (a ∷ price ∷ []) × (length (numeral (i + 1)) ≤ word_room)
-    → PutsStep w l i at before after end
-step_printed w l i acts costs prints (short, begins) = rw (← acts, ← costs) (record { prints = prints; short = omega (arith, short begins) })
+pub step_printed : (w : List ℕ) {before after : Page} (position action : ℕ) {a price : ℕ} → a ≡ action → price ≡ cost_word w action
+    → Puts (row position (a ∷ price ∷ [])) before after → ShortLine (numeral position) (a ∷ price ∷ []) → length (numeral position) ≤ word_room
+    → PutsStep w position action before after
+step_printed w position action acts costs puts short begins = rw (← costs, ← acts) (record { puts = puts; short = omega (arith, short begins) })
 
 -- and nothing of one that is struck
 abbrev line_if : Bool → List ℕ → List ℕ
@@ -58,15 +59,14 @@ steps_next w k (a ∷ l) (false ∷ m) (suc i) h fits =
     rw same (steps_next w (k + 1) l m i (omega arith) (omega arith))
 
 -- what has been put of the steps before index i
-abbrev pub StepsPut : List ℕ → List ℕ → Mask → ℕ → List ℕ → ℕ → List ℕ → ℕ → Type 0
-StepsPut w l mask at before i after end =
-    (m : Reduction) → MasksSteps l m mask → at ≤ length before → PutsLines i (step_lines w 1 (take i l) (take i m)) at before after end
+abbrev pub StepsPut : List ℕ → List ℕ → Mask → Page → ℕ → Page → Type 0
+StepsPut w l mask before i after = (m : Reduction) → MasksSteps l m mask → PutsLines i (step_lines w 1 (take i l) (take i m)) before after
 
-pub steps_nothing : (w l : List ℕ) (mask : Mask) (at : ℕ) (before : List ℕ) → StepsPut w l mask at before 0 before at
+pub steps_nothing : (w l : List ℕ) (mask : Mask) (page : Page) → StepsPut w l mask page 0 page
 unfolding step_lines
-steps_nothing w l mask at before m told low = record { prints = prints_nothing at before at (omega arith); short = omega arith }
+steps_nothing w l mask page m told = record { puts = puts_nothing page; short = omega arith }
 
-module _ (w l : List ℕ) (mask : Mask) (at : ℕ) (before between : List ℕ) (i middle : ℕ) (h : i < length l) (so_far : StepsPut w l mask at before i between middle) where
+module _ (w l : List ℕ) (mask : Mask) (before between : Page) (i : ℕ) (h : i < length l) (so_far : StepsPut w l mask before i between) where
   flag_is : (m : Reduction) → MasksSteps l m mask → (b : Bool) → bit_up mask.words i ≡ b → get_or m i false ≡ b
   flag_is m told b up = sym (up_is_flag m told.few i) ∙ ap (λ ws. bit_up ws i) (sym told.told_by) ∙ up
 
@@ -76,40 +76,40 @@ module _ (w l : List ℕ) (mask : Mask) (at : ℕ) (before between : List ℕ) (
       let position : 1 + i ≡ suc i = omega arith in
       rw (add-one i) (sym (rw (flag_is m told b up, position) at (steps_next w 1 l m i h told.fits)))
 
-  pub steps_kept : {after : List ℕ} {end : ℕ} → bit_up mask.words i ≡ true → PutsStep w l i middle between after end → StepsPut w l mask at before (i + 1) after end
-  steps_kept {after} {end} up puts m told low =
-      let put : PutsLines i (step_lines w 1 (take i l) (take i m)) at before between middle = so_far m told low in
+  pub steps_kept : {after : Page} → bit_up mask.words i ≡ true → PutsStep w (i + 1) (get_or l i 0) between after → StepsPut w l mask before (i + 1) after
+  steps_kept {after} up here m told =
+      let put : PutsLines i (step_lines w 1 (take i l) (take i m)) before between = so_far m told in
       let long = length-append (step_lines w 1 (take i l) (take i m)) (step_line w (i + 1) (get_or l i 0)) in
-      subst (λ t. PutsLines (i + 1) t at before after end) (one_more m told true up)
-      (record { prints = prints_both put.prints puts.prints; short = omega (arith, long, put.short, puts.short) })
+      subst (λ t. PutsLines (i + 1) t before after) (one_more m told true up)
+      (record { puts = puts_both put.puts here.puts; short = omega (arith, long, put.short, here.short) })
 
-  pub steps_struck : bit_up mask.words i ≡ false → StepsPut w l mask at before (i + 1) between middle
-  steps_struck up m told low =
-      let put : PutsLines i (step_lines w 1 (take i l) (take i m)) at before between middle = so_far m told low in
-      subst (λ t. PutsLines (i + 1) t at before between middle) (sym (append-nil _) ∙ one_more m told false up)
-      (record { prints = put.prints; short = omega (arith, put.short) })
+  pub steps_struck : bit_up mask.words i ≡ false → StepsPut w l mask before (i + 1) between
+  steps_struck up m told =
+      let put : PutsLines i (step_lines w 1 (take i l) (take i m)) before between = so_far m told in
+      subst (λ t. PutsLines (i + 1) t before between) (sym (append-nil _) ∙ one_more m told false up)
+      (record { puts = put.puts; short = omega (arith, put.short) })
 
-pub steps_all : (w l : List ℕ) (mask : Mask) (at : ℕ) (before : List ℕ) (i : ℕ) (after : List ℕ) (end : ℕ) → i ≡ length l → StepsPut w l mask at before i after end
-    → (m : Reduction) → MasksSteps l m mask → at ≤ length before → PutsLines (length l) (step_lines w 1 l m) at before after end
-steps_all w l mask at before i after end all put m told low =
+pub steps_all : (w l : List ℕ) (mask : Mask) (before : Page) (i : ℕ) (after : Page) → i ≡ length l → StepsPut w l mask before i after
+    → (m : Reduction) → MasksSteps l m mask → PutsLines (length l) (step_lines w 1 l m) before after
+steps_all w l mask before i after all put m told =
     let whole : take i m ≡ m = rw (all, ← told.fits) (take-length m) in
     let listed : take i l ≡ l = rw all (take-length l) in
-    rw (← all) (rw (whole, listed) at (put m told low))
+    rw (← all) (rw (whole, listed) at (put m told))
 
 -- the report, line by line
-pub reports : (w l : List ℕ) (told : Shortening) (kept : Tally) {at : ℕ} {before first second third after : List ℕ} {marks left steps end : ℕ}
-    → Prints (tally_line (ascii "lodged") told.lodged) at before first marks → length (tally_line (ascii "lodged") told.lodged) ≤ line_room
-    → Prints (line (ascii "marked") (told.marked ∷ [])) marks first second left → length (line (ascii "marked") (told.marked ∷ [])) ≤ line_room
-    → Prints (tally_line (ascii "kept") kept) left second third steps → length (tally_line (ascii "kept") kept) ≤ line_room
-    → ((m : Reduction) → MasksSteps l m told.mask → steps ≤ length third → PutsLines (length l) (step_lines w 1 l m) steps third after end)
-    → (m : Reduction) → Reports w l m told kept → PutsLines (3 + length l) (report w l m) at before after end
-reports w l told kept lodged short_lodged marks short_marks left short_left steps m reported =
-    let rest : PutsLines (length l) (step_lines w 1 l m) _ _ _ _ = steps m reported.steps (prints_within left) in
+pub reports : (w l : List ℕ) (told : Shortening) (kept : Tally) {mark : ℕ} {before first second third after : Page}
+    → Puts (tally_line (ascii "lodged") told.lodged) before first → length (tally_line (ascii "lodged") told.lodged) ≤ line_room
+    → mark ≡ told.marked → Puts (line (ascii "marked") (mark ∷ [])) first second → length (line (ascii "marked") (mark ∷ [])) ≤ line_room
+    → Puts (tally_line (ascii "kept") kept) second third → length (tally_line (ascii "kept") kept) ≤ line_room
+    → ((m : Reduction) → MasksSteps l m told.mask → PutsLines (length l) (step_lines w 1 l m) third after)
+    → (m : Reduction) → Reports w l m told kept → PutsLines (3 + length l) (report w l m) before after
+reports w l told kept lodged short_lodged is marks short_marks left short_left steps m reported =
+    let rest : PutsLines (length l) (step_lines w 1 l m) _ _ = steps m reported.steps in
     let first_line : length (tally_line (ascii "lodged") (lodged_tally w l)) ≤ line_room = rw reported.lodged at short_lodged in
-    let second_line : length (line (ascii "marked") (marked w l ∷ [])) ≤ line_room = rw reported.marks at short_marks in
+    let second_line : length (line (ascii "marked") (marked w l ∷ [])) ≤ line_room = rw (is, reported.marks) at short_marks in
     let third_line : length (tally_line (ascii "kept") (tally_left w l m)) ≤ line_room = rw reported.left at short_left in
     record {
-      prints = prints_both (rw reported.lodged at lodged) (prints_both (rw reported.marks at marks) (prints_both (rw reported.left at left) rest.prints));
+      puts = puts_both (rw reported.lodged at lodged) (puts_both (rw (is, reported.marks) at marks) (puts_both (rw reported.left at left) rest.puts));
       short =
           let from_third = length-append (tally_line (ascii "kept") (tally_left w l m)) (step_lines w 1 l m) in
           let from_Second = length-append (line (ascii "marked") (marked w l ∷ [])) (tally_line (ascii "kept") (tally_left w l m) ++ step_lines w 1 l m) in

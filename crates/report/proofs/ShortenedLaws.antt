@@ -7,7 +7,8 @@ use mathlib.Core.Bool.{Bool, true}
 use mathlib.Core.Option.{Option, none, some, get_or}
 use mathlib.Core.List.{List}
 use lib.ListN.{length, length-replicate, length-map}
-use Rattle.lines.specs.Prints.{Prints}
+use Rattle.lines.specs.Puts.{Puts}
+use Rattle.lines.specs.declared.Page.{Page}
 use Rattle.refusal.specs.declared.Refusal.{Refusal}
 use Rattle.refusal.specs.Refusal.{told_refusal}
 use Rattle.refusal.specs.Check.{answer}
@@ -29,7 +30,7 @@ use Rattle.minimal.specs.Minimised.{most_unmarked, unmarked_checks, minimal_chec
 use Rattle.minimal.specs.Between.Computed.{minimal_of, MinimisesOf}
 use Rattle.minimal.proofs.ComputedTheorem.{minimises_of}
 use Rattle.program.specs.Printed.{refusal_line}
-use Rattle.program.specs.Between.Room.{line_room}
+use Rattle.program.specs.Between.Room.{line_room, TextPut}
 use Rattle.report.specs.Report.{report}
 use Rattle.report.specs.Between.Reported.{report_room, Reports, PutsLines}
 use Rattle.report.proofs.ToldLaws.{nothing_fires, told_reported}
@@ -62,19 +63,18 @@ module _ (w l before : List ℕ) (r : Shortening) (after : List ℕ) (room : len
         let fits : length (minimal_of w l) ≡ length l = minimal_length (meets (goal w)) (initial w) (steps w l) ∙ length-map l (action w) in
         told_reported _ w l _ before r after minimises.answers kept is minimises.lodged minimises.marks fits readable.few
 
-    pub shortened_report : {out out' : List ℕ} {end : ℕ} → PutsLines (3 + length l) (report w l (minimal_of w l)) 0 out out' end
-        → Prints (shortened w l) 0 out out' end × (length (shortened w l) ≤ report_room)
+    pub shortened_report : {page page' : Page} → PutsLines (3 + length l) (report w l (minimal_of w l)) page page' → TextPut report_room page page' (shortened w l)
     unfolding shortened
     shortened_report puts =
         let fits : length (report w l (minimal_of w l)) ≤ report_room = omega (arith, puts.short, readable.few) in
-        rw (shortened, ← room, passes) (puts.prints, fits)
+        rw (shortened, ← room, passes) (puts.puts, fits)
 
   -- or refused
-  pub shortened_refusal : (refusal : Refusal) → r.answer ≡ Err refusal → {out out' : List ℕ} {end : ℕ}
-      → Prints (refusal_line (told_refusal refusal)) 0 out out' end → length (refusal_line (told_refusal refusal)) ≤ line_room
-      → Prints (shortened w l) 0 out out' end × (length (shortened w l) ≤ report_room)
+  pub shortened_refusal : (refusal : Refusal) → r.answer ≡ Err refusal → {page page' : Page}
+      → Puts (refusal_line (told_refusal refusal)) page page' → length (refusal_line (told_refusal refusal)) ≤ line_room
+      → TextPut report_room page page' (shortened w l)
   unfolding shortened
-  shortened_refusal refusal is prints short =
+  shortened_refusal refusal is puts short =
       let fires : answer (minimal_checks most_unmarked w l (length before)) ≡ some (told_refusal refusal) = sym minimises.answers.refusal ∙ ap told_answer is in
       let fits : length (refusal_line (told_refusal refusal)) ≤ report_room = omega (arith, short) in
-      rw (shortened, ← room, fires) (prints, fits)
+      rw (shortened, ← room, fires) (puts, fits)

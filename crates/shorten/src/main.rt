@@ -7,7 +7,7 @@ mod shortened;
 
 use crate::shortened::answer_input;
 use plan::limits::Plan;
-use program::output::{LINE, first_bytes, write_text};
+use program::output::{LINE, write_text};
 use records::framing::BYTES;
 
 // The most bytes that are printed: three lines, and one for each step.
@@ -18,5 +18,5 @@ fn main(rt: HostRuntime) {
     let mut bytes = [0u8; BYTES];
     let mut text = [0u8; TEXT];
     let done = answer_input(&mut reader, &mut bytes, &mut text);
-    write_text(&rt, first_bytes(&text, done.written));
+    write_text(&rt, &text[..done.written]);
 }

@@ -14,6 +14,7 @@ use claim::license::license;
 use elimination::single::{Elimination, eliminate_plan};
 use lent::{write_both, write_pair, write_reduced};
 use minimal::reduce::minimal_reduction;
+use tally::Tally;
 
 // Where a claim stands, after the refusal's number and place and the tally.
 const CLAIM_AT: usize = 4;
@@ -32,9 +33,7 @@ pub fn eliminate(
         output.old output.new mask.old mask.new
         out.old out.new }
 {
-    let reduced = eliminate_plan(words, plan, output, by);
-    let given = reduced.answer;
-    write_reduced(mask, out, reduced.mask, given);
+    write_reduced(mask, out, eliminate_plan(words, plan, output, by));
 }
 
 // What the cheaper elimination leaves, in the same form.
@@ -49,9 +48,7 @@ pub fn eliminate_cheaper(
         output.old output.new mask.old mask.new
         out.old out.new }
 {
-    let reduced = cheaper_left(words, plan, output);
-    let given = reduced.answer;
-    write_reduced(mask, out, reduced.mask, given);
+    write_reduced(mask, out, cheaper_left(words, plan, output));
 }
 
 // The minimal reduction, in the same form.
@@ -63,9 +60,10 @@ pub fn minimise(words: &[u32], plan: &[u32], output: &mut [u32], mask: &mut [u64
         output.old output.new mask.old mask.new
         out.old out.new }
 {
-    let reduced = minimal_reduction(words, plan, output);
-    let given = reduced.answer;
-    write_reduced(mask, out, reduced.mask, given);
+    match minimal_reduction(words, plan, output) {
+        Ok(shortened) => write_reduced(mask, out, Ok(shortened.left)),
+        Err(refusal) => write_reduced(mask, out, Err(refusal)),
+    }
 }
 
 // Writes a claim behind an answer: 0 and how many steps are unmarked where it is open, 1 and 0 where it is irreducible,
@@ -96,12 +94,16 @@ pub fn license_plan(
         output.old output.new mask.old mask.new
         out.old out.new }
 {
-    let licensed = license(words, plan, output);
-    let claim = licensed.claim;
-    let told = licensed.told;
-    let given = told.answer;
-    write_reduced(mask, out, told.mask, given);
-    write_claim(out, claim);
+    match license(words, plan, output) {
+        Ok(licence) => {
+            write_reduced(mask, out, Ok(licence.told.left));
+            write_claim(out, licence.claim);
+        }
+        Err(refusal) => {
+            write_reduced(mask, out, Err(refusal));
+            write_claim(out, Claim::Open(0));
+        }
+    }
 }
 
 // Both eliminations: the list that each leaves goes to the front of its output, elimination's to `first`; the number
@@ -116,9 +118,8 @@ pub fn eliminate_both(
     ensures { ReducesBothLent words.now plan.now first.old first.new
         second.old second.new out.old out.new }
 {
-    let both = cheaper(words, plan, first, second);
-    let verdict = both.verdict;
-    let of_first = both.first;
-    let of_second = both.second;
-    write_both(out, verdict, of_first, of_second);
+    match cheaper(words, plan, first, second) {
+        Ok(both) => write_both(out, Ok(()), both.first, both.second),
+        Err(refusal) => write_both(out, Err(refusal), Tally::new(), Tally::new()),
+    }
 }

@@ -2,7 +2,7 @@
 ghost use Rattle.std.specs.Prelude.{List, ℕ};
 ghost use Rattle.translate.specs.Answer.{only_says, Gives};
 
-use lines::put_text;
+use lines::Page;
 
 // How many bytes are written, and how many are said.
 #[derive(Clone, Copy)]
@@ -16,9 +16,12 @@ pub(crate) fn refuse(errors: &mut [u8], what: &[u8]) -> Answered
     ensures { (out : List ℕ) → Gives (only_says what.now) out out
         errors.old errors.new result }
 {
-    let end = put_text(errors, 0, what);
-    let said = put_text(errors, end, b"\n");
-    Answered { written: 0, said }
+    let mut page = Page::new(errors);
+    page.line(what, &[]);
+    Answered {
+        written: 0,
+        said: page.end,
+    }
 }
 
 // Hands an answer out. Where its bytes can't be written, that is said instead, in the words of `lost`.

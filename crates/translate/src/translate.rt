@@ -8,6 +8,7 @@ ghost use Rattle.translate.specs.Translate.{translated, translated_input, HasTra
 
 use crate::answer::{Answered, refuse};
 use crate::input::{Input, read_input};
+use lines::Page;
 use program::output::put_refusal;
 use program::pack::pack;
 use sheet::limits::Sheet;
@@ -23,11 +24,15 @@ fn translate_text(text: &[u8], out: &mut [u8], errors: &mut [u8]) -> Answered
     let mut words = [0u32; Sheet::WORDS];
     match translate(text, &mut words) {
         Ok(n) => {
-            let written = pack(&words[..n], out);
+            let mut page = Page::new(out);
+            pack(&mut page, &words[..n]);
+            let written = page.end;
             Answered { written, said: 0 }
         }
         Err(refusal) => {
-            let said = put_refusal(errors, 0, refusal);
+            let mut page = Page::new(errors);
+            put_refusal(&mut page, refusal);
+            let said = page.end;
             Answered { written: 0, said }
         }
     }

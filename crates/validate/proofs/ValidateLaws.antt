@@ -6,7 +6,8 @@ use mathlib.Core.Option.{none, some}
 use mathlib.Core.List.{List}
 use lib.ListN.{length, take}
 use Rattle.ascii.specs.Bytes.{ascii}
-use Rattle.lines.specs.Prints.{Prints}
+use Rattle.lines.specs.Puts.{Puts}
+use Rattle.lines.specs.declared.Page.{Page}
 use Rattle.refusal.specs.declared.Refusal.{Refusal}
 use Rattle.refusal.specs.Refusal.{told_refusal}
 use Rattle.refusal.specs.Check.{answer}
@@ -16,24 +17,24 @@ use Rattle.plan.specs.Checked.{plan_checks, told_answer, lodged_tally, Checks}
 use Rattle.program.specs.declared.input.Input.{Input}
 use Rattle.program.specs.Printed.{tally_line, refusal_line, HasRead, ReadFrom}
 use Rattle.program.proofs.ReplyTheorem.{reply_to_all}
-use Rattle.program.specs.Between.Room.{line_room}
+use Rattle.program.specs.Between.Room.{line_room, TextPut}
 use Rattle.validate.specs.Validate.{checked, printed}
 
-module _ (w l : List ℕ) (given : Answer) (state : List ℕ) (checks : Checks (plan_checks w l) w l given state) {out out' : List ℕ} {end : ℕ} where
-  pub checked_tally : (t : Tally) → given ≡ Ok t → Prints (tally_line (ascii "lodged") t) 0 out out' end → length (tally_line (ascii "lodged") t) ≤ line_room
-      → Prints (checked w l) 0 out out' end × (length (checked w l) ≤ line_room)
+module _ (w l : List ℕ) (given : Answer) (state : List ℕ) (checks : Checks (plan_checks w l) w l given state) {page page' : Page} where
+  pub checked_tally : (t : Tally) → given ≡ Ok t → Puts (tally_line (ascii "lodged") t) page page' → length (tally_line (ascii "lodged") t) ≤ line_room
+      → TextPut line_room page page' (checked w l)
   unfolding checked
-  checked_tally t is prints short =
+  checked_tally t is puts short =
       let passes : answer (plan_checks w l) ≡ none = sym checks.refusal ∙ ap told_answer is in
       let counted : t ≡ lodged_tally w l = rw (is, passes) at checks.tally in
-      rw (checked, passes) (rw counted at prints, rw counted at short)
+      rw (checked, passes) (rw counted at puts, rw counted at short)
 
-  pub checked_refusal : (r : Refusal) → given ≡ Err r → Prints (refusal_line (told_refusal r)) 0 out out' end → length (refusal_line (told_refusal r)) ≤ line_room
-      → Prints (checked w l) 0 out out' end × (length (checked w l) ≤ line_room)
+  pub checked_refusal : (r : Refusal) → given ≡ Err r → Puts (refusal_line (told_refusal r)) page page' → length (refusal_line (told_refusal r)) ≤ line_room
+      → TextPut line_room page page' (checked w l)
   unfolding checked
-  checked_refusal r is prints short =
+  checked_refusal r is puts short =
       let fires : answer (plan_checks w l) ≡ some (told_refusal r) = sym checks.refusal ∙ ap told_answer is in
-      rw (checked, fires) (prints, short)
+      rw (checked, fires) (puts, short)
 
 -- what is printed for the bytes read is what is printed for the whole input
 pub printed_for_all : (whole bytes : List ℕ) (input : Input) → HasRead 0 1 bytes input → ReadFrom whole bytes input

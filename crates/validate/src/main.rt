@@ -6,7 +6,7 @@
 mod check;
 
 use crate::check::answer_input;
-use program::output::{LINE, first_bytes, write_text};
+use program::output::{LINE, write_text};
 use records::framing::BYTES;
 
 fn main(rt: HostRuntime) {
@@ -14,5 +14,5 @@ fn main(rt: HostRuntime) {
     let mut bytes = [0u8; BYTES];
     let mut text = [0u8; LINE];
     let done = answer_input(&mut reader, &mut bytes, &mut text);
-    write_text(&rt, first_bytes(&text, done.written));
+    write_text(&rt, &text[..done.written]);
 }

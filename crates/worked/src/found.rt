@@ -1,47 +1,38 @@
 // What the services find of a list, as a line. What is put into it is held to the program's stored output alone.
 use crate::lists::LONGEST;
 use landmark::marks::marks_mask;
-use lines::{put_spaced, put_text};
+use lines::Page;
 use minimal::reduce::minimal_reduction;
 use plan::check::check_plan;
-use program::output::{LINE, first_bytes, put_refusal, put_tally, write_text};
+use program::output::{LINE, put_refusal, put_tally, write_text};
 
 // How many steps are not marked. No more are marked than there are.
 fn unmarked(words: &[u32], plan: &[u32]) -> usize {
-    let masked = marks_mask(words, plan);
-    let mask = masked.mask;
-    let marked = mask.count() as usize;
-    if marked < plan.len() {
-        plan.len() - marked
-    } else {
-        0
-    }
+    let marked = match marks_mask(words, plan) {
+        Ok(mask) => mask.count(),
+        Err(_) => 0,
+    };
+    plan.len().saturating_sub(marked as usize)
 }
 
 // Puts the list as it was lodged, where it is valid.
-fn put_lodged(words: &[u32], plan: &[u32], out: &mut [u8], at: usize) -> usize {
-    let checked = check_plan(words, plan);
-    let answer = checked.answer;
-    match answer {
-        Ok(tally) => {
-            let lodged = put_text(out, at, b"lodged");
-            let steps = put_spaced(out, lodged, &[tally.steps as u64, tally.cost as u64]);
-            let marks = put_text(out, steps, b", unmarked");
-            let end = put_spaced(out, marks, &[unmarked(words, plan) as u64]);
-            put_text(out, end, b", ")
-        }
-        Err(_) => at,
+fn put_lodged(page: &mut Page, words: &[u32], plan: &[u32]) {
+    if let Ok(checked) = check_plan(words, plan) {
+        let tally = checked.tally;
+        page.text(b"lodged");
+        page.spaced(&[tally.steps, tally.cost]);
+        page.text(b", unmarked");
+        page.spaced(&[unmarked(words, plan) as u64]);
+        page.text(b", ");
     }
 }
 
 // Puts what is kept of it, or the refusal.
-fn put_kept(words: &[u32], plan: &[u32], out: &mut [u8], at: usize) -> usize {
+fn put_kept(page: &mut Page, words: &[u32], plan: &[u32]) {
     let mut left = [0u32; LONGEST];
-    let reduced = minimal_reduction(words, plan, &mut left);
-    let answer = reduced.answer;
-    match answer {
-        Ok(tally) => put_tally(out, at, b"kept", tally),
-        Err(refusal) => put_refusal(out, at, refusal),
+    match minimal_reduction(words, plan, &mut left) {
+        Ok(shortened) => put_tally(page, b"kept", shortened.left.tally),
+        Err(refusal) => put_refusal(page, refusal),
     }
 }
 
@@ -54,10 +45,11 @@ pub(crate) fn print_found(
     plan: &[u32],
 ) {
     let mut line = [0u8; 3 * LINE];
-    let named = put_text(&mut line, 0, name);
-    let numbered = put_spaced(&mut line, named, &[number]);
-    let begun = put_text(&mut line, numbered, b": ");
-    let lodged = put_lodged(words, plan, &mut line, begun);
-    let end = put_kept(words, plan, &mut line, lodged);
-    write_text(rt, first_bytes(&line, end));
+    let mut page = Page::new(&mut line);
+    page.text(name);
+    page.spaced(&[number]);
+    page.text(b": ");
+    put_lodged(&mut page, words, plan);
+    put_kept(&mut page, words, plan);
+    write_text(rt, page.written());
 }

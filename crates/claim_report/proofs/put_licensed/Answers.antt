@@ -5,11 +5,10 @@ use Rattle.claim_report.proofs.put_licensed.Goals as goal
 
 pub returns-in-Ok : goal.returns-in-Ok
 returns-in-Ok c =
-    let licenses = c.license-licence.ensures.answer in
-    let is = c.in-Ok.is in
-    licensed_report _ _ _ _ _ refl licenses _ is c.put_claim-at.ensures (c.put_report.ensures _ (reports_licensed _ _ _ _ _ refl licenses _ is))
+    let licenses = c.in-Ok.ensures.answer in
+    licensed_report _ _ _ _ _ refl licenses _ refl c.put_claim.ensures (c.put_report.ensures _ (reports_licensed _ _ _ _ _ refl licenses _ refl))
 
 pub returns-in-Err : goal.returns-in-Err
 returns-in-Err c =
     let put = c.put_refusal.ensures in
-    licensed_refusal _ _ _ _ _ refl c.license-licence.ensures.answer _ c.in-Err.is put.prints put.refusal_len_bound
+    licensed_refusal _ _ _ _ _ refl c.in-Err.ensures.answer _ refl put.puts put.refusal_len_bound

@@ -3,4 +3,4 @@ use Rattle.exports.proofs.LentLaws.{lent_course}
 use Rattle.exports.proofs.hollchiku_course.Goals as goal
 
 pub returns : goal.returns
-returns c = lent_course _ _ _ _ _ _ _ _ c.plan_course-reached.ensures c.write_counted.ensures
+returns c = lent_course _ _ _ _ _ _ _ _ c.plan_course.ensures c.write_counted.ensures

@@ -1,7 +1,8 @@
 -- A reduction as a service tells it, and how many bytes are printed of one. Assumes nothing.
-use Rattle.std.specs.Prelude.{ℕ, ◌+◌, ◌*◌, ◌≤◌, ◌≡◌, List, [], ◌∷◌, length, get_or}
+use Rattle.std.specs.Prelude.{ℕ, ◌+◌, ◌*◌, ◌≤◌, ◌≡◌, List, [], ◌∷◌, length}
 use Rattle.lines.specs.Lines.{row}
-use Rattle.lines.specs.Prints.{Prints}
+use Rattle.lines.specs.Puts.{Puts}
+use Rattle.lines.specs.declared.Page.{Page}
 use Rattle.reduction.specs.Reduction.{Reduction}
 use Rattle.tally.specs.declared.Tally.{Tally}
 use Rattle.mask.specs.declared.Mask.{Mask}
@@ -32,10 +33,10 @@ pub record Reports (w l : List ℕ) (m : Reduction) (r : Shortening) (kept : Tal
   pub steps : MasksSteps l m r.mask
 
 -- so many lines are put, no longer than lines are
-pub record PutsLines (n : ℕ) (text : List ℕ) (at : ℕ) (before after : List ℕ) (end : ℕ) : Type 0 where
-  pub prints : Prints text at before after end
+pub record PutsLines (n : ℕ) (text : List ℕ) (before after : Page) : Type 0 where
+  pub puts : Puts text before after
   pub short : length text ≤ line_room * n
 
--- the line of the step at index i is put
-abbrev pub PutsStep : List ℕ → List ℕ → ℕ → ℕ → List ℕ → List ℕ → ℕ → Type 0
-PutsStep w l i = PutsLines 1 (row (i + 1) (get_or l i 0 ∷ cost_word w (get_or l i 0) ∷ []))
+-- the line of a step with its action is put
+abbrev pub PutsStep : List ℕ → ℕ → ℕ → Page → Page → Type 0
+PutsStep w position a = PutsLines 1 (row position (a ∷ cost_word w a ∷ []))

@@ -4,5 +4,5 @@ use Rattle.striking.proofs.eliminate.Goals as goal
 
 pub returns : goal.returns
 returns c =
-    lent_left _ _ _ _ _ _ _ _ _ _ _ _ c.eliminate_plan-reduced.ensures
+    lent_left _ _ _ _ _ _ _ _ _ _ _ _ c.eliminate_plan.ensures
     c.write_reduced.ensures

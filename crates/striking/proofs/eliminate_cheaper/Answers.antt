@@ -4,5 +4,5 @@ use Rattle.striking.proofs.eliminate_cheaper.Goals as goal
 
 pub returns : goal.returns
 returns c =
-    lent_left _ _ _ _ _ _ _ _ _ _ _ _ c.cheaper_left-reduced.ensures
+    lent_left _ _ _ _ _ _ _ _ _ _ _ _ c.cheaper_left.ensures
     c.write_reduced.ensures

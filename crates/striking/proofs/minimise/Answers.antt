@@ -2,8 +2,14 @@
 use Rattle.striking.proofs.StrikeLaws.{lent_left, lent_demand}
 use Rattle.striking.proofs.minimise.Goals as goal
 
-pub returns : goal.returns
-returns c =
-    let reduced = c.minimal_reduction-reduced.ensures in
+pub returns-in-Ok : goal.returns-in-Ok
+returns-in-Ok c =
+    let reduced = c.in-Ok.ensures in
     let writes = c.write_reduced.ensures in
+    record { words = lent_left _ _ _ _ _ _ _ _ _ _ _ _ reduced.answer.answers writes; demand_three = lent_demand _ _ _ _ _ _ _ _ _ _ reduced.demand_three writes }
+
+pub returns-in-Err : goal.returns-in-Err
+returns-in-Err c =
+    let reduced = c.in-Err.ensures in
+    let writes = c.write_reduced-in-Err.ensures in
     record { words = lent_left _ _ _ _ _ _ _ _ _ _ _ _ reduced.answer.answers writes; demand_three = lent_demand _ _ _ _ _ _ _ _ _ _ reduced.demand_three writes }

@@ -1,15 +1,15 @@
--- `put_rows` meets its contract. The loop's invariant: what is put, and the lines of the words left, are the lines of all words. The measure is the number of words left, of
--- which each line takes some. Assumes nothing.
-use Prim.Native.Nat.{ℕ, ◌-◌, ◌≤◌}
+-- `put_rows` meets its contract. The loop's invariant: what is put, and the lines of the words left, are the lines of all words. Assumes nothing.
+use Prim.Native.Nat.{ℕ}
 use mathlib.Core.Path.{◌≡◌}
 use mathlib.Core.List.{List, ◌++◌}
-use lib.ListN.{length, drop}
-use Rattle.lines.specs.Prints.{Prints}
+use Rattle.std.specs.Slice.Iter.{chunks_rest, chunks_size}
+use Rattle.lines.specs.Puts.{Puts}
 use Rattle.word_rows.specs.Rows.{rows}
 use Rattle.word_rows.proofs.put_rows.Given as goal
 
-abbrev pub invariant-loop-i : goal.invariant-loop-i
-invariant-loop-i l = ((text : List ℕ) × Prints text l.at l.initial.out l.out l.end × (text ++ rows (drop l.i l.words) ≡ rows l.words)) × (l.i ≤ length l.words)
-
-abbrev pub decreases-loop-i : goal.decreases-loop-i
-decreases-loop-i l = length l.words - l.i
+abbrev pub invariant-loop-row : goal.invariant-loop-row
+invariant-loop-row l =
+    (text : List ℕ)
+    × (chunks_size l.row-iterator ≡ 10)
+    × Puts text l.initial.page l.page
+    × (text ++ rows (chunks_rest l.row-iterator) ≡ rows l.words)

@@ -1,6 +1,8 @@
--- `put_action_comment` meets its contract: two texts with a number between them. Assumes nothing.
-use Rattle.lines.proofs.PrintLaws.{prints_both}
+-- `put_action_comment` meets its contract: a sign, a word and a line. Assumes nothing.
+use Rattle.lines.specs.Lines.{spaced}
+use Rattle.lines.proofs.PutsLaws.{puts_both}
 use Rattle.layout.proofs.sections.put_action_comment.Goals as goal
 
 pub returns : goal.returns
-returns c = prints_both c.put_text-number.ensures (prints_both c.put_number-end.ensures c.put_text.ensures)
+unfolding spaced
+returns c = puts_both c.text.ensures (puts_both c.text-2.ensures (rw c.from.ensures at c.row.ensures))

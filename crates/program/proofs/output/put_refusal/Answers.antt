@@ -5,7 +5,10 @@ use Rattle.program.proofs.output.put_refusal.Goals as goal
 
 pub returns : goal.returns
 returns c =
-    let put = c.put_two.ensures in
+    let put = c.put_line.ensures in
     let numbered = c.number.ensures in
     let placed = c.place.ensures in
-    record { prints = refusal_printed _ numbered placed put.prints; refusal_len_bound = refusal_fits _ numbered placed (put.short_line (lit≤ tt)) }
+    record {
+      puts = refusal_printed _ numbered placed put.puts;
+      refusal_len_bound = refusal_fits _ numbered placed (put.short_line (lit≤ tt) (lit≤ tt));
+    }

@@ -5,7 +5,7 @@ use Rattle.report.proofs.reported.put_report.Goals as goal
 
 pub returns : goal.returns
 returns c =
-    let lodged = c.put_tally-marks.ensures in
-    let marks = c.put_one-left.ensures in
-    let left = c.put_tally-steps.ensures in
-    reports _ _ _ _ lodged.prints (lodged.short_line (lit≤ tt)) marks.prints (marks.short_line (lit≤ tt)) left.prints (left.short_line (lit≤ tt)) c.put_steps.ensures
+    let lodged = c.put_tally.ensures in
+    let marks = c.put_line.ensures in
+    let left = c.put_tally-2.ensures in
+    reports _ _ _ _ lodged.puts (lodged.short_line (lit≤ tt)) c.from.ensures marks.puts (marks.short_line (lit≤ tt) (lit≤ tt)) left.puts (left.short_line (lit≤ tt)) c.put_steps.ensures

@@ -5,9 +5,8 @@ use Rattle.report.proofs.shortened.put_shortened.Goals as goal
 
 pub returns-in-Ok : goal.returns-in-Ok
 returns-in-Ok c =
-    let minimises = c.minimal_reduction-reduced.ensures.answer in
-    let is = c.in-Ok.is in
-    shortened_report _ _ _ _ _ refl minimises _ is (c.put_report.ensures _ (reports_minimal _ _ _ _ _ refl minimises _ is))
+    let minimises = c.in-Ok.ensures.answer in
+    shortened_report _ _ _ _ _ refl minimises _ refl (c.put_report.ensures _ (reports_minimal _ _ _ _ _ refl minimises _ refl))
 
 pub returns-in-Err : goal.returns-in-Err
-returns-in-Err c = shortened_refusal _ _ _ _ _ refl c.minimal_reduction-reduced.ensures.answer _ c.in-Err.is c.put_refusal.ensures.prints c.put_refusal.ensures.refusal_len_bound
+returns-in-Err c = shortened_refusal _ _ _ _ _ refl c.in-Err.ensures.answer _ refl c.put_refusal.ensures.puts c.put_refusal.ensures.refusal_len_bound
