@@ -31,23 +31,22 @@ use Rattle.minimal.specs.Between.Computed.{MinimisesOf}
 use Rattle.minimal.proofs.ComputedTheorem.{minimises_of}
 use Rattle.minimal.proofs.DemandThree.{checks_pass, many_refused, refused_many, passed_few}
 use Rattle.claim.specs.declared.answer.Claim.TheVariants.{Least}
-use Rattle.claim.specs.Licensed.{Licensing}
+use Rattle.claim.specs.Licensed.{Licensing, licensing}
 use Rattle.claim.specs.Licensed.{licence_refusal}
 use Rattle.claim.specs.Between.Computed.{LicensesOf, claim_of, licensed_of}
 use Rattle.claim.specs.Statement.{MayBeLodged}
-use Rattle.claim.specs.Between.Refused.{RefusesLicence}
 use Rattle.claim.specs.Between.Further.{GoesFurther}
 use Rattle.claim.proofs.LicenceTheorem.{licence_of, claims_least}
 
 -- one of the checks 1 to 11 refuses
-pub refuses_all : (w l before : List ℕ) (refusal : Refusal) (r : Licensing) → licence_refusal w l before ≡ some (told_refusal refusal) → RefusesLicence refusal r
-    → LicensesOf w l before r before
-refuses_all w l before refusal r fires refuses =
+pub refuses_all : (w l before : List ℕ) (refusal : Refusal) → licence_refusal w l before ≡ some (told_refusal refusal)
+    → LicensesOf w l before (licensing (Err refusal)) before
+refuses_all w l before refusal fires =
     record {
-      answers = rw (refuses.told.answer, refuses.told.mask) (answers_refused _ w l (licensed_of w l) before (Err refusal) (sym fires) refusal refl);
-      claims = rw fires refuses.claim;
-      lodged = rw fires refuses.told.lodged;
-      marks = rw fires refuses.told.marked;
+      answers = answers_refused _ w l (licensed_of w l) before (Err refusal) (sym fires) refusal refl;
+      claims = rw fires refl;
+      lodged = rw fires refl;
+      marks = rw fires refl;
     }
 
 -- none does
@@ -104,8 +103,8 @@ may_be_lodged w l before r after licenses readable plan roomy =
 -- what the check of a list answers where its room is asked besides
 module _ (w l before : List ℕ) (v : Verdict) (given : Answer) (state : List ℕ) (asked : told v ≡ answer (room_checks (length l) (length before)))
     (checks : ChecksLodged most_steps w l v given state) where
-  pub lodged_refuses : (refusal : Refusal) (r : Licensing) → given ≡ Err refusal → RefusesLicence refusal r → LicensesOf w l before r before
-  lodged_refuses refusal r is = refuses_all w l before refusal r (sym (room_checked w l (length before) v given state asked checks) ∙ ap told_answer is)
+  pub lodged_refuses : (refusal : Refusal) → given ≡ Err refusal → LicensesOf w l before (licensing (Err refusal)) before
+  lodged_refuses refusal is = refuses_all w l before refusal (sym (room_checked w l (length before) v given state asked checks) ∙ ap told_answer is)
 
   pub lodged_further : (lodged : Tally) (refusal : Refusal) (others : ℕ) → given ≡ Ok lodged → minimal_refusal most_unmarked w l before ≡ some (told_refusal refusal)
       → others ≡ (told_refusal refusal).place → GoesFurther w l before lodged others

@@ -5,7 +5,7 @@ ghost use Rattle.sheet.specs.Limits.{limits};
 ghost use Rattle.sheet.specs.Decode.{initial as initial_of};
 ghost use Rattle.step.specs.State.{state_size, in_array};
 
-use access::{put, word};
+use access::{get_or, put};
 use sheet::layout::{start_at, variables};
 use sheet::limits::Sheet;
 
@@ -19,12 +19,7 @@ pub struct State {
 pub fn size(words: &[u32]) -> usize
     ensures { (result ≡ state_size words.now) × (result ≤ limits.variables) }
 {
-    let n = variables(words);
-    if n < Sheet::VARIABLES {
-        n
-    } else {
-        Sheet::VARIABLES
-    }
+    variables(words).min(Sheet::VARIABLES)
 }
 
 // The starting values, zero past them.
@@ -32,12 +27,9 @@ pub fn initial(words: &[u32]) -> [u32; Sheet::VARIABLES]
     ensures { result ≡ in_array (initial_of words.now) }
 {
     let from = start_at(words);
-    let n = variables(words);
     let mut values = [0u32; Sheet::VARIABLES];
-    let mut v = 0;
-    while v < n {
-        put(&mut values, v, word(words, from + v));
-        v += 1;
+    for v in 0..variables(words) {
+        put(&mut values, v, get_or(words, from + v, 0));
     }
     values
 }

@@ -10,7 +10,7 @@ ghost use Rattle.plan.specs.Readable.{Readable};
 ghost use Rattle.trial.specs.Between.Trial.{MakesTrial};
 
 use crate::walk::walk_rest;
-use access::strike;
+use access::put;
 use plan::limits::Plan;
 use sheet::layout::cost;
 use sheet::limits::Sheet;
@@ -42,7 +42,7 @@ pub fn trial(
 {
     let mut left = flags;
     let mut state = values;
-    strike(&mut left, i);
+    put(&mut left, i, false);
     let first = Tally::new().add(cost(words, plan[i]));
     let struck = walk_rest(words, plan, &mut left, &mut state, i + 1, first);
     let succeeds = goal_holds(words, &state);

@@ -3,7 +3,7 @@ ghost use Rattle.std.specs.Prelude.{◌≡◌, true, false, ◌≤◌, length, g
 ghost use Rattle.sheet.specs.Limits.{limits};
 ghost use Rattle.trial.specs.Between.Walk.{WalksRest, DoesOrStrikes};
 
-use access::strike;
+use access::put;
 use sheet::layout::cost;
 use step::advance::advance;
 use tally::Tally;
@@ -24,14 +24,11 @@ pub(crate) fn walk_rest(
         flags.new state.new result }
 {
     let mut tally = struck;
-    let mut j = i;
-    while j < plan.len() {
-        if flags[j] {
-            tally = do_or_strike(words, flags, state, plan[j], j, tally);
-            j += 1;
-        } else {
-            j += 1;
+    for j in i..plan.len() {
+        if !flags[j] {
+            continue;
         }
+        tally = do_or_strike(words, flags, state, plan[j], j, tally);
     }
     tally
 }
@@ -53,6 +50,6 @@ fn do_or_strike(
     if advance(words, state, a) {
         return struck;
     }
-    strike(flags, j);
+    put(flags, j, false);
     struck.add(cost(words, a))
 }

@@ -44,8 +44,8 @@ slice_bounds-mask_through-end c =
     let flagged = c.flags_of_cheaper-flags.ensures in
     sym (flags_leave _ _ _ _ _ further _ flagged).fits
 
-pub mask_through-through-requires : goal.mask_through-through-requires
-mask_through-through-requires c =
+pub mask_through-mask-requires : goal.mask_through-mask-requires
+mask_through-mask-requires c =
     let further = c.requires in
     let flagged = c.flags_of_cheaper-flags.ensures in
     flags_few _ _ _ _ _ further _ flagged
@@ -69,13 +69,13 @@ returns-in-Ok c =
     let further = c.requires in
     let flagged = c.flags_of_cheaper-flags.ensures in
     let finished = c.finish-kept.ensures in
-    let reduced = c.minimal_reduction-exact.ensures.answer in
-    licenses_irreducible _ _ _ _ _ further _ flagged _ _ _ finished _ _ reduced _ _ c.in-Ok.is c.mask_through-through.ensures _ c.grant.ensures
+    rw c.grant.ensures
+    (licenses_irreducible _ _ _ _ _ further _ flagged _ _ _ finished _ _ c.in-Ok.ensures.answer _ _ refl c.mask_through-mask.ensures _ refl)
 
 pub returns-in-Err : goal.returns-in-Err
 returns-in-Err c =
     let further = c.requires in
     let flagged = c.flags_of_cheaper-flags.ensures in
     let finished = c.finish-kept.ensures in
-    let reduced = c.minimal_reduction-exact.ensures.answer in
-    licenses_open _ _ _ _ _ further _ flagged _ _ _ finished _ _ reduced _ _ _ _ c.in-Err.is c.place-others.ensures refl c.put_all.ensures _ c.grant-in-Err.ensures
+    rw c.grant-in-Err.ensures
+    (licenses_open _ _ _ _ _ further _ flagged _ _ _ finished _ _ c.in-Err.ensures.answer _ _ _ _ refl c.place.ensures refl c.put_all.ensures _ refl)

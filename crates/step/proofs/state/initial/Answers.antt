@@ -9,8 +9,8 @@ pub loop-v-init : goal.loop-v-init
 loop-v-init c = (refl, refl)
 
 pub loop-v-preserved : goal.loop-v-preserved
-loop-v-preserved c = (rw (c.put.ensures, length-set) c.loop-v.invariant.0, rw (c.put.ensures, c.word.ensures.0, c.start_at-from.ensures.0) (sym (started_more _ _ _ _ c.loop-v-test.true) ∙ c.loop-v.invariant.1))
+loop-v-preserved c = (rw (c.put.ensures, length-set) c.loop-v.invariant.0, rw (c.put.ensures, c.get_or.ensures, c.start_at-from.ensures.0) (sym (started_more _ _ _ _ c.loop-v-test.true) ∙ c.loop-v.invariant.1))
 
 pub returns : goal.returns
 unfolding in_array
-returns c = sym (started_over _ _ _ _ c.loop-v-test.false) ∙ c.loop-v.invariant.1 ∙ started_whole _ _ _ c.variables-n.ensures.0
+returns c = sym (started_over _ _ _ _ c.loop-v-test.false) ∙ c.loop-v.invariant.1 ∙ started_whole _ _ _ c.variables-v-end.ensures.0

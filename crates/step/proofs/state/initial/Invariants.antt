@@ -6,7 +6,4 @@ use Prim.Native.Nat.{◌-◌}
 use Rattle.step.proofs.state.initial.Given as goal
 
 abbrev pub invariant-loop-v : goal.invariant-loop-v
-invariant-loop-v l = (length l.values ≡ 64) × (started l.words l.values l.v l.n ≡ started l.words (replicate 64 0) 0 l.n)
-
-abbrev pub decreases-loop-v : goal.decreases-loop-v
-decreases-loop-v l = l.n - l.v
+invariant-loop-v l = (length l.values ≡ 64) × (started l.words l.values l.v l.v-end ≡ started l.words (replicate 64 0) 0 l.v-end)

@@ -6,4 +6,4 @@ pub returns-then-advance : goal.returns-then-advance
 returns-then-advance c = turns_done _ _ _ _ _ _ _ _ c.requires.0 c.advance.ensures c.if-advance.true
 
 pub returns : goal.returns
-returns c = turns_struck _ _ _ _ _ _ _ _ _ _ _ c.requires.0 c.advance.ensures c.if-advance.false c.strike.ensures c.cost.ensures.0 c.add.ensures
+returns c = turns_struck _ _ _ _ _ _ _ _ _ _ _ c.requires.0 c.advance.ensures c.if-advance.false c.put.ensures c.cost.ensures.0 c.add.ensures

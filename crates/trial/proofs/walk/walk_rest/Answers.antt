@@ -12,21 +12,21 @@ pub bounds-flags-j : goal.bounds-flags-j
 bounds-flags-j c = omega (arith, c.loop-j.invariant.1.long, c.requires, c.loop-j-test.true)
 
 pub do_or_strike-tally-requires : goal.do_or_strike-tally-requires
-do_or_strike-tally-requires c = (c.if-flags-j.true, search rules)
+do_or_strike-tally-requires c = (c.if-not-flags-j.false, search rules)
 
-pub loop-j-preserved-then-flags-j : goal.loop-j-preserved-then-flags-j
-loop-j-preserved-then-flags-j c =
+pub loop-j-preserved : goal.loop-j-preserved
+loop-j-preserved c =
     let done = c.do_or_strike-tally in (
       done.auto.state ∙ c.loop-j.invariant.0,
       along_turn _ _ _ _ _ _ _ _ _ _ c.loop-j.invariant.1 _ _ _ c.requires.0
           c.loop-j-test.true done.auto.flags done.ensures,
     )
 
-pub loop-j-preserved : goal.loop-j-preserved
-loop-j-preserved c = (
+pub loop-j-preserved-then-not-flags-j : goal.loop-j-preserved-then-not-flags-j
+loop-j-preserved-then-not-flags-j c = (
   c.loop-j.invariant.0,
   along_turn _ _ _ _ _ _ _ _ _ _ c.loop-j.invariant.1 _ _ _ c.requires.0 c.loop-j-test.true refl
-      (turns_skip _ _ _ _ _ _ c.if-flags-j.false),
+      (turns_skip _ _ _ _ _ _ c.if-not-flags-j.true),
 )
 
 pub shape_of-flags : goal.shape_of-flags

@@ -8,6 +8,3 @@ use Rattle.trial.proofs.walk.walk_rest.Given as goal
 abbrev pub invariant-loop-j : goal.invariant-loop-j
 invariant-loop-j l =
     (length l.state ≡ length l.initial.state) × Along l.words l.plan l.i l.initial.flags l.initial.state l.initial.tally l.j l.flags l.state l.tally
-
-abbrev pub decreases-loop-j : goal.decreases-loop-j
-decreases-loop-j l = length l.plan - l.j

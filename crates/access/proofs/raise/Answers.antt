@@ -1,7 +1,0 @@
--- `raise` meets its contract: as `strike` does. Assumes nothing.
-use lib.Seq.{set_out}
-use mathlib.Core.Path.{sym}
-use Rattle.access.proofs.raise.Goals as goal
-
-pub returns-else-i-flags : goal.returns-else-i-flags
-returns-else-i-flags c = sym (set_out _ _ _ c.if-i-flags.false)
