@@ -4,8 +4,8 @@ ghost use Rattle.std.specs.Prelude.{◌≡◌};
 ghost use Rattle.sheet.specs.Decode.{fact_of};
 ghost use Rattle.sheet.specs.Between.Group.{group_left};
 ghost use Rattle.sheet.specs.Between.Effects.{effects_left, effect_read};
-ghost use Rattle.conflict.specs.Between.Clash.{beyond, first_writes as writes_first, some_fits, clashes as clashes_with};
-ghost use Rattle.conflict.specs.Between.Clash.{some_clash, beside as is_beside, some_beside, clash_in};
+ghost use Rattle.conflict.specs.Between.Clash.{beyond, first_writes as writes_first, some_fits};
+ghost use Rattle.conflict.specs.Between.Clash.{clashes as clashes_with, some_clash, beside as is_beside, some_beside, clash_in};
 
 use crate::table::{UNSAID, denies_some};
 use sheet::effects::{EachEffect, ReadEffect};

@@ -1,5 +1,5 @@
-// What facts say of the variables: a table with a value for each, and a mark where nothing is said. It is a state as any
-// other, in which `assign` notes facts, so that an Option for each value would need a second one.
+// What facts say of the variables: a table with a value for each, and a mark where nothing is said. It is a state as
+// any other, in which `assign` notes facts, so that an Option for each value would need a second one.
 ghost use Rattle.std.specs.Prelude.{◌≡◌};
 ghost use Rattle.sas.specs.Conflict.{some_of};
 ghost use Rattle.sheet.specs.Decode.{fact_of};

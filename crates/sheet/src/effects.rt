@@ -4,15 +4,16 @@ ghost use Rattle.std.specs.Prelude.{◌≡◌, ◌<◌, ◌-◌, ◌^◌};
 ghost use Rattle.std.specs.Iterator.{YieldsFirst, YieldsFirstBy, item_count};
 ghost use Rattle.sheet.specs.Decode.{fact_of, effect_words};
 ghost use Rattle.sheet.specs.Between.Effects.{fact_place, first_written, first_condition, rest_effects};
-ghost use Rattle.sheet.specs.Between.Effects.{effects_in, written_in, effects_left, written_left, effect_read, places_left};
+ghost use Rattle.sheet.specs.Between.Effects.{effects_in, written_in, effects_left, written_left};
+ghost use Rattle.sheet.specs.Between.Effects.{effect_read, places_left};
 
 use crate::group::{Facts, Group, GroupFacts};
 use crate::layout::effect_fact;
 use access::get_or;
 
 // The effects of an action, or what is left of them: from word `at` up to, not including, word `end`. In edition 1 each
-// is a fact; in edition 2 each has a condition. The edition is a flag and no enum, since it changes only how the first of
-// them is read (`fact_place`, `condition`).
+// is a fact; in edition 2 each has a condition. The edition is a flag and no enum, since it changes only how the first
+// of them is read (`fact_place`, `condition`).
 #[derive(Clone, Copy)]
 pub struct Effects {
     pub at: usize,

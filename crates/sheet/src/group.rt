@@ -85,7 +85,8 @@ pub trait Facts: Iterator<Item = u32> + Drop {
 
     ghost ends: { (s : Self) → IsFinite (Self.remaining s) };
 
-    ghost gives: { (s : Self) (r : Option ℕ) (t : Self) → Self.next_gives s r t → YieldsFirstBy fact_of facts_left s r t };
+    ghost gives: { (s : Self) (r : Option ℕ) (t : Self) → Self.next_gives s r t
+        → YieldsFirstBy fact_of facts_left s r t };
 }
 
 // The facts that are left of a group.

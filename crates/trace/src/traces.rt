@@ -15,8 +15,8 @@ use sheet::values::variable;
 use step::state::initial;
 
 // The bytes of a fact: the position of its last writer, and its support, which is that writer where a marked step wrote
-// another value since the writer before; 0 for none. A position fits a byte, since a plan has at most 255 steps. None is
-// no Option here and below: 0 is the start step, which is marked in any case, and Options would double what is filled.
+// another value since the writer before; 0 for none. A position fits a byte, since a plan has at most 255 steps. None
+// is no Option here and below: 0 is the start step, which is marked in any case, and Options would double the tables.
 pub const TRACE: usize = 2;
 // Where the support stands.
 pub const SUPPORT: usize = 1;

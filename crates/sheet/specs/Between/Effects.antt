@@ -28,8 +28,8 @@ written_in w e = map (λ d. d.fact) (effects_in w e)
 unfoldable pub always_in : List ℕ → Effects → Assignment
 always_in w e = unconditional (effects_in w e)
 
--- the effects that are left of a walk along an action's, the facts that those of a walk along their facts may write, and
--- what an effect that is read means
+-- the effects that are left of a walk along an action's, the facts that those of a walk along their facts may write,
+-- and what an effect that is read means
 abbrev pub effects_left : EachEffect → List Effect
 effects_left e = effects_in e.words.now e.rest
 
