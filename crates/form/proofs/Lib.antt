@@ -2,7 +2,7 @@
 pub mod GoingLaws
 -- ReadsLaws: lines read in turn.
 pub mod ReadsLaws
--- StopLaws: a reader that stops, and what one that goes on has met and kept.
+-- StopLaws: a reader that stops before a line that is not what it must be.
 pub mod StopLaws
 -- KeywordLaws: keywords and names.
 pub mod KeywordLaws
