@@ -4,7 +4,7 @@ ghost use Rattle.translate.specs.Answer.{only_says, Gives};
 
 use lines::Page;
 
-// How many bytes are written, and how many are said.
+// How many bytes are written, and how many are said: a count for each of two outputs, and no choice between them.
 #[derive(Clone, Copy)]
 pub(crate) struct Answered {
     pub(crate) written: usize,

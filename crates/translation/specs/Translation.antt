@@ -1,7 +1,8 @@
 -- What is answered to a planner's text, read into a sheet (document 02, C-11). Which of these cases it is, and which
 -- text, line or sheet they speak of, is told by the text alone (`text_or_break`, `prints_once`, `breaks_once`,
 -- `no_text_breaks`, `sheet_once`, `sheet_or_none`). Assumes nothing.
-use Rattle.std.specs.Prelude.{ℕ, ◌+◌, ◌≤◌, ◌<◌, ◌≡◌, Bool, cond, ◌&&◌, List, [], ◌∷◌, ◌++◌, length, drop, eqb, None, Some, Result, Ok, Err}
+use Rattle.std.specs.Prelude.{ℕ, ◌+◌, ◌≤◌, ◌<◌, ◌≡◌, Bool, cond, ◌&&◌, List, [], ◌∷◌, ◌++◌, length, drop, eqb}
+use Rattle.std.specs.Prelude.{None, Some, Result, Ok, Err}
 use Rattle.std.proofs.Math.Option.{Option, none, some}
 use Rattle.refusal.specs.Refusal.{Told, told_refusal}
 use Rattle.sas.specs.Task.{Fact, Assignment, Effect, Action, Task}
