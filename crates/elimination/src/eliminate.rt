@@ -22,21 +22,16 @@ pub(crate) fn eliminate(words: &[u32], plan: &[u32]) -> [bool; Plan::STEPS]
 {
     let mut flags = all_kept(plan.len());
     let mut values = initial(words);
-    let mut i = 0;
-    while i < plan.len() {
-        if flags[i] {
-            let tried = trial(words, plan, flags, values, i);
-            if tried.succeeds {
-                let left = tried.flags;
-                flags = left;
-                i += 1;
-            } else {
-                advance_in(words, &mut values, plan[i]);
-                i += 1;
-            }
-        } else {
-            i += 1;
+    for (i, &a) in plan.iter().enumerate() {
+        if !flags[i] {
+            continue;
         }
+        let tried = trial(words, plan, flags, values, i);
+        if tried.succeeds {
+            flags = tried.flags;
+            continue;
+        }
+        advance_in(words, &mut values, a);
     }
     flags
 }

@@ -64,15 +64,12 @@ fn round(words: &[u32], plan: &[u32], flags: [bool; Plan::STEPS]) -> Best
         flags,
         struck: Tally::new(),
     };
-    let mut i = 0;
-    while i < plan.len() {
-        if flags[i] {
-            best = better(best, trial(words, plan, flags, values, i));
-            advance_in(words, &mut values, plan[i]);
-            i += 1;
-        } else {
-            i += 1;
+    for (i, &a) in plan.iter().enumerate() {
+        if !flags[i] {
+            continue;
         }
+        best = better(best, trial(words, plan, flags, values, i));
+        advance_in(words, &mut values, a);
     }
     best
 }
@@ -85,16 +82,12 @@ pub(crate) fn greedy(words: &[u32], plan: &[u32]) -> [bool; Plan::STEPS]
         (greedy_elimination_of words.now plan.now) }
 {
     let mut flags = all_kept(plan.len());
-    let mut rounds = 0;
-    while rounds < plan.len() {
+    for _rounds in 0..plan.len() {
         let best = round(words, plan, flags);
-        if best.found {
-            let left = best.flags;
-            flags = left;
-            rounds += 1;
-        } else {
+        if !best.found {
             return flags;
         }
+        flags = best.flags;
     }
     flags
 }

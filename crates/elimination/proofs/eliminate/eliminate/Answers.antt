@@ -16,13 +16,13 @@ pub trial-tried-requires : goal.trial-tried-requires
 trial-tried-requires c = record { readable = c.requires.readable; i_in_bounds = c.loop-i-test.true }
 
 pub loop-i-preserved-then-tried : goal.loop-i-preserved-then-tried
-loop-i-preserved-then-tried c = let turn = c.loop-i.invariant in let so = turn.1 in let here = c.loop-i-test.true in (turn.0, eliminating_more _ _ _ _ _ _ _ so here (eliminates_struck _ _ _ so.current _ _ here so.before _ _ _ c.trial-tried.ensures c.if-flags-i.true c.if-tried.true))
-
-pub loop-i-preserved-else-tried : goal.loop-i-preserved-else-tried
-loop-i-preserved-else-tried c = let turn = c.loop-i.invariant in let so = turn.1 in let here = c.loop-i-test.true in (c.advance_in.auto.values ∙ turn.0, eliminating_more _ _ _ _ _ _ _ so here (eliminates_done _ _ _ so.current _ _ here so.before _ _ _ _ _ c.if-flags-i.true c.trial-tried.ensures c.if-tried.false c.advance_in.ensures))
+loop-i-preserved-then-tried c = let turn = c.loop-i.invariant in let so = turn.1 in let here = c.loop-i-test.true in (turn.0, eliminating_more _ _ _ _ _ _ _ so here (eliminates_struck _ _ _ so.current _ _ here so.before _ _ _ c.trial-tried.ensures c.if-not-flags-i.false c.if-tried.true))
 
 pub loop-i-preserved : goal.loop-i-preserved
-loop-i-preserved c = let turn = c.loop-i.invariant in let so = turn.1 in let here = c.loop-i-test.true in (turn.0, eliminating_more _ _ _ _ _ _ _ so here (eliminates_nothing _ _ _ so.current _ _ here so.before c.if-flags-i.false))
+loop-i-preserved c = let turn = c.loop-i.invariant in let so = turn.1 in let here = c.loop-i-test.true in (c.advance_in.auto.values ∙ turn.0, eliminating_more _ _ _ _ _ _ _ so here (eliminates_done _ _ _ so.current _ _ here so.before _ _ _ _ _ c.if-not-flags-i.false c.trial-tried.ensures c.if-tried.false c.advance_in.ensures))
+
+pub loop-i-preserved-then-not-flags-i : goal.loop-i-preserved-then-not-flags-i
+loop-i-preserved-then-not-flags-i c = let turn = c.loop-i.invariant in let so = turn.1 in let here = c.loop-i-test.true in (turn.0, eliminating_more _ _ _ _ _ _ _ so here (eliminates_nothing _ _ _ so.current _ _ here so.before c.if-not-flags-i.true))
 
 pub returns : goal.returns
 returns c = eliminating_end _ _ _ _ _ c.loop-i.invariant.1 c.loop-i-test.false

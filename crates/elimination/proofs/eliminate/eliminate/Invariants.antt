@@ -8,6 +8,3 @@ use Rattle.elimination.proofs.eliminate.eliminate.Given as goal
 
 abbrev pub invariant-loop-i : goal.invariant-loop-i
 invariant-loop-i l = (length l.values ≡ 64) × Eliminating l.words l.plan l.i l.flags (front l.words l.values)
-
-abbrev pub decreases-loop-i : goal.decreases-loop-i
-decreases-loop-i l = length l.plan - l.i

@@ -18,11 +18,11 @@ bounds-flags-i c = omega (arith, c.requires.readable.few, c.loop-i-test.true)
 pub trial-requires : goal.trial-requires
 trial-requires c = record { readable = c.requires.readable; i_in_bounds = c.loop-i-test.true }
 
-pub loop-i-preserved-then-flags-i : goal.loop-i-preserved-then-flags-i
-loop-i-preserved-then-flags-i c = let entry = c in (search rules, (c.advance_in.auto.values ∙ c.loop-i.invariant.1.0, looks_kept _ _ entry.requires.readable _ entry.requires.current _ _ c.loop-i-test.true c.loop-i.invariant.1.1.before _ _ _ _ _ c.loop-i.invariant.1.1.picks c.trial.ensures c.if-flags-i.true c.better-best.ensures c.advance_in.ensures))
-
 pub loop-i-preserved : goal.loop-i-preserved
-loop-i-preserved c = let entry = c in (search rules, (c.loop-i.invariant.1.0, looks_struck _ _ entry.requires.readable _ entry.requires.current _ _ c.loop-i-test.true c.loop-i.invariant.1.1.before _ c.loop-i.invariant.1.1.picks c.if-flags-i.false))
+loop-i-preserved c = let entry = c in (search rules, (c.advance_in.auto.values ∙ c.loop-i.invariant.1.0, looks_kept _ _ entry.requires.readable _ entry.requires.current _ _ c.loop-i-test.true c.loop-i.invariant.1.1.before _ _ _ _ _ c.loop-i.invariant.1.1.picks c.trial.ensures c.if-not-flags-i.false c.better-best.ensures c.advance_in.ensures))
+
+pub loop-i-preserved-then-not-flags-i : goal.loop-i-preserved-then-not-flags-i
+loop-i-preserved-then-not-flags-i c = let entry = c in (search rules, (c.loop-i.invariant.1.0, looks_struck _ _ entry.requires.readable _ entry.requires.current _ _ c.loop-i-test.true c.loop-i.invariant.1.1.before _ c.loop-i.invariant.1.1.picks c.if-not-flags-i.true))
 
 pub returns : goal.returns
 returns c = looks_all _ _ _ _ _ _ c.loop-i.invariant.1.1 c.loop-i.invariant.0 c.loop-i-test.false

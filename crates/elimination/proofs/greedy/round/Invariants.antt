@@ -9,6 +9,3 @@ use Rattle.elimination.proofs.greedy.round.Given as goal
 
 abbrev pub invariant-loop-i : goal.invariant-loop-i
 invariant-loop-i l = (l.i ≤ length l.plan) × ((length l.values ≡ 64) × Looks l.words l.plan (mask l.plan l.flags) l.i l.best (front l.words l.values))
-
-abbrev pub decreases-loop-i : goal.decreases-loop-i
-decreases-loop-i l = length l.plan - l.i
