@@ -28,8 +28,8 @@ fn takes(asked: bool, value: u8, has: u8) -> u8
     if asked { value } else { has }
 }
 
-// The facts of an assignment: which variables have one, and with which value.
-// One array of options takes five to seven times the instructions to test and to write, since tags and values alternate.
+// The facts of an assignment: which variables have one, and with which value. One array of options is slower: it takes
+// five to seven times the instructions to test and to write, since tags and values alternate in it.
 #[derive(Clone, Copy, Default)]
 pub struct Row {
     pub asked: [bool; STATE],

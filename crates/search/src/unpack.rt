@@ -4,8 +4,8 @@ ghost use Rattle.turns.specs.Between.Unpacked.{Unpacks};
 use access::get_or;
 use plan::limits::Plan;
 
-// A flag for each step that a plan may have: up where the step is flagged or kept. The lowest bit is no step's, and each
-// unflagged step has the next.
+// A flag for each step that a plan may have: up where the step is flagged or kept. The lowest bit is no step's, and
+// each unflagged step has the next.
 pub(crate) fn unpack(flags: &[bool], bits: u64) -> [bool; Plan::STEPS]
     ensures { Unpacks flags.now bits result }
 {
