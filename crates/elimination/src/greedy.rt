@@ -84,10 +84,11 @@ pub(crate) fn greedy(words: &[u32], plan: &[u32]) -> [bool; Plan::STEPS]
     let mut flags = all_kept(plan.len());
     for _rounds in 0..plan.len() {
         let best = round(words, plan, flags);
-        if !best.found {
+        if best.found {
+            flags = best.flags;
+        } else {
             return flags;
         }
-        flags = best.flags;
     }
     flags
 }

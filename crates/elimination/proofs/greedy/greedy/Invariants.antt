@@ -4,5 +4,5 @@ use lib.ListN.{length}
 use Rattle.elimination.proofs.GreedyLaws.{Rounding}
 use Rattle.elimination.proofs.greedy.greedy.Given as goal
 
-abbrev pub invariant-loop-_rounds : goal.invariant-loop-_rounds
-invariant-loop-_rounds l = Rounding l.words l.plan l._rounds l.flags
+abbrev pub invariant-loop-rounds : goal.invariant-loop-rounds
+invariant-loop-rounds l = Rounding l.words l.plan l._rounds l.flags
