@@ -3,6 +3,7 @@ use minimal::within::Shortened;
 
 // What is proved of the list left. Least: no valid reduction of the lodged list leaves a lower one. Irreducible:
 // nothing more can be struck from it. Open: so many of its steps are unmarked, too many for the minimal reduction.
+// None of the three is a refusal, so that no Result says them.
 #[derive(Clone, Copy)]
 pub enum Claim {
     Least,

@@ -46,6 +46,7 @@ pub(crate) fn license_further(
     let n = plan.len();
     let marked = (n - unmarked) as u32;
     let flags = flags_of_cheaper(words, plan);
+    // Fixed memory: of these words `left` are the list.
     let mut list = [0u32; Plan::STEPS];
     let kept = finish(words, plan, &flags[..n], &mut list);
     let left = kept.tally.steps as usize;

@@ -14,6 +14,7 @@ use program::output::{put_line, put_refusal};
 use report::reported::put_report;
 
 // Puts the line of a claim.
+// No Display, for the reason at `Page::number`.
 fn put_claim(page: &mut Page, claim: Claim)
     ensures { PutsLines 1 (claim_line claim) page.old page.new }
 {

@@ -18,6 +18,7 @@ use reduced::room::check_room;
 use refusal::Refusal;
 
 // Which of document 01's two eliminations.
+// An enum and no closure, since `Eliminates` and the rules speak of which one it is.
 #[derive(Clone, Copy)]
 pub enum Elimination {
     Plain,

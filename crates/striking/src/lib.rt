@@ -37,6 +37,7 @@ pub fn eliminate(
 }
 
 // What the cheaper elimination leaves, in the same form.
+// A function of its own: `CheaperLent` is no case of `EliminatesLent`.
 pub fn eliminate_cheaper(
     words: &[u32],
     plan: &[u32],
@@ -68,6 +69,7 @@ pub fn minimise(words: &[u32], plan: &[u32], output: &mut [u32], mask: &mut [u64
 
 // Writes a claim behind an answer: 0 and how many steps are unmarked where it is open, 1 and 0 where it is irreducible,
 // 2 and 0 where it is least.
+// The numbers of the C interface.
 fn write_claim(out: &mut [u64], claim: Claim)
     ensures { out.new ≡ sets out.old 4 (claim_words claim) }
 {

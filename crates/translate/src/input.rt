@@ -16,6 +16,7 @@ pub(crate) fn read_input<R: Read>(reader: &mut R, bytes: &mut [u8]) -> Input
 {
     let mut have = 0;
     let mut last = Some(0);
+    // Each turn goes on as far as its read gave.
     while have < bytes.len() {
         last = reader.read(&mut bytes[have..]).ok();
         match last {

@@ -39,6 +39,7 @@ fn translate_text(text: &[u8], out: &mut [u8], errors: &mut [u8]) -> Answered
 }
 
 // What was read, and what was answered to it.
+// Both stand whatever was read: `HasTranslated` speaks of each.
 #[derive(Clone, Copy)]
 pub(crate) struct Translating {
     pub(crate) input: Input,

@@ -31,6 +31,7 @@ impl Service for Checking {
 }
 
 // Reads the input from `reader` to the front of `bytes`, and puts what is printed for it to the front of `out`.
+// A function of its own, since the theorem on what this program prints is about it.
 pub(crate) fn answer_input<R: Read>(reader: &mut R, bytes: &mut [u8], out: &mut [u8]) -> Done
     requires { line_room ≤ length out.old }
     ensures done { HasDone 0 printed bytes.new result out.old out.new }
