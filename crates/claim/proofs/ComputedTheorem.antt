@@ -9,7 +9,7 @@ use Rattle.plan.proofs.PlanLaws.{passed_readable}
 use Rattle.reduced.proofs.AnswerLaws.{answers_same}
 use Rattle.reduced.proofs.LodgedLaws.{lodged_plan}
 use Rattle.claim.specs.declared.answer.Claim.TheVariants.{Open}
-use Rattle.claim.specs.Licensed.{Licensing}
+use Rattle.claim.specs.Licensing.{Licensing}
 use Rattle.claim.specs.Statement.{Licence}
 use Rattle.claim.specs.Licensed.{licence_refusal, Licenses}
 use Rattle.claim.specs.Between.Computed.{claim_of, licensed_of, LicensesOf}

@@ -45,7 +45,7 @@ use Rattle.minimal.proofs.ComputedTheorem.{minimises_of}
 use Rattle.minimal.proofs.DemandThree.{is_minimal, many_refused, refused_many, passed_few}
 use Rattle.claim.specs.declared.answer.Claim.{Claim}
 use Rattle.claim.specs.declared.answer.Claim.TheVariants.{Irreducible, Open}
-use Rattle.claim.specs.Licensed.{Licensing}
+use Rattle.claim.specs.Licensing.{Licensing}
 use Rattle.claim.specs.Between.Computed.{LicensesOf, claim_of, claimed_by, cheaper_list}
 use Rattle.claim.specs.Between.Further.{GoesFurther}
 use Rattle.claim.proofs.LicenceTheorem.{cheaper_readable, cheaper_plan, claims_irreducible, claims_open}

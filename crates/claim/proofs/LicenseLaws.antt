@@ -31,7 +31,7 @@ use Rattle.minimal.specs.Between.Computed.{MinimisesOf}
 use Rattle.minimal.proofs.ComputedTheorem.{minimises_of}
 use Rattle.minimal.proofs.DemandThree.{checks_pass, many_refused, refused_many, passed_few}
 use Rattle.claim.specs.declared.answer.Claim.TheVariants.{Least}
-use Rattle.claim.specs.Licensed.{Licensing, licensing}
+use Rattle.claim.specs.Licensing.{Licensing, licensing}
 use Rattle.claim.specs.Licensed.{licence_refusal}
 use Rattle.claim.specs.Between.Computed.{LicensesOf, claim_of, licensed_of}
 use Rattle.claim.specs.Statement.{MayBeLodged}

@@ -1,29 +1,16 @@
 -- What `license` answers of a list: the strongest claim that is proved of a list left, and the reduction that leaves
 -- it. Assumes nothing.
-use Rattle.std.specs.Prelude.{ℕ, ◌≡◌, List, length, Result, Ok, Err}
+use Rattle.std.specs.Prelude.{ℕ, ◌≡◌, List, length}
 use Rattle.std.proofs.Math.Option.{Option, some}
-use Rattle.refusal.specs.declared.Refusal.{Refusal}
 use Rattle.refusal.specs.Refusal.{Told}
 use Rattle.refusal.specs.Check.{answer, unless_refused}
 use Rattle.tally.specs.Tally.{nothing}
 use Rattle.plan.specs.Checked.{lodged_tally}
 use Rattle.landmark.specs.Marks.{marked}
 use Rattle.reduced.specs.Reduced.{reduction_checks, TellsLeft, Reduces}
-use Rattle.minimal.specs.Minimised.{Shortening, shortening}
-use Rattle.claim.specs.declared.answer.Claim.{Claim}
 use Rattle.claim.specs.declared.answer.Claim.TheVariants.{Open}
-use Rattle.claim.specs.declared.answer.Licensed.{Licensed}
+use Rattle.claim.specs.Licensing.{Licensing}
 use Rattle.claim.specs.Statement.{Licence}
-
--- what the licence tells of a list: its claim, and what is told of the list left
-pub record Licensing : Type 0 where
-  pub claim : Claim
-  pub told : Shortening
-
--- that of an answer: a refusal claims nothing, by an open claim with a zero, which no list that is answered gets
-abbrev pub licensing : Result Licensed Refusal → Licensing
-licensing (Ok g) = record { claim = g.claim; told = shortening (Ok g.told) }
-licensing (Err r) = record { claim = Open 0; told = shortening (Err r) }
 
 module _ (w l before : List ℕ) where
   -- the refusal of the first of the checks 1 to 11 that fires, with room for the list in a lent output

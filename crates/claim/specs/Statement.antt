@@ -16,7 +16,7 @@ use Rattle.minimal.specs.Minimised.{most_unmarked}
 use Rattle.minimal.specs.Statement.{IsMarked, AreMarks, ValidStriking}
 use Rattle.claim.specs.declared.answer.Claim.{Claim}
 use Rattle.claim.specs.declared.answer.Claim.TheVariants.{Least, Irreducible, Open}
-use Rattle.claim.specs.Licensed.{Licensing}
+use Rattle.claim.specs.Licensing.{Licensing}
 
 module _ (w l : List ℕ) where
   -- what the licence asks of the list l of the sheet w: every valid striking of it strikes nothing

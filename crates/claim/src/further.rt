@@ -1,7 +1,7 @@
 // Plans with too many unmarked steps for the minimal reduction: what the cheaper elimination leaves of them, and of
 // that the minimal reduction where few enough steps are unmarked there.
 ghost use Rattle.std.specs.Prelude.{◌≡◌};
-ghost use Rattle.claim.specs.Licensed.{licensing};
+ghost use Rattle.claim.specs.Licensing.{licensing};
 ghost use Rattle.claim.specs.Between.Computed.{LicensesOf};
 ghost use Rattle.claim.specs.Between.Further.{GoesFurther};
 

@@ -3,7 +3,8 @@ ghost use Rattle.std.specs.Prelude.{◌≡◌};
 ghost use Rattle.std.proofs.Math.Option.{some};
 ghost use Rattle.refusal.specs.Refusal.{told_refusal};
 ghost use Rattle.minimal.specs.Minimised.{most_unmarked, minimal_refusal};
-ghost use Rattle.claim.specs.Licensed.{licensing, Licenses};
+ghost use Rattle.claim.specs.Licensing.{licensing};
+ghost use Rattle.claim.specs.Licensed.{Licenses};
 ghost use Rattle.claim.specs.Between.Computed.{LicensesOf};
 ghost use Rattle.claim.specs.Statement.{MayBeLodged};
 

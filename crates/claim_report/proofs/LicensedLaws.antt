@@ -21,7 +21,7 @@ use Rattle.plan.proofs.PlanLaws.{passed_readable}
 use Rattle.reduced.specs.Reduced.{room_checks, reduction_checks}
 use Rattle.reduced.proofs.LodgedLaws.{lodged_plan}
 use Rattle.claim.specs.declared.answer.Claim.{Claim}
-use Rattle.claim.specs.Licensed.{Licensing}
+use Rattle.claim.specs.Licensing.{Licensing}
 use Rattle.claim.specs.Licensed.{Licenses}
 use Rattle.claim.specs.Between.Computed.{claim_of, licensed_of, LicensesOf}
 use Rattle.claim.proofs.ComputedTheorem.{licenses_of}

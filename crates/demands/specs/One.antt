@@ -23,7 +23,7 @@ use Rattle.cheaper.specs.Cheaper.{ReducesCheaper, ReducesBoth, cheaper_part}
 use Rattle.moves.specs.Moves.{moves_checks, Moves}
 use Rattle.minimal.specs.Minimised.{Shortening}
 use Rattle.minimal.specs.Minimised.{most_unmarked, minimal_checks, Minimises}
-use Rattle.claim.specs.Licensed.{Licensing}
+use Rattle.claim.specs.Licensing.{Licensing}
 use Rattle.claim.specs.Licensed.{Licenses}
 use Rattle.planner.specs.Text.{Text, most_bytes}
 use Rattle.planner.specs.Meant.{unsayable}

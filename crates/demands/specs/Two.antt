@@ -33,7 +33,7 @@ use Rattle.cheaper.specs.Cheaper.{ReducesBoth, cheaper_part}
 use Rattle.minimal.specs.Minimised.{Shortening}
 use Rattle.minimal.specs.Minimised.{most_unmarked, Minimises}
 use Rattle.minimal.specs.Statement.{IsMarked, AreMarks}
-use Rattle.claim.specs.Licensed.{Licensing}
+use Rattle.claim.specs.Licensing.{Licensing}
 use Rattle.claim.specs.Licensed.{Licenses}
 
 -- a mask tells the reduction m

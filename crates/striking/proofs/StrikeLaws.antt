@@ -17,7 +17,7 @@ use Rattle.minimal.specs.Minimised.{most_unmarked}
 use Rattle.minimal.specs.Statement.{DemandThreeOf, DemandThree}
 use Rattle.claim.specs.declared.answer.Claim.{Claim}
 use Rattle.claim.specs.declared.answer.Claim.TheVariants.{Least, Irreducible, Open}
-use Rattle.claim.specs.Licensed.{Licensing}
+use Rattle.claim.specs.Licensing.{Licensing}
 use Rattle.claim.specs.Licensed.{licence_refusal, Licenses}
 use Rattle.claim.specs.Statement.{MayBeLodged}
 use Rattle.lent.specs.Words.{answer_words, tally_words, WritesReduced}

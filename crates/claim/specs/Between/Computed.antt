@@ -12,7 +12,7 @@ use Rattle.minimal.specs.Minimised.{most_unmarked}
 use Rattle.minimal.specs.Between.Computed.{minimal_of}
 use Rattle.claim.specs.declared.answer.Claim.{Claim}
 use Rattle.claim.specs.declared.answer.Claim.TheVariants.{Least, Irreducible, Open}
-use Rattle.claim.specs.Licensed.{Licensing}
+use Rattle.claim.specs.Licensing.{Licensing}
 use Rattle.claim.specs.Licensed.{licence_refusal}
 
 -- the list that the cheaper elimination leaves of the list l of the sheet w

@@ -1,7 +1,7 @@
 -- `license_plan` meets its contract: what is written is what the service answers. Assumes nothing.
 use Rattle.striking.proofs.StrikeLaws.{lent_licenses, lent_licence}
 use Rattle.std.specs.Prelude.{Ok, Err}
-use Rattle.claim.specs.Licensed.{licensing}
+use Rattle.claim.specs.Licensing.{licensing}
 use Rattle.striking.proofs.license_plan.Goals as goal
 
 pub returns-in-Ok : goal.returns-in-Ok
