@@ -36,9 +36,9 @@ use mask::Mask;
 use moves::rows::plan_moves;
 use plan::check::check_plan;
 use sheet_check::check::check_sheet;
+use std::cmp::Ordering;
 use step::one::step;
 use striking::{eliminate, eliminate_both, eliminate_cheaper, license_plan, minimise};
-use std::cmp::Ordering;
 use tally::Tally;
 use translation::translate::translate;
 
