@@ -4,13 +4,12 @@ use Prim.Native.Nat.{ℕ, suc, ◌+◌, ◌-◌, ◌<◌}
 use native.Mathlib.Numerals.{add-one}
 use native.Mathlib.Omega.{arith}
 use mathlib.Core.Path.{◌≡◌, refl, sym}
-use mathlib.Core.Bool.{true, false}
-use mathlib.Core.List.{List, [], ◌∷◌, ◌++◌}
-use mathlib.Core.List.{append-nil}
-use lib.ListN.{length, get_or, set, length-set, drop_of_length-le}
-use lib.Seq.{set_out, take_all}
-use Rattle.std.specs.List.{refill}
-use borrow.Author.Tests.{ne_eqb}
+use mathlib.Core.Bool.{Bool, true, false}
+use mathlib.Core.List.{List}
+use lib.ListN.{length, get_or}
+use lib.Seq.{set_out}
+use lib.Dec.{ltb, eqb}
+use borrow.Author.Tests.{eqb-true, ltb-false}
 use Rattle.sas.specs.Task.{Assignment}
 use Rattle.reduction.specs.Reduction.{Reduction}
 use Rattle.sheet.specs.declared.group.ActionFacts.{ActionFacts}
@@ -23,11 +22,11 @@ use Rattle.sheet.proofs.EffectLaws.{effects_written}
 use Rattle.fact_bits.specs.declared.bits.Behind.{Behind}
 use Rattle.fact_bits.specs.Between.Bits.{no_bits}
 use Rattle.packed_state.specs.declared.packed.Row.{Row}
-use Rattle.packed_state.specs.Between.Packed.{no_row}
 use Rattle.packed_state.specs.Between.Chosen.{most_choices, open_before}
 use Rattle.packed_state.proofs.ChosenLaws.{open_unflagged, open_rises}
 use Rattle.choice_rows.specs.declared.rows.Choice.{Choice}
 use Rattle.choice_rows.specs.Between.Rows.{all_bits, stamped_row, no_choice, choice_of, passed, passed_last, start_before, choices_before}
+use Rattle.choice_rows.specs.Between.Rows.{PlanChoices, no_choices, with_choice, with_passed}
 use Rattle.choice_rows.proofs.ChoiceLaws.{choices_long}
 
 -- a choice whose rows of writes are stamped
@@ -36,73 +35,64 @@ pub passed_stamped : (c : Choice) (q : Assignment) (struck kept : Row) → struc
 unfolding passed
 passed_stamped c q struck kept first second = rw (first, second)
 
--- the choice of a step
+-- the choice of a step, noted where there was none
 pub choice_made : (w : List ℕ) (a price : ℕ) (bits : Behind) (facts : ActionFacts) → facts.precondition ≡ needed_group w a → facts.effects ≡ effects_of w a
-    → price ≡ cost_word w a → (one two three four five strike keep useful kept : Row) → one ≡ no_row → two ≡ no_row → three ≡ no_row → four ≡ no_row → five ≡ no_row
-    → strike ≡ stamped_row one bits.wanted (written_in w facts.effects) → keep ≡ stamped_row two all_bits (facts_in w facts.precondition)
-    → useful ≡ stamped_row three (all_bits - bits.useless) (written_in w facts.effects) → kept ≡ stamped_row five all_bits (written_in w facts.effects)
-    → record { cost = price; strike = strike; keep = keep; useful = useful; struck = four; kept = kept } ≡ choice_of w a bits
+    → price ≡ cost_word w a → (c : Choice) → c ≡ no_choice → (strike keep useful kept : Row)
+    → strike ≡ stamped_row c.strike bits.wanted (written_in w facts.effects) → keep ≡ stamped_row c.keep all_bits (facts_in w facts.precondition)
+    → useful ≡ stamped_row c.useful (all_bits - bits.useless) (written_in w facts.effects) → kept ≡ stamped_row c.kept all_bits (written_in w facts.effects)
+    → record { cost = price; strike = strike; keep = keep; useful = useful; struck = c.struck; kept = kept } ≡ choice_of w a bits
 unfolding choice_of
-choice_made w a price bits facts needs writes costs one two three four five strike keep useful kept e f g h i first second third fourth =
-    rw (costs, first, second, third, fourth, e, f, g, h, i, needs, writes) (rw (effects_written w a, needed_facts w a))
-
--- a list that is lent whole and is as long afterwards is what it is then
-pub refilled : {X : Type 0} (xs ws : List X) → length ws ≡ length xs → refill (length xs) xs ws ≡ ws
-refilled {X} xs ws same =
-    rw (drop_of_length-le xs {i = length ws} (omega arith), append-nil) (take_all (length xs) ws (omega arith))
-
--- the choices where the last is lent to be passed
-pub last_passed : (steps lent : List Choice) (choice after : Choice) (q : Assignment) → lent ≡ steps → choice ≡ get_or lent (length lent - 1) no_choice
-    → after ≡ passed choice q → refill (length steps) steps (set lent (length lent - 1) after)
-    ≡ set steps (length steps - 1) (passed (get_or steps (length steps - 1) no_choice) q)
-last_passed steps lent choice after q same is passes =
-    rw (passes, is, same) (refilled steps (set steps (length steps - 1) _) (length-set steps (length steps - 1) _))
+choice_made w a price bits facts needs writes costs c none strike keep useful kept first second third fourth =
+    rw (costs, first, second, third, fourth, none, needs, writes) (rw (effects_written w a, needed_facts w a))
 
 -- the steps before index i are noted
-pub record Choosing (w l : List ℕ) (flags : Reduction) (behind : List Behind) (start : Row) (steps : List Choice) (i : ℕ) : Type 0 where
-  pub started : start ≡ start_before w l flags i
-  pub filled : steps ≡ choices_before w l flags behind i
+pub record Choosing (w l : List ℕ) (flags : Reduction) (behind : List Behind) (cs : PlanChoices) (i : ℕ) : Type 0 where
+  pub started : cs.start ≡ start_before w l flags i
+  pub filled : cs.steps ≡ choices_before w l flags behind i
 
 module _ (w l : List ℕ) (flags : Reduction) (behind : List Behind) where
   -- none is
-  pub choosing_start : (start : Row) → start ≡ no_row → Choosing w l flags behind start [] 0
+  pub choosing_start : (cs : PlanChoices) → cs ≡ no_choices → Choosing w l flags behind cs 0
   unfolding start_before choices_before
-  choosing_start start none = record { started = none; filled = refl }
+  choosing_start cs none = record { started = rw none; filled = rw none }
 
-  module _ (start : Row) (steps : List Choice) (i : ℕ) (so_far : Choosing w l flags behind start steps i) where
+  module _ (cs : PlanChoices) (i : ℕ) (so_far : Choosing w l flags behind cs i) where
     -- there is one choice for each unflagged step
-    pub steps_counted : length steps ≡ open_before flags i
+    steps_counted : length cs.steps ≡ open_before flags i
     steps_counted = rw so_far.filled (choices_long w l flags behind i)
 
-    module _ (up : get_or flags i false ≡ true) (effects : Effects) (writes : effects ≡ effects_of w (get_or l i 0)) where
-      -- a flagged step is written behind the last choice
-      pub passed_more : 0 < length steps → (after : List Choice)
-          → after ≡ set steps (length steps - 1) (passed (get_or steps (length steps - 1) no_choice) (written_in w effects))
-          → Choosing w l flags behind start after (i + 1)
-      unfolding start_before choices_before passed_last
-      passed_more some after passes =
+    -- a flagged step is written behind the last choice, or in front of the first
+    pub flagged_more : get_or flags i false ≡ true → (effects : Effects) → effects ≡ effects_of w (get_or l i 0)
+        → (after : PlanChoices) → after ≡ with_passed cs (written_in w effects) → Choosing w l flags behind after (i + 1)
+    unfolding start_before choices_before with_passed passed_last
+    flagged_more up effects writes after passes = by_case (eqb (length cs.steps) 0) refl
+      where
+        by_case : (b : Bool) → eqb (length cs.steps) 0 ≡ b → Choosing w l flags behind after (i + 1)
+        by_case true none =
+            record {
+              started = rw (add-one, up, ← steps_counted, none, passes, none, ← so_far.started, writes, effects_written w (get_or l i 0));
+              filled =
+                  rw (add-one, up, passes, none, ← so_far.filled)
+                  (sym (set_out cs.steps (length cs.steps - 1) _ (omega (arith, eqb-true (length cs.steps) 0 none))));
+            }
+        by_case false some =
+            record {
+              started = rw (add-one, up, ← steps_counted, some, passes, some) so_far.started;
+              filled = rw (add-one, up, passes, some, ← so_far.filled, writes, effects_written w (get_or l i 0));
+            }
+
+    module _ (down : get_or flags i false ≡ false) where
+      -- an unflagged one has its own, where there is room
+      pub unflagged_more : ltb (length cs.steps) most_choices ≡ true → (after : PlanChoices)
+          → after ≡ with_choice cs (choice_of w (get_or l i 0) (get_or behind i no_bits)) → Choosing w l flags behind after (i + 1)
+      unfolding start_before choices_before with_choice
+      unflagged_more room after adds =
           record {
-            started = rw (add-one, up, ne_eqb (open_before flags i) 0 (omega (arith, steps_counted))) so_far.started;
-            filled = rw (add-one, up, ← so_far.filled, ← effects_written w (get_or l i 0), ← writes) passes;
+            started = rw (add-one, down, adds, room) so_far.started;
+            filled = rw (add-one, down, adds, room, ← so_far.filled);
           }
 
-      -- or in front of the first
-      pub start_more : length steps ≡ 0 → (after : Row) → after ≡ stamped_row start all_bits (written_in w effects)
-          → Choosing w l flags behind after steps (i + 1)
-      unfolding start_before choices_before passed_last
-      start_more none after stamps =
-          let first : open_before flags i ≡ 0 = omega (arith, steps_counted) in
-          record {
-            started = rw (add-one, up, first, ← so_far.started, ← effects_written w (get_or l i 0), ← writes) stamps;
-            filled = rw (add-one, up, ← so_far.filled) (sym (set_out steps (length steps - 1) _ (omega (arith, none))));
-          }
-
-    -- where there is no room for one more choice there are too many
-    pub too_many : length steps ≡ most_choices → i < length l → get_or flags i false ≡ false → most_choices < open_before flags (length l)
-    too_many full inside down = omega (arith, steps_counted, open_unflagged flags i down, open_rises flags (suc i) (length l) inside)
-
-    -- an unflagged one has its own
-    pub choice_more : get_or flags i false ≡ false → (after : List Choice) → after ≡ steps ++ choice_of w (get_or l i 0) (get_or behind i no_bits) ∷ []
-        → Choosing w l flags behind start after (i + 1)
-    unfolding start_before choices_before
-    choice_more down after adds = record { started = rw (add-one, down) so_far.started; filled = rw (add-one, down, ← so_far.filled) adds }
+      -- where there is none there are too many
+      pub too_many : ltb (length cs.steps) most_choices ≡ false → i < length l → most_choices < open_before flags (length l)
+      too_many full inside =
+          omega (arith, steps_counted, ltb-false (length cs.steps) most_choices full, open_unflagged flags i down, open_rises flags (suc i) (length l) inside)

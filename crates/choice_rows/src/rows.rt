@@ -1,20 +1,20 @@
 // The choices at the unflagged steps of a plan: of each its cost, what must hold of a state where it is struck, what it
 // needs where it is kept, what of use it may write, and what is written behind it, where it is struck and where it is
 // kept, by the step and the flagged steps up to the next unflagged one.
-ghost use Rattle.std.specs.Prelude.{◌≡◌, ◌<◌, IfNone, IfSome, length};
+ghost use Rattle.std.specs.Prelude.{◌≡◌, ◌≤◌, ◌<◌, true, false, length, ltb};
 ghost use Rattle.sheet.specs.Decode.{fact_of};
 ghost use Rattle.sheet.specs.Between.Effects.{written_in};
 ghost use Rattle.packed_state.specs.Between.Chosen.{most_choices, open_before};
-ghost use Rattle.choice_rows.specs.Between.Rows.{laid, stamped_row, choice_of, passed, ChoicesTold};
+ghost use Rattle.choice_rows.specs.Between.Rows.{laid, stamped_row, no_choice, choice_of, passed, no_choices, with_choice, with_passed, ChoicesTold};
 
 use access::get_or;
-use arrayvec::ArrayVec;
 use fact_bits::bits::Behind;
 use packed_state::packed::{MOST, Row, STATE};
 use sheet::effects::Effects;
 use sheet::group::{Facts, facts_of};
 use sheet::layout::cost;
 use sheet::limits::Sheet;
+use std::marker::Model;
 
 // Bits that ask for every fact.
 const ALL: u64 = u64::MAX;
@@ -56,32 +56,35 @@ pub struct Choice {
 }
 
 impl Choice {
-    // That of action a, with nothing behind it yet.
-    fn new(words: &[u32], a: u32, behind: Behind) -> Choice
-        ensures { result ≡ choice_of words.now a behind }
+    // That of no step.
+    fn none() -> Choice
+        ensures { result ≡ no_choice }
     {
-        let facts = facts_of(words, a);
-        let mut choice = Choice {
-            cost: cost(words, a),
+        Choice {
+            cost: 0,
             strike: Row::new(),
             keep: Row::new(),
             useful: Row::new(),
             struck: Row::new(),
             kept: Row::new(),
-        };
+        }
+    }
+
+    // Makes that of no step that of action a, with nothing behind it yet.
+    fn note(&mut self, words: &[u32], a: u32, behind: Behind)
+        requires { self.old ≡ no_choice }
+        ensures { self.new ≡ choice_of words.now a behind }
+    {
+        let facts = facts_of(words, a);
+        self.cost = cost(words, a);
+        stamp(&mut self.strike, behind.wanted, facts.effects.facts(words));
+        stamp(&mut self.keep, ALL, facts.precondition.facts(words));
         stamp(
-            &mut choice.strike,
-            behind.wanted,
-            facts.effects.facts(words),
-        );
-        stamp(&mut choice.keep, ALL, facts.precondition.facts(words));
-        stamp(
-            &mut choice.useful,
+            &mut self.useful,
             ALL - behind.useless,
             facts.effects.facts(words),
         );
-        stamp(&mut choice.kept, ALL, facts.effects.facts(words));
-        choice
+        stamp(&mut self.kept, ALL, facts.effects.facts(words));
     }
 
     // Writes behind the step what a flagged one writes.
@@ -93,37 +96,92 @@ impl Choice {
     }
 }
 
-// The choices of a plan, and what the flagged steps in front of the first unflagged one write.
+// The choices of a plan, and what the flagged steps in front of the first unflagged one write. Fixed memory, filled
+// where it lies: of `all` the first `count` are choices, and the others are those of no step.
 #[derive(Drop)]
 pub struct Choices {
     pub start: Row,
-    pub steps: ArrayVec<Choice, MOST>,
+    all: [Choice; MOST],
+    count: usize,
 }
 
-// The choices at all unflagged steps of a plan, unless there are too many.
-pub fn choices_of(words: &[u32], plan: &[u32], flags: &[bool], behind: &[Behind]) -> Option<Choices>
-    ensures many { IfNone result
-        (most_choices < open_before flags.now (length plan.now)) }
-    ensures told { IfSome result
-        (λ c. ChoicesTold words.now plan.now flags.now behind.now c) }
-{
-    let mut choices = Choices {
-        start: Row::new(),
-        steps: ArrayVec::new(),
-    };
-    for (i, &a) in plan.iter().enumerate() {
-        if get_or(flags, i, false) {
-            let effects = facts_of(words, a).effects;
-            match choices.steps.last_mut() {
-                Some(choice) => choice.pass(words, effects),
-                None => stamp(&mut choices.start, ALL, effects.facts(words)),
-            }
-        } else {
-            let bits = get_or(behind, i, Behind::NONE);
-            if choices.steps.try_push(Choice::new(words, a, bits)).is_err() {
-                return None;
-            }
+// To a contract they are that row and the list of the choices.
+impl Model for Choices {
+    ghost use Rattle.std.specs.Prelude.{take};
+    ghost use Rattle.choice_rows.specs.Between.Rows.{PlanChoices, ChoicesHeld};
+
+    ghost Value = { PlanChoices };
+
+    ghost view = { λ c. record { start = c.start; steps = take c.count c.all } };
+
+    ghost invariant = { λ c. ChoicesHeld c.all c.count };
+}
+
+impl Choices {
+    // Those of no step.
+    pub fn new() -> Choices
+        ensures { result ≡ no_choices }
+    {
+        Choices {
+            start: Row::new(),
+            all: [Choice::none(); MOST],
+            count: 0,
         }
     }
-    Some(choices)
+
+    // The choices, which are no more than there is room for.
+    pub fn steps(&self) -> &[Choice]
+        ensures all { result.now ≡ self.now.steps }
+        ensures few { length result.now ≤ most_choices }
+    {
+        &self.all[..self.count]
+    }
+
+    // Adds that of an unflagged step, where there is room, and says whether there is.
+    fn push(&mut self, words: &[u32], a: u32, behind: Behind) -> bool
+        ensures room { result ≡ ltb (length self.old.steps) most_choices }
+        ensures adds { self.new ≡ with_choice self.old (choice_of words.now a behind) }
+    {
+        if self.count == MOST {
+            return false;
+        }
+        self.all[self.count].note(words, a, behind);
+        self.count += 1;
+        true
+    }
+
+    // Writes what a flagged step writes behind the last choice, or in front of the first.
+    fn pass(&mut self, words: &[u32], effects: Effects)
+        ensures { self.new ≡ with_passed self.old (written_in words.now effects) }
+    {
+        if self.count == 0 {
+            stamp(&mut self.start, ALL, effects.facts(words));
+        } else {
+            self.all[self.count - 1].pass(words, effects);
+        }
+    }
+}
+
+// Notes the choices at all unflagged steps of a plan in `choices`, where there is none yet, and says whether there is
+// room for them. They are lent, since they take 20 KB of the stack, and handed back they would take it twice.
+pub fn note_choices(
+    words: &[u32],
+    plan: &[u32],
+    flags: &[bool],
+    behind: &[Behind],
+    choices: &mut Choices,
+) -> bool
+    ensures many { choices.old ≡ no_choices → result ≡ false
+        → most_choices < open_before flags.now (length plan.now) }
+    ensures told { choices.old ≡ no_choices → result ≡ true
+        → ChoicesTold words.now plan.now flags.now behind.now choices.new }
+{
+    for (i, &a) in plan.iter().enumerate() {
+        if get_or(flags, i, false) {
+            choices.pass(words, facts_of(words, a).effects);
+        } else if !choices.push(words, a, get_or(behind, i, Behind::NONE)) {
+            return false;
+        }
+    }
+    true
 }

@@ -33,8 +33,7 @@ use Rattle.reduced.specs.Between.Tallied.{tallied}
 use Rattle.packed_state.specs.Between.Chosen.{most_choices, open_before, chosen}
 use Rattle.packed_state.specs.Between.Packed.{written_over, packed_start}
 use Rattle.choice_rows.specs.declared.rows.Choice.{Choice}
-use Rattle.choice_rows.specs.declared.rows.Choices.{Choices}
-use Rattle.choice_rows.specs.Between.Rows.{start_before, ChoicesTold}
+use Rattle.choice_rows.specs.Between.Rows.{PlanChoices, start_before, ChoicesTold}
 use Rattle.packed_state.proofs.ChosenLaws.{chosen_stays, chosen_all}
 use Rattle.choice_rows.proofs.ChoiceLaws.{choices_long}
 use Rattle.choice_rows.proofs.RowTheorem.{start_row_writes}
@@ -114,15 +113,15 @@ module _ (w l : List ℕ) (flags : Reduction) (lent : Lent w l flags) where
       (rw comes.so_far begins) (rw (comes.best, whole_steps) lodged))
 
 module _ (w l : List ℕ) (flags : Reduction) (behind : List Behind) (lodged : Tally) where
-  pub begins : ToldBehind w l flags behind → (choices : Choices) → ChoicesTold w l flags behind choices
+  pub begins : ToldBehind w l flags behind → (choices : PlanChoices) → ChoicesTold w l flags behind choices
       → (start state : List ℕ) → start ≡ packed_start (in_array (initial w)) → state ≡ written_over choices.start start
       → (kept whole_plan after : Chosen) → kept.tally ≡ tallied w l flags → kept.bits ≡ 1 → whole_plan.tally ≡ lodged
-      → whole_plan.bits ≡ 2 ^ (length choices.steps.items + 1) - 1 → BothTold choices.steps.items 0 state kept whole_plan after → Begins w l flags lodged after.bits
+      → whole_plan.bits ≡ 2 ^ (length choices.steps + 1) - 1 → BothTold choices.steps 0 state kept whole_plan after → Begins w l flags lodged after.bits
   begins told choices noted start state starts writes kept whole_plan after counts one whole_counts ones both =
       record {
         found = λ lent tallies.
-            let rows : LentRows w l flags choices.steps.items = record { lent = lent; behind = behind; told = told; filled = noted.filled } in
-            let count : length choices.steps.items ≡ open_before flags (length l) = rw noted.filled (choices_long w l flags behind (length l)) in
+            let rows : LentRows w l flags choices.steps = record { lent = lent; behind = behind; told = told; filled = noted.filled } in
+            let count : length choices.steps ≡ open_before flags (length l) = rw noted.filled (choices_long w l flags behind (length l)) in
             (found_chosen w l flags lent rows kept whole_plan after (flags_chosen w l flags lent kept counts one)
             (whole_chosen w l flags lent whole_plan (whole_counts ∙ tallies) (rw count at ones)) (rw (writes, starts, noted.started) at both)).told_by;
       }

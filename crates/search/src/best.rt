@@ -4,7 +4,7 @@ ghost use Rattle.packed_state.specs.Between.Chosen.{most_choices};
 ghost use Rattle.turns.specs.Between.Told.{Begins, Finds};
 
 use crate::unpack::unpack;
-use choice_rows::rows::choices_of;
+use choice_rows::rows::{Choices, note_choices};
 use fact_bits::bits::bits_behind;
 use packed_state::packed::start;
 use plan::limits::Plan;
@@ -27,20 +27,20 @@ fn choose(words: &[u32], plan: &[u32], flags: &[bool], lodged: Tally) -> u64
     ensures { Begins words.now plan.now flags.now lodged result }
 {
     let behind = bits_behind(words, plan, flags);
-    let found = choices_of(words, plan, flags, &behind);
-    let Some(choices) = &found else {
+    let mut choices = Choices::new();
+    if !note_choices(words, plan, flags, &behind, &mut choices) {
         return 0;
-    };
+    }
+    let steps = choices.steps();
     let kept = Chosen {
         tally: tally_of(words, plan, flags),
         bits: 1,
     };
     let whole = Chosen {
         tally: lodged,
-        bits: all_chosen(choices.steps.len()),
+        bits: all_chosen(steps.len()),
     };
     let state = choices.start.write_over(&start(words));
-    let steps = choices.steps.as_slice();
     let struck = strike(steps, 0, &state, kept, whole);
     keep(steps, 0, &state, kept, struck).bits
 }

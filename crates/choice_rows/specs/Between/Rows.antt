@@ -1,6 +1,6 @@
 -- The choices at the unflagged steps of a plan. Not to be believed: proofs/RowTheorem says what their rows tell. Assumes
 -- nothing.
-use Rattle.std.specs.Prelude.{ℕ, zero, suc, ◌-◌, ◌/◌, ◌%◌, ◌≡◌, true, false, cond, ◌&&◌, List, [], ◌∷◌, ◌++◌, length, get_or, set, take, ltb, eqb}
+use Rattle.std.specs.Prelude.{ℕ, zero, suc, ◌-◌, ◌/◌, ◌%◌, ◌≤◌, ◌<◌, ◌≡◌, true, false, cond, ◌&&◌, List, [], ◌∷◌, ◌++◌, length, get_or, set, take, ltb, eqb}
 use Rattle.sas.specs.Task.{Fact, Assignment}
 use Rattle.sas.specs.Plan.{written, needed}
 use Rattle.reduction.specs.Reduction.{Reduction}
@@ -9,10 +9,9 @@ use Rattle.sheet.specs.Decode.{action}
 use Rattle.fact_bits.specs.declared.bits.Behind.{Behind}
 use Rattle.fact_bits.specs.Between.Bits.{no_bits}
 use Rattle.packed_state.specs.declared.packed.Row.{Row}
-use Rattle.packed_state.specs.Between.Chosen.{open_before}
+use Rattle.packed_state.specs.Between.Chosen.{most_choices, open_before}
 use Rattle.packed_state.specs.Between.Packed.{state_bytes, no_row}
 use Rattle.choice_rows.specs.declared.rows.Choice.{Choice}
-use Rattle.choice_rows.specs.declared.rows.Choices.{Choices}
 
 -- bits that ask for every fact
 abbrev pub all_bits : ℕ
@@ -57,6 +56,31 @@ passed c q = record c { struck = stamped_row c.struck all_bits q; kept = stamped
 unfoldable pub passed_last : List Choice → Assignment → List Choice
 passed_last cs q = set cs (length cs - 1) (passed (get_or cs (length cs - 1) no_choice) q)
 
+-- the choices of a plan, and what the flagged steps in front of the first unflagged one write
+pub record PlanChoices : Type 0 where
+  pub start : Row
+  pub steps : List Choice
+
+-- those of no step
+abbrev pub no_choices : PlanChoices
+no_choices = record { start = no_row; steps = [] }
+
+-- with one more choice, where there is room
+unfoldable pub with_choice : PlanChoices → Choice → PlanChoices
+with_choice cs c = cond (ltb (length cs.steps) most_choices) (record cs { steps = cs.steps ++ c ∷ [] }) cs
+
+-- with an assignment written behind the last choice, or in front of the first
+unfoldable pub with_passed : PlanChoices → Assignment → PlanChoices
+with_passed cs q =
+    cond (eqb (length cs.steps) 0)
+    (record cs { start = stamped_row cs.start all_bits q }) (record cs { steps = passed_last cs.steps q })
+
+-- of the memory for choices the first `count` are taken, and the others are those of no step
+pub record ChoicesHeld (all : List Choice) (count : ℕ) : Type 0 where
+  pub sized : length all ≡ most_choices
+  pub within : count ≤ most_choices
+  pub left : (k : ℕ) → count ≤ k → k < most_choices → get_or all k no_choice ≡ no_choice
+
 -- what the flagged steps before index i write that are in front of the first unflagged one
 unfoldable pub start_before : List ℕ → List ℕ → Reduction → ℕ → Row
 start_before w l flags zero = no_row
@@ -73,6 +97,6 @@ choices_before w l flags behind (suc i) =
     (choices_before w l flags behind i ++ choice_of w (get_or l i 0) (get_or behind i no_bits) ∷ [])
 
 -- the choices at all unflagged steps of the list l
-pub record ChoicesTold (w l : List ℕ) (flags : Reduction) (behind : List Behind) (c : Choices) : Type 0 where
+pub record ChoicesTold (w l : List ℕ) (flags : Reduction) (behind : List Behind) (c : PlanChoices) : Type 0 where
   pub started : c.start ≡ start_before w l flags (length l)
-  pub filled : c.steps.items ≡ choices_before w l flags behind (length l)
+  pub filled : c.steps ≡ choices_before w l flags behind (length l)
