@@ -4,20 +4,31 @@ use native.Mathlib.Nat.{add-zero, add-suc, suc-add, suc-min-suc, min-zero, zero-
 use native.Mathlib.Numerals.{add-one}
 use native.Mathlib.Omega.{arith}
 use mathlib.Core.Path.{◌≡◌, refl, sym, ◌∙◌, ap}
+use mathlib.Core.Bool.{Bool, true, false}
 use mathlib.Core.List.{List, [], ◌∷◌, ◌++◌, append-nil}
 use lib.ListN.{length, get_or, set, take, drop, drop_of_length-le}
 use lib.Seq.{sets, set_out, drop-cons, take_all}
+use lib.Dec.{leb}
+use borrow.Author.Tests.{leb-true, leb-false}
 use Rattle.std.proofs.Common.{length-drop}
 use borrow.Rule.Slice.PartMut.{put_mid, post_of}
 
 -- from the end of a list on nothing is stored
-pub rest_over : (l vs : List ℕ) (i : ℕ) → length vs ≤ i → sets l i (drop i vs) ≡ l
+pub rest_over : {A : Type 0} (l vs : List A) (i : ℕ) → length vs ≤ i → sets l i (drop i vs) ≡ l
 rest_over l vs i h = rw (drop_of_length-le vs h)
 
 -- nothing is stored past the end of the words
 pub stored_past : {A : Type 0} (l us : List A) (i : ℕ) → length l ≤ i → sets l i us ≡ l
 stored_past l [] i h = refl
 stored_past l (u ∷ us) i h = rw (set_out l i u h) (stored_past l us (suc i) (omega arith))
+
+-- nor from where a list or the room for it ends
+pub rest_or_room_over : {A : Type 0} (l vs : List A) (i : ℕ) → min (length l) (length vs) ≤ i → sets l i (drop i vs) ≡ l
+rest_or_room_over l vs i over = by_case (leb (length vs) i) refl
+  where
+    by_case : (b : Bool) → leb (length vs) i ≡ b → sets l i (drop i vs) ≡ l
+    by_case true e = rest_over l vs i (leb-true (length vs) i e)
+    by_case false e = stored_past l (drop i vs) i (omega (arith, over, leb-false (length vs) i e))
 
 -- stores behind the first word leave that word
 stores_behind : {A : Type 0} (x : A) (l vs : List A) (i : ℕ) → sets (x ∷ l) (suc i) vs ≡ x ∷ sets l i vs

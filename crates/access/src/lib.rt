@@ -37,12 +37,16 @@ pub fn put<T: Copy>(elements: &mut [T], i: usize, x: T)
     }
 }
 
-// Writes values over the first elements. What there is no room for is dropped.
+// Writes values over the first elements. What there is no room for is dropped. How many there are to write is settled
+// before the first is written, so that the loop is a copy; `copy_from_slice` would have the library for C need `memmove`
+// where nothing tells that both are apart.
 pub fn put_all<T: Copy>(elements: &mut [T], values: &[T])
     ensures { elements.new ≡ sets elements.old 0 values.now }
 {
     let n = elements.len().min(values.len());
-    elements[..n].copy_from_slice(&values[..n]);
+    for i in 0..n {
+        elements[i] = values[i];
+    }
 }
 
 // Writes values over the elements from index `at` on. What there is no room for is dropped.

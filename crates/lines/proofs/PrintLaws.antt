@@ -47,7 +47,7 @@ pub prints_nothing : (at : ℕ) (before : List ℕ) (end : ℕ) → end ≡ min 
 prints_nothing at before end is = record { written = refl; ends = is ∙ omega arith }
 
 -- no byte is added or lost, and a text ends within them
-prints_length : {t : List ℕ} {at : ℕ} {before after : List ℕ} {end : ℕ} → Prints t at before after end → length after ≡ length before
+pub prints_length : {t : List ℕ} {at : ℕ} {before after : List ℕ} {end : ℕ} → Prints t at before after end → length after ≡ length before
 prints_length {t} {at} {before} p = rw p.written (length-sets before at t)
 
 pub prints_within : {t : List ℕ} {at : ℕ} {before after : List ℕ} {end : ℕ} → Prints t at before after end → end ≤ length after

@@ -4,6 +4,8 @@
 
 ghost use Rattle.std.specs.Prelude.{◌≡◌, ◌≤◌, length, take};
 
+use access::put_from;
+
 // What begins a number that does not begin its line, and what ends a line.
 const SPACE: &[u8] = b" ";
 
@@ -46,10 +48,8 @@ impl<'a> Page<'a> {
     pub fn text(&mut self, text: &[u8])
         ensures { Puts text.now self.old self.new }
     {
-        let n = text.len().min(self.bytes.len() - self.end);
-        let end = self.end + n;
-        self.bytes[self.end..end].copy_from_slice(&text[..n]);
-        self.end = end;
+        put_from(self.bytes, self.end, text);
+        self.end += text.len().min(self.bytes.len() - self.end);
     }
 
     // Puts a number in decimal. The digits come from `io`: of `write!` nothing is known where its writer fails, and none
