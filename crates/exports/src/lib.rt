@@ -79,7 +79,7 @@ pub extern "C" fn hollchiku_tally_compare(
         cost: cost_b,
         steps: steps_b,
     };
-    match first.cmp(&second) {
+    match first.compare(second) {
         Ordering::Less => 0,
         Ordering::Equal => 1,
         Ordering::Greater => 2,

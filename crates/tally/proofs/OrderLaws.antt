@@ -1,9 +1,9 @@
 -- The order that `Tally` derives, by the cost and then by the steps, is that of `comparison`. Assumes nothing.
-use Rattle.std.proofs.Common.{◌≡◌, ℕ, Bool, true, false, cond, refl, sym, ◌∙◌, ap, ◌<◌, arith}
-use Rattle.std.proofs.Common.{Ordering, Less, Equal, Greater}
-use Rattle.std.specs.Ordering.{MatchOrdering, nat_cmp, ordering_then, partial_ordering_then, is_some_and, is_lt}
+use Rattle.std.proofs.Common.{◌≡◌, ℕ, Bool, true, false, cond, refl, ◌∙◌, ◌<◌, arith}
+use Rattle.std.proofs.Common.{Less, Equal, Greater}
+use Rattle.std.specs.Ordering.{MatchOrdering, nat_cmp, ordering_then}
 use Rattle.std.specs.Cmp.{nat_cmp_is}
-use Rattle.std.specs.Prelude.{ltb, Some}
+use Rattle.std.specs.Prelude.{ltb}
 use borrow.Author.Tests.{ltb-true, ltb-false}
 use Rattle.tally.specs.declared.Tally.{Tally}
 use Rattle.tally.specs.Tally.{comparison}
@@ -27,15 +27,3 @@ unfolding comparison
 compared_in_turn a b =
     one_then_other (ltb a.cost b.cost) (ltb b.cost a.cost) (ltb a.steps b.steps) (ltb b.steps a.steps)
     ∙ rw (by_tests a.cost b.cost, by_tests a.steps b.steps)
-
-below_so : (o p : Ordering) → is_some_and is_lt (partial_ordering_then (Some o) (Some p)) ≡ is_lt (ordering_then o p)
-below_so Less p = refl
-below_so Equal Less = refl
-below_so Equal Equal = refl
-below_so Equal Greater = refl
-below_so Greater p = refl
-
--- of what the derive makes of the fields' own orders
-pub below : (a b : Tally) → is_some_and is_lt (partial_ordering_then (Some (nat_cmp a.cost b.cost)) (Some (nat_cmp a.steps b.steps)))
-    ≡ is_lt (comparison a b)
-below a b = below_so (nat_cmp a.cost b.cost) (nat_cmp a.steps b.steps) ∙ sym (ap is_lt (compared_in_turn a b))

@@ -5,6 +5,8 @@ ghost use Rattle.std.specs.Prelude.{◌≡◌};
 ghost use Rattle.std.specs.Ordering.{is_lt};
 ghost use Rattle.tally.specs.Tally.{bounds, nothing, one_more, comparison};
 
+use std::cmp::Ordering;
+
 // A tally. Its fields may hold any values. Their order makes its order: the lower cost, then the fewer steps.
 #[derive(Clone, Copy, PartialEq, Eq, PartialOrd, Ord)]
 pub struct Tally {
@@ -54,10 +56,17 @@ impl Tally {
         }
     }
 
+    // Compares by cost, then by steps.
+    pub fn compare(self, other: Tally) -> Ordering
+        ensures { result ≡ comparison self other }
+    {
+        self.cmp(&other)
+    }
+
     // Whether it is the lower of two.
     pub fn is_lower(self, other: Tally) -> bool
         ensures { result ≡ is_lt (comparison self other) }
     {
-        self < other
+        self.compare(other).is_lt()
     }
 }

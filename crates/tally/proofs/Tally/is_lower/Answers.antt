@@ -1,7 +1,5 @@
--- `is_lower` meets its contract: the derived order is that of `comparison`. Assumes nothing.
-use Rattle.std.proofs.Common.{◌∙◌}
-use Rattle.tally.proofs.OrderLaws.{below}
+-- `is_lower` meets its contract: of what the comparison answers. Assumes nothing.
 use Rattle.tally.proofs.Tally.is_lower.Goals as goal
 
 pub returns : goal.returns
-returns c = c.lt.ensures ∙ below c.args.self c.args.other
+returns c = rw (← c.compare.ensures) c.is_lt.ensures
