@@ -9,7 +9,7 @@ use lib.Dec.{eqb}
 use borrow.Author.Tests.{eqb-true}
 use Rattle.ascii.specs.Bytes.{space, ascii_digit, split, all_digits}
 use Rattle.ascii.proofs.SplitLaws.{split_at, split_in}
-use Rattle.fields.specs.Between.Fields.Class.{Digit, Minus, Space}
+use Rattle.fields.specs.declared.class.Class.TheVariants.{Digit, Minus, Space}
 use Rattle.fields.specs.Between.Fields.{minus_sign, ends_word, class_of, words_of, same, minus_one, word_reads, all_read, line_reads}
 use Rattle.fields.proofs.WordLaws.{number_digits}
 

@@ -1,3 +1,5 @@
+-- ClassLaws: what a byte is by its class, as the code tells it.
+pub mod ClassLaws
 -- LineLaws: what stands behind a line.
 pub mod LineLaws
 -- DigitLaws: the digits in front of bytes, and their number.

@@ -6,7 +6,8 @@ use mathlib.Core.Bool.{Bool, true, false, true≢false, ◌&&◌, ◌||◌}
 use mathlib.Core.List.{List, [], ◌∷◌, ◌++◌}
 use lib.ListN.{length, take, drop, get_or, take-append-drop, length-drop}
 use lib.Seq.{take_at, drop-append_seam}
-use borrow.Author.Tests.{ltb-false}
+use borrow.Author.Tests.{ltb-false, eqb-true}
+use lib.Dec.{eqb}
 use lib.Pointwise.{pointwise}
 use Rattle.std.specs.Prelude.{Option, Some, None, MatchOption, nat_lt, nat_eq}
 use Rattle.std.specs.Borrow.{Bor}
@@ -110,16 +111,15 @@ begins_byte b bs rest e behind = begins_with (b ∷ []) bs e ∙ ap (λ l. b ∷
 pub begins_otherwise : (front bs t : List ℕ) → begins front bs ≡ false → bs ≡ front ++ t → ⊥
 begins_otherwise front bs t e is = other_text (take (length front) bs) front (sym e) (rw is (take_at front t (length front) refl))
 
+-- bytes whose first one is found to be this byte
+pub begins_same : (b d : ℕ) {bs rest : List ℕ} → bs ≡ b ∷ rest → true ≡ eqb b d → bs ≡ d ∷ rest
+begins_same b d {bs} {rest} begins same = begins ∙ ap (λ c. c ∷ rest) (eqb-true b d (sym same))
+
 -- a line and its line end, or no such line
 pub strips_no_line : (bs line : List ℕ) → begins line bs ≡ false → StripsLine bs line None
 strips_no_line bs line e t is = begins_otherwise line bs (line_end ∷ t) e is
 
 pub strips_line : (bs line rest : List ℕ) → begins line bs ≡ true → rest ≡ drop (length line) bs → (r : Option (Bor (List ℕ)))
-    → MatchOption r (begins (line_end ∷ []) rest ≡ false)
-    (λ x. (begins (line_end ∷ []) rest ≡ true) × (x.now ≡ drop 1 rest) × (length x.now + 1 ≡ length rest))
-    → StripsLine bs line r
-strips_line bs line rest front behind None none = λ t is.
-    begins_otherwise (line_end ∷ []) rest t none (behind ∙ rw is (drop-append_seam line (line_end ∷ t)))
-strips_line bs line rest front behind (Some x) found =
-    begins_with line bs front
-    ∙ ap (λ l. line ++ l) (sym behind ∙ begins_with (line_end ∷ []) rest found.0 ∙ ap (λ l. line_end ∷ l) (sym found.1))
+    → MatchOption r ((t : List ℕ) → rest ≡ line_end ∷ t → ⊥) (λ x. rest ≡ line_end ∷ x.now) → StripsLine bs line r
+strips_line bs line rest front behind None none = λ t is. none t (behind ∙ rw is (drop-append_seam line (line_end ∷ t)))
+strips_line bs line rest front behind (Some x) ends = begins_with line bs front ∙ ap (λ l. line ++ l) (sym behind ∙ ends)

@@ -3,6 +3,8 @@ ghost use Rattle.std.specs.Prelude.{◌≡◌, ◌==◌, ◌||◌, false, fold, 
 ghost use Rattle.fields.specs.Between.Fields.{lines_of};
 ghost use Rattle.fields.specs.Between.Reading.{SkipsLine, StripsLine};
 
+use crate::class::ends_line;
+
 // How many bytes are looked at together: a name is passed over without a test for each of its bytes.
 const BLOCK: usize = 16;
 
@@ -12,7 +14,7 @@ fn ends_within(block: &[u8]) -> bool
 {
     block
         .iter()
-        .fold(false, |found, byte| found | (*byte == b'\n'))
+        .fold(false, |found, byte| found | ends_line(*byte))
 }
 
 // Passes over blocks in which no line ends: what stands behind the first line stays.
@@ -33,7 +35,7 @@ fn skip_blocks(bytes: &[u8]) -> &[u8]
 fn first_end(bytes: &[u8]) -> Option<usize>
     ensures { result ≡ position (λ byte. byte == 10) bytes.now }
 {
-    bytes.iter().position(|byte| *byte == b'\n')
+    bytes.iter().position(|byte| ends_line(*byte))
 }
 
 // What stands behind the first line, if it ends.
@@ -49,5 +51,8 @@ pub fn skip_line(bytes: &[u8]) -> Option<&[u8]>
 pub fn strip_line<'a>(bytes: &'a [u8], line: &[u8]) -> Option<&'a [u8]>
     ensures { StripsLine bytes.now line.now result }
 {
-    bytes.strip_prefix(line)?.strip_prefix(b"\n")
+    match bytes.strip_prefix(line)?.split_first() {
+        Some((byte, rest)) if ends_line(*byte) => Some(rest),
+        _ => None,
+    }
 }

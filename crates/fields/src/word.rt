@@ -1,8 +1,9 @@
 // One word of a line of numbers.
 ghost use Rattle.std.specs.Prelude.{◌≡◌};
-ghost use Rattle.fields.specs.Between.Fields.{is_number, word_reads};
+ghost use Rattle.fields.specs.Between.Fields.{class_of, is_number, word_reads};
 ghost use Rattle.fields.specs.Between.Reading.{grown, end_byte, IsBefore, ReadsDigits, ReadsWord};
 
+use crate::class::{Class, classify};
 use crate::limits::{ANY, MOST};
 
 // What ends a word.
@@ -13,13 +14,14 @@ pub enum End {
 }
 
 impl End {
-    // The byte that it is.
-    fn byte(self) -> u8
-        ensures { result ≡ end_byte self }
+    // The class of the byte that it is.
+    #[tactic(auto, unfolding(crate::specs::Between::Fields::class_of))]
+    fn class(self) -> Class
+        ensures { result ≡ class_of (end_byte self) }
     {
         match self {
-            End::Space => b' ',
-            End::LineEnd => b'\n',
+            End::Space => Class::Space,
+            End::LineEnd => Class::LineEnd,
         }
     }
 }
@@ -36,7 +38,7 @@ fn word_before(value: u32, rest: &[u8], end: End) -> Option<Word>
     ensures { IsBefore value rest.now end result }
 {
     match rest.split_first() {
-        Some((byte, rest)) if *byte == end.byte() => Some(Word { value, rest }),
+        Some((byte, rest)) if classify(*byte) == end.class() => Some(Word { value, rest }),
         _ => None,
     }
 }

@@ -4,6 +4,8 @@ use Rattle.std.specs.Prelude.{ℕ, min, Bool, true, false, not, cond, ◌&&◌, 
 use Rattle.ascii.specs.Bytes.{ascii, space, ends_line, ascii_zero, ascii_digit, Split, runs, split, all_digits}
 use Rattle.ascii.specs.Bytes.{decimal_from}
 use Rattle.fields.specs.Between.Numbers.{most_number, any_value}
+use Rattle.fields.specs.declared.class.Class.{Class}
+use Rattle.fields.specs.declared.class.Class.TheVariants.{Digit, Minus, Space, LineEnd, Other}
 
 abbrev pub minus_sign : ℕ
 minus_sign = 45
@@ -12,13 +14,6 @@ abbrev pub ends_word : ℕ → Bool
 ends_word b = eqb b space
 
 -- "each byte is a digit, a minus, a space, a line end or something else"
-pub data Class : Type 0 where
-  Digit : Class
-  Minus : Class
-  Space : Class
-  LineEnd : Class
-  Other : Class
-
 unfoldable pub class_of : ℕ → Class
 class_of b =
     elim (ascii_digit b) [
