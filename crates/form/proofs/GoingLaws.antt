@@ -83,7 +83,7 @@ module _ (s : Stand) where
     -- the line is what it must be
     pub going_next : fits d l ≡ true → (tape : List ℕ) (count : ℕ) (barred : Place) → take count tape ≡ take s.count s.tape ++ kept d l
         → barred ≡ or_else s.barred (when (bars d l) (s.line + 1)) → (ds : List Due)
-        → going_on (further d l ++ ds) (record { rest = after; tape = tape; line = s.line + 1; count = count; barred = barred })
+        → going_on (further d l ++ ds) (record { rest = after; tape = tape; tape_at = s.tape_at; line = s.line + 1; count = count; barred = barred })
         ≡ going_on (d ∷ ds) s
     unfolding going_on
     going_next fit tape count barred more met ds =

@@ -11,13 +11,13 @@ use Rattle.form.specs.Between.Form.{Row, Count, Counted, Due, numbers, counts, t
 use Rattle.form.specs.Between.Reading.{Stand, going_on, stand, Reads, after_first, ReadsRow}
 
 -- a reader as the code leaves it, and a line of numbers that it has read
-pub reads_at : {ds : List Due} {r s : Reader} {t : Stand} → stand s ≡ t → ((next : List Due) → going_on next t ≡ going_on (ds ++ next) (stand r))
-    → Reads ds r (Ok tt) s
-reads_at e same = record { same = λ next. rw e (same next) }
+pub reads_at : {ds : List Due} {r s : Reader} {t : Stand} → stand s ≡ t → t.tape_at ≡ r.tape.ref_ptr
+    → ((next : List Due) → going_on next t ≡ going_on (ds ++ next) (stand r)) → Reads ds r (Ok tt) s
+reads_at e lies same = record { same = λ next. rw e (same next); same_tape = ap (λ u. u.tape_at) e ∙ lies }
 
-pub row_at : {row : Row} {x : ℕ} {r s : Reader} {t : Stand} → stand s ≡ t
+pub row_at : {row : Row} {x : ℕ} {r s : Reader} {t : Stand} → stand s ≡ t → t.tape_at ≡ r.tape.ref_ptr
     → ((next : List Due) → going_on (after_first row x ++ next) t ≡ going_on (numbers row ∷ next) (stand r)) → ReadsRow row r (Ok x) s
-row_at e same = record { same = λ next. rw e (same next) }
+row_at e lies same = record { same = λ next. rw e (same next); same_tape = ap (λ u. u.tape_at) e ∙ lies }
 
 -- a line that is not what it must be, where `?` passes it on
 pub passed_on : {ds : List Due} {r s : Reader} {result : Result (Unit {0}) ℕ} {n : ℕ} → IsErrAnd result (λ m. m ≡ n) → Reads ds r (Err n) s
@@ -29,37 +29,48 @@ module _ {r s : Reader} where
   pub reads_then : {first second : List Due} {u : Reader} {result : Result (Unit {0}) ℕ} → Reads first r (Ok tt) s → Reads second s result u
       → Reads (first ++ second) r result u
   reads_then {first} {second} before after =
-      record { same = λ next. after.same next ∙ before.same (second ++ next) ∙ ap (λ ds. going_on ds (stand r)) (sym (append_assoc first second next)) }
+      record {
+        same = λ next. after.same next ∙ before.same (second ++ next) ∙ ap (λ ds. going_on ds (stand r)) (sym (append_assoc first second next));
+        same_tape = after.same_tape ∙ before.same_tape;
+      }
 
   pub reads_stopped : {first : List Due} (second : List Due) {n : ℕ} → Reads first r (Err n) s → Reads (first ++ second) r (Err n) s
   reads_stopped {first} second stopped =
-      record { same = λ next. stopped.same (second ++ next) ∙ ap (λ ds. going_on ds (stand r)) (sym (append_assoc first second next)) }
+      record {
+        same = λ next. stopped.same (second ++ next) ∙ ap (λ ds. going_on ds (stand r)) (sym (append_assoc first second next));
+        same_tape = stopped.same_tape;
+      }
 
   -- the same for one line
   pub line_then : {d : Due} {ds : List Due} {u : Reader} {result : Result (Unit {0}) ℕ} → Reads (d ∷ []) r (Ok tt) s → Reads ds s result u
       → Reads (d ∷ ds) r result u
-  line_then before after = record { same = λ next. after.same next ∙ before.same _ }
+  line_then before after = record { same = λ next. after.same next ∙ before.same _; same_tape = after.same_tape ∙ before.same_tape }
 
   pub line_stopped : {d : Due} {ds : List Due} {n : ℕ} → Reads (d ∷ []) r (Err n) s → Reads (d ∷ ds) r (Err n) s
-  line_stopped stopped = record { same = λ next. stopped.same _ }
+  line_stopped stopped = record { same = λ next. stopped.same _; same_tape = stopped.same_tape }
 
   -- a line of numbers that adds no line
   pub row_alone : {row : Row} {x : ℕ} → after_first row x ≡ [] → ReadsRow row r (Ok x) s → Reads (numbers row ∷ []) r (Ok tt) s
-  row_alone none read = record { same = λ next. ap (λ ds. going_on (ds ++ next) (stand s)) (sym none) ∙ read.same next }
+  row_alone none read =
+      record { same = λ next. ap (λ ds. going_on (ds ++ next) (stand s)) (sym none) ∙ read.same next; same_tape = read.same_tape }
 
   -- and one that is none
   pub row_stopped : {row : Row} {n : ℕ} → ReadsRow row r (Err n) s → Reads (numbers row ∷ []) r (Err n) s
-  row_stopped stopped = record { same = λ next. stopped.same next }
+  row_stopped stopped = record { same = λ next. stopped.same next; same_tape = stopped.same_tape }
 
   -- a number that says how many lines follow, and those lines
   pub row_counted : {u : Reader} {result : Result (Unit {0}) ℕ} {what : Counted} {n : ℕ} {ds : List Due} → ReadsRow (Count what) r (Ok n) s
       → after_count what n ≡ ds → Reads ds s result u → Reads (counts what ∷ []) r result u
   row_counted read lines after =
-      record { same = λ next. after.same next ∙ ap (λ k. going_on (k ++ next) (stand s)) (sym lines) ∙ read.same next }
+      record {
+        same = λ next. after.same next ∙ ap (λ k. going_on (k ++ next) (stand s)) (sym lines) ∙ read.same next;
+        same_tape = after.same_tape ∙ read.same_tape;
+      }
 
 -- i of n times the same lines are read
 pub record Left (i n : ℕ) (ds : List Due) (r s : Reader) : Type 0 where
   pub same : (next : List Due) → going_on (times (n - i) ds ++ next) (stand s) ≡ going_on (times n ds ++ next) (stand r)
+  pub same_tape : s.tape.ref_ptr ≡ r.tape.ref_ptr
 
 module _ (n : ℕ) (ds : List Due) {r : Reader} where
   module _ (i : ℕ) {s : Reader} (left : Left i n ds r s) where
@@ -73,13 +84,19 @@ module _ (n : ℕ) (ds : List Due) {r : Reader} where
           ∙ left.same next
 
       pub repeats_more : {u : Reader} → Reads ds s (Ok tt) u → Left (i + 1) n ds r u
-      repeats_more read = record { same = λ next. read.same (times (n - (i + 1)) ds ++ next) ∙ one_more next }
+      repeats_more read = record {
+        same = λ next. read.same (times (n - (i + 1)) ds ++ next) ∙ one_more next;
+        same_tape = read.same_tape ∙ left.same_tape;
+      }
 
       pub repeats_stopped : {u : Reader} {m : ℕ} → Reads ds s (Err m) u → Reads (times n ds) r (Err m) u
-      repeats_stopped stopped = record { same = λ next. stopped.same (times (n - (i + 1)) ds ++ next) ∙ one_more next }
+      repeats_stopped stopped = record {
+        same = λ next. stopped.same (times (n - (i + 1)) ds ++ next) ∙ one_more next;
+        same_tape = stopped.same_tape ∙ left.same_tape;
+      }
 
     pub repeats_over : n ≤ i → Reads (times n ds) r (Ok tt) s
     unfolding times
     repeats_over over =
         let none : n - i ≡ 0 = omega arith in
-        record { same = λ next. ap (λ k. going_on (times k ds ++ next) (stand s)) (sym none) ∙ left.same next }
+        record { same = λ next. ap (λ k. going_on (times k ds ++ next) (stand s)) (sym none) ∙ left.same next; same_tape = left.same_tape }

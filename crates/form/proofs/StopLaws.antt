@@ -15,9 +15,10 @@ first_or_none (Some n) = refl
 
 -- where the next line is found broken, to stop before it is right
 module _ {r r' : Reader} where
-  pub stops_row : {row : Row} {n : ℕ} → n ≡ r.line + 1 → ((ds : List Due) → going_on (numbers row ∷ ds) (stand r) ≡ Broken (r.line + 1))
-      → ReadsRow row r (Err n) r'
-  stops_row e breaks = record { same = λ next. rw e (sym (breaks next)) }
+  pub stops_row : {row : Row} {n : ℕ} → n ≡ r.line + 1 → r'.tape.ref_ptr ≡ r.tape.ref_ptr
+      → ((ds : List Due) → going_on (numbers row ∷ ds) (stand r) ≡ Broken (r.line + 1)) → ReadsRow row r (Err n) r'
+  stops_row e lies breaks = record { same = λ next. rw e (sym (breaks next)); same_tape = lies }
 
-  pub stops : {d : Due} {n : ℕ} → n ≡ r.line + 1 → ((ds : List Due) → going_on (d ∷ ds) (stand r) ≡ Broken (r.line + 1)) → Reads (d ∷ []) r (Err n) r'
-  stops e breaks = record { same = λ next. rw e (sym (breaks next)) }
+  pub stops : {d : Due} {n : ℕ} → n ≡ r.line + 1 → r'.tape.ref_ptr ≡ r.tape.ref_ptr
+      → ((ds : List Due) → going_on (d ∷ ds) (stand r) ≡ Broken (r.line + 1)) → Reads (d ∷ []) r (Err n) r'
+  stops e lies breaks = record { same = λ next. rw e (sym (breaks next)); same_tape = lies }

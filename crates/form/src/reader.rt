@@ -27,7 +27,7 @@ impl<'a> Reader<'a> {
     // At the beginning of a text.
     pub fn start(text: &'a [u8], tape: &'a mut [u32]) -> Reader<'a>
         requires { length text.now ≤ 2 * length tape.old }
-        ensures { stand result ≡ starting text.now tape.old }
+        ensures { stand result ≡ starting text.now tape.old tape.entry.ref_ptr }
     {
         Reader {
             rest: text,

@@ -67,14 +67,14 @@ module _ (s : Stand) (row : Row) where
   module _ (xs after : List ℕ) (has : HasNumbers s.rest xs after) (right : numbers_fit row xs ≡ true) where
     pub row_read : (tape : List ℕ) (count : ℕ) (barred : Place) → take count tape ≡ take s.count s.tape ++ cond (row_keeps row) xs []
         → barred ≡ or_else s.barred (when (row_bars row xs) (s.line + 1)) → (next : List Due)
-        → going_on (after_row row xs ++ next) (record { rest = after; tape = tape; line = s.line + 1; count = count; barred = barred })
+        → going_on (after_row row xs ++ next) (record { rest = after; tape = tape; tape_at = s.tape_at; line = s.line + 1; count = count; barred = barred })
         ≡ going_on (numbers row ∷ next) s
     unfolding fits further kept bars
     row_read tape count barred more bar next =
         let is : numbers_fit row xs ≡ true = right in
         let numbers_are = has.numbers in
         ap
-        (λ ys. going_on (after_row row ys ++ next) (record { rest = after; tape = tape; line = s.line + 1; count = count; barred = barred }))
+        (λ ys. going_on (after_row row ys ++ next) (record { rest = after; tape = tape; tape_at = s.tape_at; line = s.line + 1; count = count; barred = barred }))
         (sym numbers_are)
         ∙ going_next s (numbers row) has.line after has.cut (rw (has.reads, numbers_are) is) tape count barred (rw numbers_are more) (rw numbers_are bar) next
 
@@ -86,7 +86,7 @@ module _ (s : Stand) where
         (right : numbers_fit row (w.value ∷ []) ≡ true) where
       one_read : (tape : List ℕ) (count : ℕ) (barred : Place) → take count tape ≡ take s.count s.tape ++ cond (row_keeps row) (w.value ∷ []) []
           → barred ≡ or_else s.barred (when (row_bars row (w.value ∷ [])) (s.line + 1)) → (next : List Due)
-          → going_on (after_first row w.value ++ next) (record { rest = w.rest.now; tape = tape; line = s.line + 1; count = count; barred = barred })
+          → going_on (after_first row w.value ++ next) (record { rest = w.rest.now; tape = tape; tape_at = s.tape_at; line = s.line + 1; count = count; barred = barred })
           ≡ going_on (numbers row ∷ next) s
       one_read = row_read s row (w.value ∷ []) w.rest.now (numbers_last reads kind s.rest w has) right
 

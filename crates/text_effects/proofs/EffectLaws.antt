@@ -202,7 +202,7 @@ module _ (s : Stand) where
   head_lacks = row_lacks s Head
 
   pub head_read : 2 * s.count + length s.rest ≤ 2 * length s.tape → (rest tape : List ℕ) → HasChange s.rest s.tape s.count rest tape → (next : List Due)
-      → going_on next (record { rest = rest; tape = tape; line = s.line + 1; count = s.count; barred = s.barred }) ≡ going_on (numbers Head ∷ next) s
+      → going_on next (record { rest = rest; tape = tape; tape_at = s.tape_at; line = s.line + 1; count = s.count; barred = s.barred }) ≡ going_on (numbers Head ∷ next) s
   head_read room rest tape change =
       let xs : List ℕ = change.variable ∷ change.old ∷ change.new ∷ [] in
       let fit : s.count + length xs ≤ length s.tape = omega (arith, change.ahead) in
@@ -255,6 +255,7 @@ module _ (s : Stand) where
             (record {
               rest = last;
               tape = tape₃;
+              tape_at = s.tape_at;
               line = s.line + 1;
               count = s.count + 1 + 2 * w.value + 3;
               barred = or_else s.barred (when (ltb 0 w.value) (s.line + 1));

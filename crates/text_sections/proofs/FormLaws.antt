@@ -23,9 +23,9 @@ use Rattle.form.specs.Between.Reading.Outcome.{Broken, Whole}
 use Rattle.form.proofs.GoingLaws.{same_either}
 use Rattle.form.proofs.StopLaws.{first_or_none}
 
-pub going_start : (text tape : List ℕ) → going_on text_lines (starting text tape) ≡ text_outcome text
+pub going_start : (text tape : List ℕ) (there : ℕ × ℕ) → going_on text_lines (starting text tape there) ≡ text_outcome text
 unfolding going_on outcome text_outcome walked unsupported_line numbers_of
-going_start text tape = same_either (whole (walked text)) refl refl (omega arith)
+going_start text tape there = same_either (whole (walked text)) refl refl (omega arith)
 
 -- nothing is due any more
 walk_over : (others : List (List ℕ)) (l : List ℕ) → walk others l [] ≡ stop others l []
@@ -66,17 +66,21 @@ unfolding found_in
 found_long room text long = rw (lt-ltb (2 * room) (length text) long)
 
 -- what a reader that began with the text has found at its end
-module _ (room : ℕ) {text tape : List ℕ} {r s : Reader} (short : length text ≤ 2 * room) (begins : stand r ≡ starting text tape) where
+module _ (room : ℕ) {text tape : List ℕ} {there : ℕ × ℕ} {r s : Reader} (short : length text ≤ 2 * room) (begins : stand r ≡ starting text tape there) where
   found_at_end : {result : Result (Unit {0}) ℕ} → Reads text_lines r result s → found result [] (stand s) ≡ found_in room text
   unfolding found_in
   found_at_end read =
       read.same [] ∙ ap (λ ds. going_on ds (stand r)) (append-nil text_lines) ∙ ap (going_on text_lines) begins
-      ∙ going_start text tape ∙ rw (le-ltb (2 * room) (length text) short)
+      ∙ going_start text tape there ∙ rw (le-ltb (2 * room) (length text) short)
 
   pub found_broken : (result : Result Numbers ℕ) {n : ℕ} → IsErrAnd result (λ m. m ≡ n) → Reads text_lines r (Err n) s → outcome_of result ≡ found_in room text
   found_broken result is read = let (m, e, f) = err_from_is_err_and result is in rw (e, f) (found_at_end read)
 
   module _ (read : Reads text_lines r (Ok tt) s) where
+    -- the tape is the one with which it began
+    pub found_there : s.tape.ref_ptr ≡ there
+    found_there = read.same_tape ∙ ap (λ u. u.tape_at) begins
+
     pub found_over : eqb (length s.rest.now) 0 ≡ false → {n : ℕ} → n ≡ s.line + 1 → Broken n ≡ found_in room text
     found_over more told = ap Broken told ∙ by_rest s.rest.now refl more
       where

@@ -1,5 +1,5 @@
 // The reading of a whole text.
-ghost use Rattle.std.specs.Prelude.{◌≡◌, length};
+ghost use Rattle.std.specs.Prelude.{◌≡◌, length, IfOk};
 ghost use Rattle.form.specs.Between.Form.{text_lines};
 ghost use Rattle.form.specs.Between.Reading.{Reads};
 ghost use Rattle.text_sections.specs.Between.Outcome.{outcome_of, found_in};
@@ -27,7 +27,9 @@ fn read_all(reader: &mut Reader) -> Result<(), usize>
 // Reads a text, and puts its numbers to the front of the tape. Or tells the first line that is not what it must be; as
 // line 0, that the text has more than two bytes for each number that the tape has room for.
 pub fn read_text<'a>(text: &'a [u8], tape: &'a mut [u32]) -> Result<Numbers<'a>, usize>
-    ensures { outcome_of result ≡ found_in (length tape.old) text.now }
+    ensures outcome { outcome_of result ≡ found_in (length tape.old) text.now }
+    // The slice of the numbers begins where the tape does.
+    ensures at_front { IfOk result (λ numbers. numbers.kept.ref_ptr ≡ tape.entry.ref_ptr) }
 {
     if 2 * tape.len() < text.len() {
         return Err(0);

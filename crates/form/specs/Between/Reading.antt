@@ -19,30 +19,55 @@ outcome n met xs w =
     cond (whole w) (Whole (xs ++ kept_of w.read) (or_else met (first_barred (n + 1) w.read)))
     (Broken (n + length w.read + 1))
 
--- where a reader stands: the bytes that are left, the tape, how many lines and numbers were read, and the first line
--- that no sheet can say
+-- where a reader stands: the bytes that are left, the tape and where it lies, how many lines and numbers were read, and
+-- the first line that no sheet can say
 pub record Stand : Type 0 where
   pub rest : List ℕ
   pub tape : List ℕ
+  pub tape_at : ℕ × ℕ
   pub line : ℕ
   pub count : ℕ
   pub barred : Place
 
 abbrev pub stand : Reader → Stand
-stand r = record { rest = r.rest.now; tape = r.tape.now; line = r.line; count = r.count; barred = r.barred }
+stand r =
+    record {
+      rest = r.rest.now;
+      tape = r.tape.now;
+      tape_at = r.tape.ref_ptr;
+      line = r.line;
+      count = r.count;
+      barred = r.barred;
+    }
 
--- at the beginning of a text
-abbrev pub starting : List ℕ → List ℕ → Stand
-starting text tape = record { rest = text; tape = tape; line = 0; count = 0; barred = None }
+-- at the beginning of a text, with a tape that lies there
+abbrev pub starting : List ℕ → List ℕ → ℕ × ℕ → Stand
+starting text tape there =
+    record { rest = text; tape = tape; tape_at = there; line = 0; count = 0; barred = None }
 
 -- past a line, with these bytes behind it
 abbrev pub passed : List ℕ → Stand → Stand
-passed rest s = record { rest = rest; tape = s.tape; line = s.line + 1; count = s.count; barred = s.barred }
+passed rest s =
+    record {
+      rest = rest;
+      tape = s.tape;
+      tape_at = s.tape_at;
+      line = s.line + 1;
+      count = s.count;
+      barred = s.barred;
+    }
 
 -- with one number more
 abbrev pub keeping : ℕ → Stand → Stand
 keeping x s =
-    record { rest = s.rest; tape = set s.tape s.count x; line = s.line; count = s.count + 1; barred = s.barred }
+    record {
+      rest = s.rest;
+      tape = set s.tape s.count x;
+      tape_at = s.tape_at;
+      line = s.line;
+      count = s.count + 1;
+      barred = s.barred;
+    }
 
 -- with the line that was passed last, if no sheet can say it
 abbrev pub noting : Bool → Stand → Stand
@@ -50,6 +75,7 @@ noting bars s =
     record {
       rest = s.rest;
       tape = s.tape;
+      tape_at = s.tape_at;
       line = s.line;
       count = s.count;
       barred = or_else s.barred (when bars s.line);
@@ -64,9 +90,11 @@ abbrev pub found : Result (Unit {0}) ℕ → List Due → Stand → Outcome
 found (Ok u) ds s = going_on ds s
 found (Err n) ds s = Broken n
 
--- reading these lines takes a reader on: going on from there finds what going on with these lines found before
+-- reading these lines takes a reader on, with the same tape: going on from there finds what going on with these lines
+-- found before
 pub record Reads (ds : List Due) (r : Reader) (result : Result (Unit {0}) ℕ) (r' : Reader) : Type 0 where
   pub same : (next : List Due) → found result next (stand r') ≡ going_on (ds ++ next) (stand r)
+  pub same_tape : r'.tape.ref_ptr ≡ r.tape.ref_ptr
 
 -- each call of a step reads these lines
 pub record AlwaysReads (ds : List Due)
@@ -86,3 +114,4 @@ found_row row (Err n) ds s = Broken n
 -- reading a line of numbers tells its first number
 pub record ReadsRow (row : Row) (r : Reader) (result : Result ℕ ℕ) (r' : Reader) : Type 0 where
   pub same : (next : List Due) → found_row row result next (stand r') ≡ going_on (numbers row ∷ next) (stand r)
+  pub same_tape : r'.tape.ref_ptr ≡ r.tape.ref_ptr

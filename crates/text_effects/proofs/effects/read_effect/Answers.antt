@@ -12,7 +12,7 @@ use Rattle.text_effects.proofs.EffectLaws.{effect_ended, effect_short, effect_cu
 use Rattle.text_effects.proofs.effects.read_effect.Goals as goal
 
 pub returns-in_default : goal.returns-in_default
-returns-in_default c = stops c.next_line.ensures (effect_ended (stand c.args.reader.now) c.in_default.ensures)
+returns-in_default c = stops c.next_line.ensures refl (effect_ended (stand c.args.reader.now) c.in_default.ensures)
 
 pub read_run-requires : goal.read_run-requires
 read_run-requires c =
@@ -20,7 +20,7 @@ read_run-requires c =
 
 pub returns-in_default-read_run : goal.returns-in_default-read_run
 returns-in_default-read_run c =
-    stops c.next_line-in_default-read_run.ensures (effect_short (stand c.args.reader.now) _ c.in-Some.ensures c.in_default-read_run.ensures)
+    stops c.next_line-in_default-read_run.ensures refl (effect_short (stand c.args.reader.now) _ c.in-Some.ensures c.in_default-read_run.ensures)
 
 pub read_change-requires : goal.read_change-requires
 read_change-requires c =
@@ -29,7 +29,7 @@ read_change-requires c =
 
 pub returns-in_default-read_change : goal.returns-in_default-read_change
 returns-in_default-read_change c =
-    stops c.next_line-in_default-read_change.ensures
+    stops c.next_line-in_default-read_change.ensures refl
     (effect_cut (stand c.args.reader.now) _ c.in-Some.ensures _ _ _ c.in-Some-read_run.ensures c.in_default-read_change.ensures)
 
 pub pass-requires : goal.pass-requires
@@ -55,9 +55,11 @@ returns c =
     (record {
       rest = u.rest;
       tape = u.tape;
+      tape_at = u.tape_at;
       line = u.line;
       count = c.args.reader.now.count + 1 + 2 * c.in-Some.conditions.value + 3;
       barred = u.barred;
     }))
     c.pass.ensures)
+    refl
     (effect_read (stand c.args.reader.now) _ c.in-Some.ensures _ _ _ c.in-Some-read_run.ensures _ _ c.in-Some-read_change.ensures c.args.reader.now.room refl)
