@@ -5,7 +5,7 @@ ghost use Rattle.translation.specs.Translation.{Translates};
 ghost use Rattle.translation.specs.Between.Checks.{AnswersChecks};
 ghost use Rattle.translation.specs.Between.Written.{WritesTask};
 
-use access::front;
+use access::put_all;
 use form::limits::NUMBERS;
 use refusal::Refusal;
 use sheet::limits::Sheet;
@@ -29,7 +29,7 @@ fn write_task(x: &[u32], out: &mut [u32]) -> Result<usize, Refusal>
     if out.len() < words {
         return Err(Refusal::ShortOutput(words));
     }
-    out[..words].copy_from_slice(&sheet[..words]);
+    put_all(out, &sheet[..words]);
     Ok(words)
 }
 

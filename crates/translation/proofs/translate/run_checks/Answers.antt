@@ -3,10 +3,10 @@ use Rattle.translation.proofs.TranslationLaws.{translates_broken, translates_bar
 use Rattle.translation.proofs.translate.run_checks.Goals as goal
 
 pub returns-in-Err : goal.returns-in-Err
-returns-in-Err c = translates_broken _ c.number_room-tape.ensures _ _ _ c.in-Err.ensures
+returns-in-Err c = translates_broken _ c.number_room-tape.ensures _ _ _ c.in-Err.ensures.outcome
 
 pub returns-in-Some : goal.returns-in-Some
-returns-in-Some c = translates_barred _ c.number_room-tape.ensures _ _ _ _ c.in-Ok.ensures _ c.in-Some.is
+returns-in-Some c = translates_barred _ c.number_room-tape.ensures _ _ _ _ c.in-Ok.ensures.outcome _ c.in-Some.is
 
 pub returns-in_default : goal.returns-in_default
-returns-in_default c = translates_task _ c.number_room-tape.ensures _ _ _ _ c.in-Ok.ensures c.in_default.is _ _ c.write_task.ensures
+returns-in_default c = translates_task _ c.number_room-tape.ensures _ _ _ _ c.in-Ok.ensures.outcome c.in_default.is _ _ c.write_task.ensures

@@ -1,9 +1,9 @@
 -- `write_task` meets its contract: a law for each way to a return. Assumes nothing.
-use Rattle.std.proofs.Common.{◌≡◌, ◌∙◌, refl, sym, rules, Err}
+use Rattle.std.proofs.Common.{◌≡◌, ◌∙◌, sym, ap, rules, List, ◌++◌, Err}
 use native.Mathlib.Omega.{arith}
-use Prim.Native.Nat.{ℕ, ◌≤◌}
-use lib.ListN.{length, length-replicate}
-use lib.Seq.{length-take-le}
+use Prim.Native.Nat.{ℕ, ◌+◌, ◌≤◌}
+use lib.ListN.{length, take, drop, length-replicate}
+use lib.Seq.{sets, sets-eq, length-take-le}
 use Rattle.refusal.specs.declared.Refusal.TheVariants as refusal
 use Rattle.sheet.specs.Limits.{limits}
 use Rattle.translation.proofs.TranslationLaws.{writes_unfit, writes_short, words_inside, writes_sheet}
@@ -28,11 +28,16 @@ slice_bounds-sheet-end c =
     words_inside c.args.out.now (rw c.in_ok-words.ensures.ok_part at c.build.ensures)
     (omega (arith, c.build.auto.sheet, length-replicate {A = ℕ} limits.words 0))
 
-pub slice_bounds-copy_from_slice-end-3 : goal.slice_bounds-copy_from_slice-end-3
-slice_bounds-copy_from_slice-end-3 c = sym (length-take-le _ _ (inside c))
+pub slice_bounds-put_all-end : goal.slice_bounds-put_all-end
+slice_bounds-put_all-end c = sym (length-take-le _ _ (inside c))
 
-pub copy_from_slice-requires : goal.copy_from_slice-requires
-copy_from_slice-requires c = length-take-le _ _ c.if-out-words.false ∙ sym (length-take-le _ _ (inside c))
+-- so many words put over the first ones, where there is room
+put_over : (n : ℕ) (words out : List ℕ) → n ≤ length words → n ≤ length out
+    → sets out 0 (take n words) ≡ take n words ++ drop n out
+put_over n words out inside room =
+    let long : length (take n words) ≡ n = length-take-le n words inside in
+    let end : 0 + length (take n words) ≡ n = omega arith in
+    sets-eq (take n words) out 0 (omega arith) ∙ ap (λ k. take n words ++ drop k out) end
 
 pub returns : goal.returns
 returns c =
@@ -40,4 +45,4 @@ returns c =
     words_inside c.args.out.now (rw c.in_ok-words.ensures.ok_part at c.build.ensures)
     (omega (arith, c.build.auto.sheet, length-replicate {A = ℕ} limits.words 0)) in
     writes_sheet _ (rw c.in_ok-words.ensures.ok_part at c.build.ensures) c.build.auto.sheet room c.if-out-words.false _
-    (rw c.copy_from_slice.ensures.after refl)
+    (c.put_all.ensures ∙ put_over _ _ _ room c.if-out-words.false)
