@@ -5,7 +5,8 @@ ghost use Rattle.std.specs.Prelude.{◌≡◌, ◌≤◌, ◌<◌, true, false, 
 ghost use Rattle.sheet.specs.Decode.{fact_of};
 ghost use Rattle.sheet.specs.Between.Effects.{written_in};
 ghost use Rattle.packed_state.specs.Between.Chosen.{most_choices, open_before};
-ghost use Rattle.choice_rows.specs.Between.Rows.{laid, stamped_row, no_choice, choice_of, passed, no_choices, with_choice, with_passed, ChoicesTold};
+ghost use Rattle.choice_rows.specs.Between.Rows.{laid, stamped_row, no_choice, choice_of, passed};
+ghost use Rattle.choice_rows.specs.Between.Rows.{no_choices, with_choice, with_passed, ChoicesTold};
 
 use access::get_or;
 use fact_bits::bits::Behind;

@@ -1,6 +1,7 @@
 -- The choices at the unflagged steps of a plan. Not to be believed: proofs/RowTheorem says what their rows tell. Assumes
 -- nothing.
-use Rattle.std.specs.Prelude.{ℕ, zero, suc, ◌-◌, ◌/◌, ◌%◌, ◌≤◌, ◌<◌, ◌≡◌, true, false, cond, ◌&&◌, List, [], ◌∷◌, ◌++◌, length, get_or, set, take, ltb, eqb}
+use Rattle.std.specs.Prelude.{ℕ, zero, suc, ◌-◌, ◌/◌, ◌%◌, ◌≤◌, ◌<◌, ◌≡◌, true, false, cond, ◌&&◌, ltb, eqb}
+use Rattle.std.specs.Prelude.{List, [], ◌∷◌, ◌++◌, length, get_or, set, take}
 use Rattle.sas.specs.Task.{Fact, Assignment}
 use Rattle.sas.specs.Plan.{written, needed}
 use Rattle.reduction.specs.Reduction.{Reduction}
