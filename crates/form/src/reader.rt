@@ -23,6 +23,7 @@ pub struct Reader<'a> {
 impl<'a> Reader<'a> {
     ghost use Rattle.form.specs.Between.Form.{keyword as due_keyword, name as due_name, Due, times};
     ghost use Rattle.form.specs.Between.Reading.{stand, starting, passed, keeping, noting, Reads, AlwaysReads};
+    ghost use Rattle.form.specs.Between.Reading.{FindsSame, AlwaysFindsSame};
 
     // At the beginning of a text.
     pub fn start(text: &'a [u8], tape: &'a mut [u32]) -> Reader<'a>
@@ -100,7 +101,11 @@ impl<'a> Reader<'a> {
         step: F,
     ) -> Result<(), usize>
         requires { F.IsAlwaysCallable step }
-        ensures { (ds : List Due) → AlwaysReads ds (F.post step) → Reads (times n ds) self.old result self.new }
+        ensures finds { (ds : List Due) → AlwaysFindsSame ds (F.post step)
+            → FindsSame (times n ds) self.old result self.new }
+        // With the tape that was there, where each step keeps it.
+        ensures reads { (ds : List Due) → AlwaysReads ds (F.post step)
+            → Reads (times n ds) self.old result self.new }
     {
         for _ in 0..n {
             step(self)?;

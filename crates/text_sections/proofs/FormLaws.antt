@@ -14,7 +14,7 @@ use Rattle.ascii.proofs.SplitLaws.{split_at, split_in}
 use Rattle.fields.specs.Between.Fields.{lines_of}
 use Rattle.form.specs.declared.reader.Reader.{Reader}
 use Rattle.form.specs.Between.Form.{text_lines, stop, walk, whole, nothing_left, walked, unsupported_line, numbers_of, first_barred, kept_of}
-use Rattle.form.specs.Between.Reading.{outcome, Stand, stand, starting, going_on, found, Reads}
+use Rattle.form.specs.Between.Reading.{outcome, Stand, stand, starting, going_on, found, FindsSame, Reads}
 use Rattle.text_sections.specs.Between.Outcome.{text_outcome, found_in, outcome_of}
 use Rattle.text_sections.specs.declared.text.Numbers.{Numbers}
 use Rattle.std.specs.Result.{IsErrAnd}
@@ -67,20 +67,20 @@ found_long room text long = rw (lt-ltb (2 * room) (length text) long)
 
 -- what a reader that began with the text has found at its end
 module _ (room : ℕ) {text tape : List ℕ} {there : ℕ × ℕ} {r s : Reader} (short : length text ≤ 2 * room) (begins : stand r ≡ starting text tape there) where
-  found_at_end : {result : Result (Unit {0}) ℕ} → Reads text_lines r result s → found result [] (stand s) ≡ found_in room text
+  found_at_end : {result : Result (Unit {0}) ℕ} → FindsSame text_lines r result s → found result [] (stand s) ≡ found_in room text
   unfolding found_in
   found_at_end read =
       read.same [] ∙ ap (λ ds. going_on ds (stand r)) (append-nil text_lines) ∙ ap (going_on text_lines) begins
       ∙ going_start text tape there ∙ rw (le-ltb (2 * room) (length text) short)
 
-  pub found_broken : (result : Result Numbers ℕ) {n : ℕ} → IsErrAnd result (λ m. m ≡ n) → Reads text_lines r (Err n) s → outcome_of result ≡ found_in room text
+  pub found_broken : (result : Result Numbers ℕ) {n : ℕ} → IsErrAnd result (λ m. m ≡ n) → FindsSame text_lines r (Err n) s → outcome_of result ≡ found_in room text
   found_broken result is read = let (m, e, f) = err_from_is_err_and result is in rw (e, f) (found_at_end read)
 
-  module _ (read : Reads text_lines r (Ok tt) s) where
-    -- the tape is the one with which it began
-    pub found_there : s.tape.ref_ptr ≡ there
-    found_there = read.same_tape ∙ ap (λ u. u.tape_at) begins
+  -- the tape is the one with which it began
+  pub found_there : Reads text_lines r (Ok tt) s → s.tape.ref_ptr ≡ there
+  found_there read = read.same_tape ∙ ap (λ u. u.tape_at) begins
 
+  module _ (read : FindsSame text_lines r (Ok tt) s) where
     pub found_over : eqb (length s.rest.now) 0 ≡ false → {n : ℕ} → n ≡ s.line + 1 → Broken n ≡ found_in room text
     found_over more told = ap Broken told ∙ by_rest s.rest.now refl more
       where

@@ -90,6 +90,16 @@ abbrev pub found : Result (Unit {0}) ℕ → List Due → Stand → Outcome
 found (Ok u) ds s = going_on ds s
 found (Err n) ds s = Broken n
 
+-- going on from there finds what going on with these lines found before
+pub record FindsSame (ds : List Due) (r : Reader) (result : Result (Unit {0}) ℕ) (r' : Reader) : Type 0 where
+  pub same : (next : List Due) → found result next (stand r') ≡ going_on (ds ++ next) (stand r)
+
+-- each call of a step finds the same so
+pub record AlwaysFindsSame (ds : List Due)
+    (post : MutBor Reader → Result (Unit {0}) ℕ → MutBor Reader → Type 0) : Type 0 where
+  pub each : (r : MutBor Reader) (result : Result (Unit {0}) ℕ) (r' : MutBor Reader) → post r result r'
+      → FindsSame ds r.now result r'.now
+
 -- reading these lines takes a reader on, with the same tape: going on from there finds what going on with these lines
 -- found before
 pub record Reads (ds : List Due) (r : Reader) (result : Result (Unit {0}) ℕ) (r' : Reader) : Type 0 where
@@ -110,6 +120,10 @@ after_first row x = after_row row (x ∷ [])
 abbrev pub found_row : Row → Result ℕ ℕ → List Due → Stand → Outcome
 found_row row (Ok x) ds s = going_on (after_first row x ++ ds) s
 found_row row (Err n) ds s = Broken n
+
+-- going on from there, by the first number that is told, finds what going on with a line of numbers found before
+pub record FindsSameRow (row : Row) (r : Reader) (result : Result ℕ ℕ) (r' : Reader) : Type 0 where
+  pub same : (next : List Due) → found_row row result next (stand r') ≡ going_on (numbers row ∷ next) (stand r)
 
 -- reading a line of numbers tells its first number
 pub record ReadsRow (row : Row) (r : Reader) (result : Result ℕ ℕ) (r' : Reader) : Type 0 where

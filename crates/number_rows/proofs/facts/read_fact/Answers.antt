@@ -3,18 +3,18 @@ use native.Mathlib.Omega.{arith}
 use mathlib.Core.Path.{refl, ◌∙◌, ap}
 use lib.ListN.{length-set}
 use Rattle.form.specs.Between.Reading.{stand, keeping}
-use Rattle.form.proofs.ReadsLaws.{reads_at}
-use Rattle.form.proofs.StopLaws.{stops}
+use Rattle.form.proofs.ReadsLaws.{reads_on_tape}
+use Rattle.form.proofs.StopLaws.{stops_on_tape}
 use Rattle.number_rows.proofs.RowLaws.{number_ahead, room_at}
 use Rattle.number_rows.proofs.FactRowLaws.{fact_ended, fact_on, fact_kept, fact_passed}
 use Rattle.number_rows.proofs.facts.read_fact.Goals as goal
 
 pub returns-in_default : goal.returns-in_default
-returns-in_default c = stops c.next_line.ensures refl (fact_ended (stand c.args.reader.now) _ c.in_default.ensures)
+returns-in_default c = stops_on_tape c.next_line.ensures refl (fact_ended (stand c.args.reader.now) _ c.in_default.ensures)
 
 pub returns-in_default-read_number : goal.returns-in_default-read_number
 returns-in_default-read_number c =
-    stops c.next_line-in_default-read_number.ensures refl (fact_on (stand c.args.reader.now) _ _ c.in-Some.ensures c.in_default-read_number.ensures)
+    stops_on_tape c.next_line-in_default-read_number.ensures refl (fact_on (stand c.args.reader.now) _ _ c.in-Some.ensures c.in_default-read_number.ensures)
 
 pub pass-requires : goal.pass-requires
 pass-requires c = omega (arith, number_ahead c.in-Some.ensures, number_ahead c.in-Some-read_number.ensures)
@@ -32,11 +32,11 @@ keep-requires-then-keeps c =
 pub returns-then-keeps : goal.returns-then-keeps
 returns-then-keeps c =
     rw c.if-keeps.true (
-    reads_at (c.keep-then-keeps.ensures ∙ ap (keeping _) (c.keep.ensures ∙ ap (keeping _) c.pass.ensures)) refl
+    reads_on_tape (c.keep-then-keeps.ensures ∙ ap (keeping _) (c.keep.ensures ∙ ap (keeping _) c.pass.ensures)) refl
     (fact_kept (stand c.args.reader.now) _ _ c.in-Some.ensures c.in-Some-read_number.ensures
     (omega (arith, number_ahead c.in-Some.ensures, number_ahead c.in-Some-read_number.ensures, c.args.reader.now.room)))
     )
 
 pub returns-else-keeps : goal.returns-else-keeps
 returns-else-keeps c =
-    rw c.if-keeps.false (reads_at c.pass.ensures refl (fact_passed (stand c.args.reader.now) _ _ c.in-Some.ensures c.in-Some-read_number.ensures))
+    rw c.if-keeps.false (reads_on_tape c.pass.ensures refl (fact_passed (stand c.args.reader.now) _ _ c.in-Some.ensures c.in-Some-read_number.ensures))

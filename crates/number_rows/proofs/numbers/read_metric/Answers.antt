@@ -2,16 +2,16 @@
 use native.Mathlib.Omega.{arith}
 use mathlib.Core.Path.{refl, ◌∙◌, ap}
 use Rattle.form.specs.Between.Reading.{stand, keeping}
-use Rattle.form.proofs.ReadsLaws.{reads_at}
-use Rattle.form.proofs.StopLaws.{stops}
+use Rattle.form.proofs.ReadsLaws.{reads_on_tape}
+use Rattle.form.proofs.StopLaws.{stops_on_tape}
 use Rattle.number_rows.proofs.RowLaws.{number_ahead, room_at, metric_lacks, metric_high, metric_read}
 use Rattle.number_rows.proofs.numbers.read_metric.Goals as goal
 
 pub returns-in_default : goal.returns-in_default
-returns-in_default c = stops c.next_line.ensures refl (metric_lacks (stand c.args.reader.now) c.in_default.ensures)
+returns-in_default c = stops_on_tape c.next_line.ensures refl (metric_lacks (stand c.args.reader.now) c.in_default.ensures)
 
 pub returns-then-metric-gt1 : goal.returns-then-metric-gt1
-returns-then-metric-gt1 c = stops c.next_line-then-metric-gt1.ensures refl (metric_high (stand c.args.reader.now) _ c.in-Some.ensures c.if-metric-gt1.true)
+returns-then-metric-gt1 c = stops_on_tape c.next_line-then-metric-gt1.ensures refl (metric_high (stand c.args.reader.now) _ c.in-Some.ensures c.if-metric-gt1.true)
 
 pub pass-requires : goal.pass-requires
 pass-requires c = omega (arith, number_ahead c.in-Some.ensures)
@@ -21,5 +21,5 @@ keep-requires c = room_at c.pass.new.self _ c.pass.ensures (omega (arith, number
 
 pub returns : goal.returns
 returns c =
-    reads_at (c.keep.ensures ∙ ap (keeping _) c.pass.ensures) refl
+    reads_on_tape (c.keep.ensures ∙ ap (keeping _) c.pass.ensures) refl
     (metric_read (stand c.args.reader.now) _ c.in-Some.ensures c.if-metric-gt1.false (omega (arith, number_ahead c.in-Some.ensures, c.args.reader.now.room)))

@@ -2,13 +2,13 @@
 use native.Mathlib.Omega.{arith}
 use mathlib.Core.Path.{refl, ◌∙◌, ap}
 use Rattle.form.specs.Between.Reading.{stand, keeping}
-use Rattle.form.proofs.ReadsLaws.{row_at}
-use Rattle.form.proofs.StopLaws.{stops_row}
+use Rattle.form.proofs.ReadsLaws.{row_on_tape}
+use Rattle.form.proofs.StopLaws.{stops_row_on_tape}
 use Rattle.number_rows.proofs.RowLaws.{number_ahead, room_at, plain_lacks, plain_kept, plain_passed}
 use Rattle.number_rows.proofs.numbers.read_plain.Goals as goal
 
 pub returns-in_default : goal.returns-in_default
-returns-in_default c = λ row plain_row. stops_row c.next_line.ensures refl (plain_lacks (stand c.args.reader.now) c.in_default.ensures _ row plain_row)
+returns-in_default c = λ row plain_row. stops_row_on_tape c.next_line.ensures refl (plain_lacks (stand c.args.reader.now) c.in_default.ensures _ row plain_row)
 
 pub pass-requires : goal.pass-requires
 pass-requires c = omega (arith, number_ahead c.in-Some.ensures)
@@ -20,10 +20,10 @@ pub returns-then-keeps : goal.returns-then-keeps
 returns-then-keeps c =
     rw c.if-keeps.true (
     λ row plain_row.
-    row_at (c.keep.ensures ∙ ap (keeping _) c.pass.ensures) refl
+    row_on_tape (c.keep.ensures ∙ ap (keeping _) c.pass.ensures) refl
     (plain_kept (stand c.args.reader.now) _ row c.in-Some.ensures plain_row (omega (arith, number_ahead c.in-Some.ensures, c.args.reader.now.room)))
     )
 
 pub returns-else-keeps : goal.returns-else-keeps
 returns-else-keeps c =
-    rw c.if-keeps.false (λ row plain_row. row_at c.pass.ensures refl (plain_passed (stand c.args.reader.now) _ row c.in-Some.ensures plain_row))
+    rw c.if-keeps.false (λ row plain_row. row_on_tape c.pass.ensures refl (plain_passed (stand c.args.reader.now) _ row c.in-Some.ensures plain_row))

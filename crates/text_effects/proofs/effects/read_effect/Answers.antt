@@ -5,14 +5,14 @@ use mathlib.Core.Path.{refl, ◌∙◌, ap}
 use lib.ListN.{length, length-set}
 use lib.Dec.{ltb}
 use Rattle.form.specs.Between.Reading.{stand, noting}
-use Rattle.form.proofs.ReadsLaws.{reads_at}
-use Rattle.form.proofs.StopLaws.{stops}
+use Rattle.form.proofs.ReadsLaws.{reads_on_tape}
+use Rattle.form.proofs.StopLaws.{stops_on_tape}
 use Rattle.number_rows.proofs.RowLaws.{number_ahead}
 use Rattle.text_effects.proofs.EffectLaws.{effect_ended, effect_short, effect_cut, effect_ahead, effect_read}
 use Rattle.text_effects.proofs.effects.read_effect.Goals as goal
 
 pub returns-in_default : goal.returns-in_default
-returns-in_default c = stops c.next_line.ensures refl (effect_ended (stand c.args.reader.now) c.in_default.ensures)
+returns-in_default c = stops_on_tape c.next_line.ensures refl (effect_ended (stand c.args.reader.now) c.in_default.ensures)
 
 pub read_run-requires : goal.read_run-requires
 read_run-requires c =
@@ -20,7 +20,7 @@ read_run-requires c =
 
 pub returns-in_default-read_run : goal.returns-in_default-read_run
 returns-in_default-read_run c =
-    stops c.next_line-in_default-read_run.ensures refl (effect_short (stand c.args.reader.now) _ c.in-Some.ensures c.in_default-read_run.ensures)
+    stops_on_tape c.next_line-in_default-read_run.ensures refl (effect_short (stand c.args.reader.now) _ c.in-Some.ensures c.in_default-read_run.ensures)
 
 pub read_change-requires : goal.read_change-requires
 read_change-requires c =
@@ -29,7 +29,7 @@ read_change-requires c =
 
 pub returns-in_default-read_change : goal.returns-in_default-read_change
 returns-in_default-read_change c =
-    stops c.next_line-in_default-read_change.ensures refl
+    stops_on_tape c.next_line-in_default-read_change.ensures refl
     (effect_cut (stand c.args.reader.now) _ c.in-Some.ensures _ _ _ c.in-Some-read_run.ensures c.in_default-read_change.ensures)
 
 pub pass-requires : goal.pass-requires
@@ -47,7 +47,7 @@ invariant_of-reader-4 c =
 
 pub returns : goal.returns
 returns c =
-    reads_at
+    reads_on_tape
     (c.note.ensures
     ∙ ap
     (λ u.

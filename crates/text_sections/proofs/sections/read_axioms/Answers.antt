@@ -8,4 +8,4 @@ pub returns-in_err-n : goal.returns-in_err-n
 returns-in_err-n c = passed_on c.from_residual.ensures.1 (row_stopped c.in_err-n.ensures)
 
 pub returns : goal.returns
-returns c = row_counted c.in_ok-n.ensures (axioms_follow _) (c.repeat.ensures _ (record { each = λ r result s met. search rules }))
+returns c = row_counted c.in_ok-n.ensures (axioms_follow _) (c.repeat.ensures.reads _ (record { each = λ r result s met. search rules }))

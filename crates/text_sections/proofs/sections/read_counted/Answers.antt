@@ -6,4 +6,4 @@ pub returns-in_err-n : goal.returns-in_err-n
 returns-in_err-n g c = λ what ds counted always. passed_on c.from_residual.ensures.1 (row_stopped (c.in_err-n.ensures _ counted.plain_count))
 
 pub returns : goal.returns
-returns g c = λ what ds counted always. row_counted (c.in_ok-n.ensures _ counted.plain_count) (counted.lines _) (c.repeat.ensures ds always)
+returns g c = λ what ds counted always. row_counted (c.in_ok-n.ensures _ counted.plain_count) (counted.lines _) (c.repeat.ensures.reads ds always)

@@ -7,13 +7,13 @@ use Rattle.text_sections.proofs.sections.read_rest.Goals as goal
 pub returns-in_err-repeat : goal.returns-in_err-repeat
 returns-in_err-repeat c =
     passed_on c.from_residual.ensures.1 (
-    reads_stopped _ (c.in_err-repeat.ensures _ (record { each = λ r result s met. search rules }))
+    reads_stopped _ (c.in_err-repeat.ensures.reads _ (record { each = λ r result s met. search rules }))
     )
 
 pub returns-in_err-read_counted : goal.returns-in_err-read_counted
 returns-in_err-read_counted c =
     passed_on c.from_residual-in_err-read_counted.ensures.1 (
-    reads_then (c.in_ok-repeat.ensures _ (record { each = λ r result s met. search rules })) (
+    reads_then (c.in_ok-repeat.ensures.reads _ (record { each = λ r result s met. search rules })) (
     line_stopped (c.in_err-read_counted.ensures _ _ counted_groups (record { each = λ r result s met. search rules }))
     )
     )
@@ -21,7 +21,7 @@ returns-in_err-read_counted c =
 pub returns-in_err-read_state : goal.returns-in_err-read_state
 returns-in_err-read_state c =
     passed_on c.from_residual-in_err-read_state.ensures.1 (
-    reads_then (c.in_ok-repeat.ensures _ (record { each = λ r result s met. search rules })) (
+    reads_then (c.in_ok-repeat.ensures.reads _ (record { each = λ r result s met. search rules })) (
     line_then (c.in_ok-read_counted.ensures _ _ counted_groups (record { each = λ r result s met. search rules })) (
     reads_stopped _ c.in_err-read_state.ensures
     )
@@ -31,7 +31,7 @@ returns-in_err-read_state c =
 pub returns-in_err-read_goal : goal.returns-in_err-read_goal
 returns-in_err-read_goal c =
     passed_on c.from_residual-in_err-read_goal.ensures.1 (
-    reads_then (c.in_ok-repeat.ensures _ (record { each = λ r result s met. search rules })) (
+    reads_then (c.in_ok-repeat.ensures.reads _ (record { each = λ r result s met. search rules })) (
     line_then (c.in_ok-read_counted.ensures _ _ counted_groups (record { each = λ r result s met. search rules })) (
     reads_then c.in_ok-read_state.ensures (
     reads_stopped _ c.in_err-read_goal.ensures
@@ -43,7 +43,7 @@ returns-in_err-read_goal c =
 pub returns-in_err-read_counted-2 : goal.returns-in_err-read_counted-2
 returns-in_err-read_counted-2 c =
     passed_on c.from_residual-in_err-read_counted-2.ensures.1 (
-    reads_then (c.in_ok-repeat.ensures _ (record { each = λ r result s met. search rules })) (
+    reads_then (c.in_ok-repeat.ensures.reads _ (record { each = λ r result s met. search rules })) (
     line_then (c.in_ok-read_counted.ensures _ _ counted_groups (record { each = λ r result s met. search rules })) (
     reads_then c.in_ok-read_state.ensures (
     reads_then c.in_ok-read_goal.ensures (
@@ -56,7 +56,7 @@ returns-in_err-read_counted-2 c =
 
 pub returns : goal.returns
 returns c =
-    reads_then (c.in_ok-repeat.ensures _ (record { each = λ r result s met. search rules })) (
+    reads_then (c.in_ok-repeat.ensures.reads _ (record { each = λ r result s met. search rules })) (
     line_then (c.in_ok-read_counted.ensures _ _ counted_groups (record { each = λ r result s met. search rules })) (
     reads_then c.in_ok-read_state.ensures (
     reads_then c.in_ok-read_goal.ensures (

@@ -13,14 +13,14 @@ pub returns-in_err-repeat : goal.returns-in_err-repeat
 returns-in_err-repeat c =
     passed_on c.from_residual-in_err-repeat.ensures.1 (
     line_then c.in_ok-keyword.ensures (
-    reads_stopped _ (c.in_err-repeat.ensures _ (record { each = λ r result s met. search rules }))
+    reads_stopped _ (c.in_err-repeat.ensures.reads _ (record { each = λ r result s met. search rules }))
     )
     )
 
 pub returns : goal.returns
 returns c =
     line_then c.in_ok-keyword.ensures (
-    reads_then (c.in_ok-repeat.ensures _ (record { each = λ r result s met. search rules })) (
+    reads_then (c.in_ok-repeat.ensures.reads _ (record { each = λ r result s met. search rules })) (
     c.keyword-2.ensures
     )
     )
