@@ -3,9 +3,9 @@
 use Prim.Native.Nat.{ℕ, suc, ◌+◌, ◌-◌, ◌<◌}
 use native.Mathlib.Numerals.{add-one}
 use native.Mathlib.Omega.{arith}
-use mathlib.Core.Path.{◌≡◌, refl, sym}
+use mathlib.Core.Path.{◌≡◌, refl, sym, ◌∙◌}
 use mathlib.Core.Bool.{Bool, true, false}
-use mathlib.Core.List.{List}
+use mathlib.Core.List.{List, [], ◌∷◌, ◌++◌}
 use lib.ListN.{length, get_or}
 use lib.Seq.{set_out}
 use lib.Dec.{ltb, eqb}
@@ -58,7 +58,7 @@ module _ (w l : List ℕ) (flags : Reduction) (behind : List Behind) where
 
   module _ (cs : PlanChoices) (i : ℕ) (so_far : Choosing w l flags behind cs i) where
     -- there is one choice for each unflagged step
-    steps_counted : length cs.steps ≡ open_before flags i
+    pub steps_counted : length cs.steps ≡ open_before flags i
     steps_counted = rw so_far.filled (choices_long w l flags behind i)
 
     -- a flagged step is written behind the last choice, or in front of the first
@@ -82,15 +82,19 @@ module _ (w l : List ℕ) (flags : Reduction) (behind : List Behind) where
             }
 
     module _ (down : get_or flags i false ≡ false) where
-      -- an unflagged one has its own, where there is room
+      -- an unflagged one has its own
+      pub choice_more : (after : PlanChoices)
+          → after ≡ record { start = cs.start; steps = cs.steps ++ choice_of w (get_or l i 0) (get_or behind i no_bits) ∷ [] }
+          → Choosing w l flags behind after (i + 1)
+      unfolding start_before choices_before
+      choice_more after adds =
+          record { started = rw (add-one, down, adds) so_far.started; filled = rw (add-one, down, adds, ← so_far.filled) }
+
+      -- which is added where there is room
       pub unflagged_more : ltb (length cs.steps) most_choices ≡ true → (after : PlanChoices)
           → after ≡ with_choice cs (choice_of w (get_or l i 0) (get_or behind i no_bits)) → Choosing w l flags behind after (i + 1)
-      unfolding start_before choices_before with_choice
-      unflagged_more room after adds =
-          record {
-            started = rw (add-one, down, adds, room) so_far.started;
-            filled = rw (add-one, down, adds, room, ← so_far.filled);
-          }
+      unfolding with_choice
+      unflagged_more room after adds = choice_more after (adds ∙ rw room)
 
       -- where there is none there are too many
       pub too_many : ltb (length cs.steps) most_choices ≡ false → i < length l → most_choices < open_before flags (length l)
