@@ -5,7 +5,7 @@ ghost use Rattle.ascii.specs.Bytes.{ends_line};
 ghost use Rattle.fields.specs.Between.Fields.{class_of};
 
 #[derive(Clone, Copy, PartialEq, Eq)]
-pub(crate) enum Class {
+pub enum Class {
     Digit,
     Minus,
     Space,

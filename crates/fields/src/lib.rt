@@ -3,7 +3,7 @@
 // word of a line of numbers.
 #![tactic(auto)]
 
-mod class;
+pub mod class;
 pub mod limits;
 pub mod lines;
 pub mod word;
