@@ -4,6 +4,7 @@ ghost use Rattle.std.specs.Prelude.{◌≡◌};
 ghost use Rattle.ascii.specs.Bytes.{ends_line};
 ghost use Rattle.fields.specs.Between.Fields.{class_of};
 
+// Public, since `class_of`, the definition that tells it, is.
 #[derive(Clone, Copy, PartialEq, Eq)]
 pub enum Class {
     Digit,
